@@ -1,0 +1,11 @@
+-- Values and their kinds.
+use Rattle.flux_values.specs.declared.values.Kind.{Kind}
+use Rattle.flux_values.specs.declared.values.Kind.TheVariants as kinds
+use Rattle.flux_values.specs.declared.values.Value.{Value}
+use Rattle.flux_values.specs.declared.values.Value.TheVariants.{Int, Bool, Text}
+
+-- the kind of a value
+abbrev pub kind_of : Value → Kind
+kind_of (Int number) = kinds.Int
+kind_of (Bool truth) = kinds.Bool
+kind_of (Text bytes) = kinds.Text

@@ -1,0 +1,35 @@
+//! What a node answers, and what it may do with a cell.
+
+use crate::lists::List;
+use crate::texts::{Bytes, TextBytes};
+use crate::values::Value;
+
+/// How a constraint is held.
+#[derive(Clone, Copy, Debug, PartialEq, Eq)]
+pub enum Mode {
+    Reader,
+    Writer,
+}
+
+/// How a call ended: with values, or with a code from 1 to 255.
+#[derive(Debug, Drop)]
+pub enum CallResult {
+    Good(List<Value>),
+    Bad(u16),
+}
+
+/// A change of a cell: it sets a name, or removes it where there is no value.
+#[derive(Debug, Drop)]
+pub struct Put {
+    pub cell: TextBytes,
+    pub name: TextBytes,
+    pub value: Option<Value>,
+}
+
+/// All that a call of a node answers.
+#[derive(Debug, Drop)]
+pub struct Answer {
+    pub result: CallResult,
+    pub puts: List<Put>,
+    pub emits: Bytes,
+}

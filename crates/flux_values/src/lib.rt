@@ -1,0 +1,22 @@
+//! Values, texts and lists: what flows carry and what nodes answer.
+//!
+//! Contracts see a `List` as a list, a `TextBytes` and a `Bytes` as a list of bytes, and a `Cell` as a finite
+//! map from text to value. A value has one printed spelling, and `read_value` reads it back with its length.
+//! Whatever takes memory says so by `Memory`, or by handing the item back, and changes nothing then.
+#![tactic(auto)]
+
+mod answers;
+mod failures;
+mod lists;
+mod printing;
+mod reading;
+mod texts;
+mod values;
+
+pub use answers::{Answer, CallResult, Mode, Put};
+pub use failures::{Memory, TextFault, ValueFault};
+pub use lists::List;
+pub use printing::{append_number, append_text, append_value, print_value};
+pub use reading::read_value;
+pub use texts::{Bytes, TextBytes};
+pub use values::{Kind, Value};

@@ -1,0 +1,112 @@
+//! Bytes, and texts of at most 65,536 bytes.
+
+ghost use Rattle.std.specs.Prelude.{◌≡◌, ◌≤◌, ◌<◌, ◌++◌, [], length, IfOk, OnOk, OnErr, IsErrOf, ◌↔◌};
+
+use crate::failures::{Memory, TextFault};
+use std::alloc::Global;
+use std::marker::Model;
+
+/// The greatest length of a text, in bytes.
+pub const TEXT_LIMIT: usize = 65_536;
+
+/// A text: at most 65,536 bytes, of any encoding.
+#[derive(Debug, Drop)]
+pub struct TextBytes {
+    bytes: Vec<u8>,
+}
+
+impl Model for TextBytes {
+    ghost use Rattle.std.specs.Prelude.{List, ℕ, ◌≤◌, length};
+
+    ghost Value = { List ℕ };
+
+    ghost view = { λ t. t.bytes.items };
+
+    ghost invariant = { λ t. length t.bytes.items ≤ 65536 };
+}
+
+impl TextBytes {
+    pub fn copy(alloc: Global, bytes: &[u8]) -> Result<TextBytes, TextFault>
+        ensures same { IfOk result (λ text. text ≡ bytes.now) }
+        ensures too_long { IsErrOf result TextFault.TooLong ↔ (65536 < length bytes.now) }
+    {
+        if bytes.len() > TEXT_LIMIT {
+            return Err(TextFault::TooLong);
+        }
+        match Vec::from_slice(alloc, bytes) {
+            Ok(bytes) => Ok(TextBytes { bytes }),
+            Err(_) => Err(TextFault::Memory),
+        }
+    }
+
+    pub fn as_bytes(&self) -> &[u8]
+        ensures same { result.now ≡ self.now }
+        ensures limit { length self.now ≤ 65536 }
+    {
+        self.bytes.as_slice()
+    }
+
+    /// Makes a text of what is at hand, and takes no memory.
+    pub fn from_vec(bytes: Vec<u8>) -> TextBytes
+        requires { length bytes.items ≤ 65536 }
+        ensures { result ≡ bytes.items }
+    {
+        TextBytes { bytes }
+    }
+
+    /// The same text once more.
+    pub fn again(&self, alloc: Global) -> Result<TextBytes, Memory>
+        ensures { IfOk result (λ copied. copied ≡ self.now) }
+    {
+        Ok(TextBytes {
+            bytes: Vec::from_slice(alloc, &self.bytes)?,
+        })
+    }
+}
+
+/// Bytes of any length.
+#[derive(Debug, Drop)]
+pub struct Bytes {
+    bytes: Vec<u8>,
+}
+
+impl Model for Bytes {
+    ghost use Rattle.std.specs.Prelude.{List, ℕ};
+
+    ghost Value = { List ℕ };
+
+    ghost view = { λ b. b.bytes.items };
+}
+
+impl Bytes {
+    /// No bytes, which take no memory yet.
+    pub fn new(alloc: Global) -> Bytes
+        ensures { result ≡ [] }
+    {
+        Bytes {
+            bytes: Vec::new(alloc),
+        }
+    }
+
+    /// Adds bytes at the end.
+    pub fn append(&mut self, bytes: &[u8]) -> Result<(), Memory>
+        ensures added { OnOk result (self.new ≡ self.old ++ bytes.now) }
+        ensures unchanged { OnErr result (self.new ≡ self.old) }
+    {
+        Ok(self.bytes.extend_from_slice(bytes)?)
+    }
+
+    pub fn copy(alloc: Global, bytes: &[u8]) -> Result<Bytes, Memory>
+        ensures { IfOk result (λ copied. copied ≡ bytes.now) }
+    {
+        Ok(Bytes {
+            bytes: Vec::from_slice(alloc, bytes)?,
+        })
+    }
+
+    pub fn as_bytes(&self) -> &[u8]
+        ensures { result.now ≡ self.now }
+    {
+        self.bytes.as_slice()
+    }
+}

@@ -1,0 +1,45 @@
+//! The values that flows carry.
+
+ghost use Rattle.std.specs.Prelude.{◌≡◌, IfOk};
+ghost use Rattle.flux_values.specs.Values.{kind_of};
+
+use crate::failures::Memory;
+use crate::texts::{TextBytes};
+use std::alloc::Global;
+
+/// What kind of value stands in a place.
+#[derive(Clone, Copy, Debug, PartialEq, Eq)]
+pub enum Kind {
+    Int,
+    Bool,
+    Text,
+}
+
+#[derive(Debug, Drop)]
+pub enum Value {
+    Int(i64),
+    Bool(bool),
+    Text(TextBytes),
+}
+
+impl Value {
+    pub fn kind(&self) -> Kind
+        ensures { result ≡ kind_of self.now }
+    {
+        match self {
+            Value::Int(_) => Kind::Int,
+            Value::Bool(_) => Kind::Bool,
+            Value::Text(_) => Kind::Text,
+        }
+    }
+
+    pub fn copy(&self, alloc: Global) -> Result<Value, Memory>
+        ensures { IfOk result (λ copied. copied ≡ self.now) }
+    {
+        match self {
+            Value::Int(number) => Ok(Value::Int(*number)),
+            Value::Bool(truth) => Ok(Value::Bool(*truth)),
+            Value::Text(text) => Ok(Value::Text(text.again(alloc)?)),
+        }
+    }
+}
