@@ -1,12 +1,12 @@
 -- Reading a text's body: what is printed is read back.
-use Rattle.std.proofs.Common.{◌≡◌, ℕ, suc, ◌+◌, ◌-◌, ◌*◌, ◌/◌, ◌%◌, ◌<◌, ◌≤◌, Bool, true, false, cond, eqb, leb, ◌&&◌, List, [], ◌∷◌, ◌++◌, length, take, drop, Option, Some, None, refl, sym, ap, ◌∙◌, subst, arith, append_assoc}
+use Rattle.std.proofs.Common.{◌≡◌, ℕ, ◌+◌, ◌*◌, ◌/◌, ◌%◌, ◌<◌, ◌≤◌, eqb, leb, ◌&&◌, List, [], ◌∷◌, ◌++◌, length, Option, Some, refl, ap, ◌∙◌, arith, append_assoc}
 use Rattle.std.specs.List.{flat_map, AllByRecursion}
 use Rattle.std.proofs.lemmas.List.{length-append, append-nil}
 use Rattle.std.specs.Option.{option_map_or}
 use Rattle.std.proofs.lemmas.Bool.{cond_both, eqb-true}
 use Rattle.std.proofs.lemmas.Bool.Decides.{nat_tests}
 use Rattle.flux_values.specs.declared.reading.Place.{Place}
-use Rattle.flux_values.specs.declared.reading.Place.TheVariants.{Plain, Escape, High, Low}
+use Rattle.flux_values.specs.declared.reading.Place.TheVariants.{Plain}
 use Rattle.flux_values.specs.declared.reading.Move.{Move}
 use Rattle.flux_values.specs.declared.reading.Move.TheVariants.{Put, Go, Close, Bad}
 use Rattle.flux_values.specs.Texts.{hex_digit, printed_byte}
@@ -38,8 +38,8 @@ byte_again b rest out lt =
     cond_both (eqb b 13) _ _ P (λ e. rw (eqb-true b 13 e) refl) (λ n13.
     cond_both (eqb b 9) _ _ P (λ e. rw (eqb-true b 9 e) refl) (λ n9.
     cond_both (leb 32 b && leb b 126) _ _ P (λ e. rw (n34, n92) refl) (λ e.
-        let sum : 16 * (b / 16) + b % 16 ≡ b = omega arith in
-        rw (hex_again (b / 16) (omega arith), hex_again (b % 16) (omega arith), sum) refl))))))
+    let sum : 16 * (b / 16) + b % 16 ≡ b = omega arith in
+    rw (hex_again (b / 16) (omega arith), hex_again (b % 16) (omega arith), sum) refl))))))
 
 -- a text's spelling and its closing quote are read back, whatever follows
 pub body_again : (text rest out : List ℕ) → AllByRecursion (λ b. b < 256) text → body_of (flat_map printed_byte text ++ 34 ∷ rest) Plain out ≡ Some (out ++ text, rest)

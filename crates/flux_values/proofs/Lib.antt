@@ -1,3 +1,5 @@
 pub mod Numbers
 pub mod Bodies
 pub mod Loose
+pub mod Sorted
+pub mod CellLemmas

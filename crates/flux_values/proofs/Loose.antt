@@ -1,6 +1,5 @@
 -- A value is told by the first byte of its spelling, and is read by what that byte begins.
-use Rattle.std.proofs.Common.{◌≡◌, ℕ, zero, suc, ◌+◌, ◌-◌, ◌<◌, ◌≤◌, ◌^◌, Bool, true, false, List, [], ◌∷◌, ◌++◌, length, take, drop, Option, Some, None, Result, Ok, Err, refl, sym, ap, ◌∙◌, subst, arith, inl, inr, ◌⊎◌, eqb, ℤ, pos, negsuc, FitsSigned, append_assoc, All, codes}
-use Rattle.std.specs.Prelude.{map}
+use Rattle.std.proofs.Common.{◌≡◌, ℕ, suc, ◌+◌, ◌-◌, ◌<◌, ◌≤◌, Bool, true, false, List, [], ◌∷◌, ◌++◌, length, take, drop, Option, Some, Ok, Err, refl, sym, ap, ◌∙◌, subst, arith, inl, inr, ◌⊎◌, eqb, ℤ, pos, negsuc, FitsSigned, append_assoc, All, codes}
 use Rattle.std.specs.Int.{w64}
 use Rattle.std.specs.List.{flat_map, starts_with}
 use Rattle.std.specs.Option.{unwrap_or}
@@ -110,9 +109,10 @@ number_left bytes P no_quote no_true no_false number (values.Text known) begins 
 -- what was read, and is spelled as printed, is the value at the front
 pub loose_same : (bytes : List ℕ) (value : Value) (n : ℕ) → IsLooseRead (Ok (value, n)) bytes → take n bytes ≡ printed_value value → IsRead (Ok (value, n)) bytes
 loose_same bytes value n loose is = (
-    record { is_value = loose.1; rest = drop n bytes; spelled = sym (take-append-drop n bytes) ∙ ap (λ (s : List ℕ). s ++ drop n bytes) is; ends = loose.2 },
-    sym (length-take-le n bytes loose.0) ∙ ap length is,
-    loose.0)
+  record { is_value = loose.1; rest = drop n bytes; spelled = sym (take-append-drop n bytes) ∙ ap (λ (s : List ℕ). s ++ drop n bytes) is; ends = loose.2 },
+  sym (length-take-le n bytes loose.0) ∙ ap length is,
+  loose.0,
+)
 
 -- where it is spelled otherwise, no printed spelling is at the front
 pub loose_other : (bytes : List ℕ) (value : Value) (n : ℕ) → (take n bytes ≡ printed_value value → ⊥) → ((v : Value) → BeginsWith v bytes → ReadsBack (Ok (value, n)) v) → BeginsNone bytes

@@ -6,6 +6,7 @@
 #![tactic(auto)]
 
 mod answers;
+mod cells;
 mod failures;
 mod lists;
 mod printing;
@@ -14,6 +15,7 @@ mod texts;
 mod values;
 
 pub use answers::{Answer, CallResult, Mode, Put};
+pub use cells::Cell;
 pub use failures::{Memory, TextFault, ValueFault};
 pub use lists::List;
 pub use printing::{append_number, append_text, append_value, print_value};

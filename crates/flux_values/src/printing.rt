@@ -68,5 +68,9 @@ fn hex(digit: u8) -> u8
     requires { digit < 16 }
     ensures { result ≡ hex_digit digit }
 {
-    if digit < 10 { b'0' + digit } else { b'a' + (digit - 10) }
+    if digit < 10 {
+        b'0' + digit
+    } else {
+        b'a' + (digit - 10)
+    }
 }

@@ -4,7 +4,7 @@ ghost use Rattle.std.specs.Prelude.{◌≡◌, IfOk};
 ghost use Rattle.flux_values.specs.Values.{kind_of};
 
 use crate::failures::Memory;
-use crate::texts::{TextBytes};
+use crate::texts::TextBytes;
 use std::alloc::Global;
 
 /// What kind of value stands in a place.

@@ -1,4 +1,4 @@
-use Rattle.std.proofs.Common.{◌∷◌, ◌++◌, ◌+◌, [], drop, sym, ap, ◌∙◌, ◌≡◌, arith}
+use Rattle.std.proofs.Common.{◌∷◌, ◌++◌, ◌+◌, [], drop, sym, ap, ◌∙◌, arith}
 use Rattle.std.proofs.lemmas.List.{drop_more, length-append}
 use Rattle.flux_values.specs.declared.reading.Place.TheVariants.{Plain}
 use Rattle.flux_values.specs.Reading.{body_of, after_step}

@@ -1,8 +1,8 @@
-use Rattle.std.proofs.Common.{◌∷◌, ◌≡◌, drop, length, codes, arith, sym, ap, subst, ◌∙◌}
+use Rattle.std.proofs.Common.{drop, codes, arith, subst}
 use Rattle.std.proofs.lemmas.Result.{err_from_is_err_and}
 use Rattle.std.proofs.lemmas.List.{take_rest, length-drop}
 use Rattle.flux_values.specs.Reading.{BeginsWith}
-use Rattle.flux_values.proofs.Loose.{body_back, body_faulty, front_is, front_isnt, true_back, false_back, number_left}
+use Rattle.flux_values.proofs.Loose.{body_back, body_faulty, front_is, true_back, false_back}
 use Rattle.flux_values.proofs.reading.read_loosely.Goals as goal
 
 pub returns-in_err-text-clause-again : goal.returns-in_err-text-clause-again

@@ -1,0 +1,16 @@
+//! Programs, items and journals as data, and the definitions that promises speak in.
+//!
+//! `specs/` says what a text's program is, how a flow walks through it, what a journal's flows have done and do
+//! next, and how values, items and journals are printed. Each definition is apart from the code that meets it.
+#![tactic(auto)]
+
+mod journals;
+mod programs;
+mod signatures;
+
+pub use flux_values::{Answer, CallResult, Cell, Mode, Put};
+pub use journals::{CallMade, Entry, Event, FlowNo, Item, Journal, Key, Outcome};
+pub use programs::{
+    Body, Case, Class, ClassNo, Hold, Node, NodeNo, Program, SourceLine, SourceNo,
+};
+pub use signatures::{NodeSig, Sigs, TypeText};

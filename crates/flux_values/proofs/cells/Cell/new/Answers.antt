@@ -1,0 +1,5 @@
+use Rattle.flux_values.proofs.CellLemmas.{no_entries}
+use Rattle.flux_values.proofs.cells.Cell.new.Goals as goal
+
+pub returns : goal.returns
+returns c = no_entries c.new.result.items c.new.ensures.items

@@ -1,0 +1,153 @@
+//! Cells: what a session or the whole program remembers, by name.
+
+ghost use Rattle.std.specs.Prelude.{◌≡◌, ◌↔◌, ◌<◌, ◌≤◌, IfOk, OnOk, OnErr, IsNone, IfSome, Some, None, option_copied, length, slice_get, map as mapped};
+ghost use Rattle.std.specs.Ordering.{nat_cmp};
+ghost use Rattle.std.specs.Cmp.Lexicographic.{slice_cmp};
+ghost use Rattle.std.specs.FinMap as map;
+ghost use Rattle.flux_values.specs.Cells.{changed, edited, AreInOrder, IsPlaceOf};
+
+use crate::failures::Memory;
+use crate::texts::TextBytes;
+use crate::values::Value;
+use std::alloc::Global;
+use std::cmp::Ordering;
+use std::marker::Model;
+
+/// A finite map from text to value. Its names stand in bytewise order.
+#[derive(Debug, Drop)]
+pub struct Cell {
+    entries: Vec<(TextBytes, Value)>,
+}
+
+impl Model for Cell {
+    ghost use Rattle.flux_values.specs.Cells.{CellMap, AreInOrder};
+    ghost use Rattle.std.specs.FinMap as map;
+    ghost use Rattle.std.specs.Coded.{coded_list, coded_ℕ};
+    ghost use Rattle.flux_values.specs.contracts.values.Value as value;
+
+    ghost Value = { CellMap };
+
+    ghost coded = { map.code (coded_list coded_ℕ) value.the_row.coded };
+
+    ghost view = { λ c. map.from_sorted c.entries.items };
+
+    ghost invariant = { λ c. AreInOrder c.entries.items };
+}
+
+impl Cell {
+    /// The empty cell, which takes no memory yet.
+    pub fn new(alloc: Global) -> Cell
+        ensures { result ≡ map.empty }
+    {
+        Cell {
+            entries: Vec::new(alloc),
+        }
+    }
+}
+
+impl Cell {
+    /// The value under a name.
+    pub fn get(&self, name: &[u8]) -> Option<&Value>
+        ensures { option_copied result ≡ map.get self.now name.now }
+    {
+        match find_place(&self.entries, name) {
+            Ok(place) => Some(&self.entries[place].1),
+            Err(_) => None,
+        }
+    }
+
+    /// The name at a place, from 0, in bytewise order.
+    pub fn name_at(&self, place: usize) -> Option<&TextBytes>
+        ensures { option_copied result ≡ slice_get (map.keys self.now) place }
+    {
+        match self.entries.get(place) {
+            Some((name, _)) => Some(name),
+            None => None,
+        }
+    }
+
+    /// Sets the value under a name, or removes the name where there is no value.
+    pub fn put(&mut self, name: TextBytes, value: Option<Value>) -> Result<(), Memory>
+        ensures ok { OnOk result (self.new ≡ changed self.old name value) }
+        ensures err { OnErr result (self.new ≡ self.old) }
+    {
+        edit(&mut self.entries, name, value)
+    }
+
+    /// The same cell once more.
+    pub fn copy(&self, alloc: Global) -> Result<Cell, Memory>
+        ensures { IfOk result (λ copied. copied ≡ self.now) }
+    {
+        Ok(Cell {
+            entries: copy_entries(alloc, &self.entries)?,
+        })
+    }
+}
+
+/// Where the name is, or where it would go.
+fn find_place(entries: &[(TextBytes, Value)], name: &[u8]) -> Result<usize, usize>
+    requires { AreInOrder entries.now }
+    ensures { IsPlaceOf entries.now name.now result }
+{
+    entries.binary_search_by(|entry| compare_name(entry, name))
+}
+
+fn compare_name(entry: &(TextBytes, Value), name: &[u8]) -> Ordering
+    ensures { result ≡ slice_cmp nat_cmp entry.now.0 name.now }
+{
+    entry.0.as_bytes().cmp(name)
+}
+
+fn edit(
+    entries: &mut Vec<(TextBytes, Value)>,
+    name: TextBytes,
+    value: Option<Value>,
+) -> Result<(), Memory>
+    requires { AreInOrder entries.old.items }
+    ensures ok { OnOk result (entries.new.items ≡ edited entries.old.items name value) }
+    ensures err { OnErr result (entries.new.items ≡ entries.old.items) }
+{
+    match value {
+        Some(value) => set(entries, name, value),
+        None => {
+            remove(entries, &name);
+            Ok(())
+        }
+    }
+}
+
+fn set(entries: &mut Vec<(TextBytes, Value)>, name: TextBytes, value: Value) -> Result<(), Memory>
+    requires { AreInOrder entries.old.items }
+    ensures ok { OnOk result (entries.new.items ≡ edited entries.old.items name (Some value)) }
+    ensures err { OnErr result (entries.new.items ≡ entries.old.items) }
+{
+    match find_place(entries, name.as_bytes()) {
+        Ok(place) => {
+            entries[place].1 = value;
+            Ok(())
+        }
+        Err(place) => Ok(entries.insert(place, (name, value))?),
+    }
+}
+
+fn remove(entries: &mut Vec<(TextBytes, Value)>, name: &TextBytes)
+    requires { AreInOrder entries.old.items }
+    ensures { entries.new.items ≡ edited entries.old.items name.now None }
+{
+    if let Ok(place) = find_place(entries, name.as_bytes()) {
+        let _ = entries.remove(place);
+    }
+}
+
+fn copy_entries(
+    alloc: Global,
+    entries: &[(TextBytes, Value)],
+) -> Result<Vec<(TextBytes, Value)>, Memory>
+    ensures { IfOk result (λ copied. copied.items ≡ entries.now) }
+{
+    let mut copied = Vec::new(alloc);
+    for (name, value) in entries {
+        copied.push((name.again(alloc)?, value.copy(alloc)?))?;
+    }
+    Ok(copied)
+}
