@@ -1,0 +1,4 @@
+pub mod Causes
+pub mod Sinks
+pub mod Stores
+pub mod Memory
