@@ -1,5 +1,5 @@
 -- What a flow has done in a journal, and what it does next.
-use Rattle.std.specs.Prelude.{◌≡◌, ℕ, ◌<◌, ◌==◌, if◌then◌else◌, List, [], ◌∷◌, ◌++◌, length, slice_get, Option, Some, All}
+use Rattle.std.specs.Prelude.{◌≡◌, ℕ, ◌<◌, ◌==◌, if◌then◌else◌, List, [], ◌∷◌, ◌++◌, length, slice_get, Some, All}
 use Rattle.std.specs.List.{flat_map}
 use Rattle.flux_values.specs.declared.values.Value.{Value}
 use Rattle.flux_values.specs.declared.answers.Answer.{Answer}
@@ -56,7 +56,7 @@ IsNext p item journal flow event =
 pub record CallIsNext (p : Program) (item : Item) (journal : Journal) (flow : ℕ) (node : NodeNo) (args : List Value) : Type 0 where
   pub stops : flow_events p item (own_answers journal flow) ≡ own_events journal flow
   pub goes_on : (answer : Answer) → (rest : List Event) × (flow_events p item (own_answers journal flow ++ answer ∷ [])
-    ≡ own_events journal flow ++ Call (record { node = node; args = args; answer = answer }) ∷ rest)
+      ≡ own_events journal flow ++ Call (record { node = node; args = args; answer = answer }) ∷ rest)
 
 -- the flow is one whole path: all of its finished walk on its own answers
 pub record IsWholePath (p : Program) (item : Item) (journal : Journal) (flow : ℕ) : Type 0 where

@@ -1,5 +1,5 @@
 -- The words and marks of a text, and how they are spelled.
-use Rattle.std.specs.Prelude.{◌≡◌, ℕ, ◌||◌, ◌&&◌, ◌==◌, nat_le, IsTrue, Bool, false, List, [], ◌∷◌, ◌++◌, codes}
+use Rattle.std.specs.Prelude.{◌≡◌, ℕ, ◌||◌, ◌&&◌, ◌==◌, ◌≤◌, nat_le, IsTrue, Bool, false, List, [], ◌∷◌, ◌++◌, length, codes}
 use Rattle.std.specs.List.{AllByRecursion, list_any}
 use Rattle.std.specs.Str.{bytes_eq}
 
@@ -35,10 +35,11 @@ IsWord (b ∷ bytes) = IsTrue (is_word_start b) × AllByRecursion (λ c. IsTrue 
 abbrev pub reserved : List (List ℕ)
 reserved = codes "source" ∷ codes "typedef" ∷ codes "handle" ∷ codes "error" ∷ codes "atomic" ∷ codes "session" ∷ codes "_" ∷ []
 
--- a name: a word that isn't reserved
+-- a name: a word that isn't reserved, of at most 65,536 bytes
 pub record IsIdentifier (name : List ℕ) : Type 0 where
   pub word : IsWord name
   pub free : list_any (bytes_eq name) reserved ≡ false
+  pub short : length name ≤ 65536
 
 -- the bytes of a token
 abbrev pub bytes_of : Token → List ℕ

@@ -10,7 +10,5 @@ mod signatures;
 
 pub use flux_values::{Answer, CallResult, Cell, Mode, Put};
 pub use journals::{CallMade, Entry, Event, FlowNo, Item, Journal, Key, Outcome};
-pub use programs::{
-    Body, Case, Class, ClassNo, Hold, Node, NodeNo, Program, SourceLine, SourceNo,
-};
+pub use programs::{Body, Case, Class, ClassNo, Hold, Node, NodeNo, Program, SourceLine, SourceNo};
 pub use signatures::{NodeSig, Sigs, TypeText};

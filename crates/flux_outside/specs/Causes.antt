@@ -1,5 +1,5 @@
 -- When a call may answer that it failed.
-use Rattle.std.specs.Prelude.{◌≡◌, ℕ, ◌+◌, ◌-◌, ◌^◌, ◌≤◌, min, Result, IsErrOf, OnErr}
+use Rattle.std.specs.Prelude.{ℕ, ◌+◌, ◌-◌, ◌^◌, ◌≤◌, min, Result, IsErrOf, OnErr}
 use Rattle.flux_outside.specs.declared.faults.Failed.{Failed}
 use Rattle.flux_outside.specs.declared.faults.StoreFault.{StoreFault}
 use Rattle.flux_outside.specs.declared.faults.StoreFault.TheVariants as faults

@@ -1,5 +1,5 @@
 -- What the forms in memory hold.
-use Rattle.std.specs.Prelude.{◌≡◌, ℕ, ◌+◌, ◌≤◌, ◌==◌, if◌then◌else◌, List, [], ◌∷◌, length, Option, Some, None}
+use Rattle.std.specs.Prelude.{◌≡◌, ℕ, ◌+◌, ◌≤◌, if◌then◌else◌, List, [], ◌∷◌, length, Option, Some, None}
 use Rattle.std.specs.Str.{bytes_eq}
 use Rattle.flux_outside.specs.declared.memory.FileBytes.{FileBytes}
 use Rattle.flux_outside.specs.declared.memory.MemorySink.{MemorySink}

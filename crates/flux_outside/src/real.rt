@@ -70,12 +70,7 @@ impl<R: Files> Store for RealStore<R> {
     }
 }
 
-fn load<R: Files>(
-    runtime: &R,
-    alloc: Global,
-    name: &[u8],
-    max: usize,
-) -> Result<File, StoreFault>
+fn load<R: Files>(runtime: &R, alloc: Global, name: &[u8], max: usize) -> Result<File, StoreFault>
     ensures { IfOk result (FitsIn max) }
 {
     let Ok(path) = str::from_utf8(name) else {

@@ -20,5 +20,5 @@ pub use failures::{Memory, TextFault, ValueFault};
 pub use lists::List;
 pub use printing::{append_number, append_text, append_value, print_value};
 pub use reading::read_value;
-pub use texts::{Bytes, TextBytes};
+pub use texts::{Bytes, TEXT_LIMIT, TextBytes};
 pub use values::{Kind, Value};

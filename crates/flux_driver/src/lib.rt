@@ -1,0 +1,11 @@
+//! The command line: all that the program does, as one call.
+//!
+//! `top` takes the words and the outside world, and answers a status. With status 0 it has printed the journal
+//! of the items' flows through the program of the text; every other status comes exactly for its cause.
+#![tactic(auto)]
+
+mod declarations;
+mod library;
+
+pub use declarations::{Declared, Line};
+pub use library::LibraryNode;
