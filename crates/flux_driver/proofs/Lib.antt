@@ -1,1 +1,4 @@
 pub mod Turns
+pub mod Steps
+pub mod Grammar
+pub mod Spelled
