@@ -2,3 +2,4 @@ pub mod Turns
 pub mod Steps
 pub mod Grammar
 pub mod Spelled
+pub mod FormsRead

@@ -1,3 +1,4 @@
 pub mod Library
 pub mod FirstForm
 pub mod Reading
+pub mod Joins

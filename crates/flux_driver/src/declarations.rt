@@ -183,7 +183,7 @@ fn read_signature(node: LibraryNode, text: &[u8]) -> Option<&[u8]>
     read_mark(b";", rest)
 }
 
-fn copy_name(alloc: Global, name: &[u8]) -> Result<TextBytes, Memory>
+pub fn copy_name(alloc: Global, name: &[u8]) -> Result<TextBytes, Memory>
     requires { length name.now ≤ 65536 }
     ensures { IfOk result (λ copied. copied ≡ name.now) }
 {
@@ -227,7 +227,8 @@ pub fn has_name(names: &[TextBytes], name: &[u8]) -> bool
 
 /// The library's part of a name: what stands before the first `_`, or all of it.
 pub fn library_name(name: &[u8]) -> &[u8]
-    ensures { result.now ≡ library_name name.now }
+    ensures value { result.now ≡ library_name name.now }
+    ensures within { length result.now ≤ length name.now }
 {
     &name[..library_name_length(name)]
 }

@@ -5,7 +5,9 @@
 #![tactic(auto)]
 
 mod declarations;
+mod forms;
 mod library;
 
 pub use declarations::{Declared, Line};
+pub use forms::{Join, Ready};
 pub use library::LibraryNode;

@@ -1,5 +1,5 @@
 -- The program of a text's declarations.
-use Rattle.std.specs.Prelude.{ℕ, suc, ◌==◌, List, [], ◌∷◌, None, if◌then◌else◌}
+use Rattle.std.specs.Prelude.{ℕ, suc, ◌==◌, List, [], ◌∷◌, map, None, if◌then◌else◌}
 use Rattle.std.specs.List.{before_first}
 use Rattle.std.specs.Str.{bytes_eq}
 use Rattle.flux_model.specs.declared.programs.Program.{Program}
@@ -28,8 +28,7 @@ place_of name [] = 0
 place_of name (n ∷ names) = if bytes_eq n name then 0 else suc (place_of name names)
 
 abbrev pub nodes_of : List (List ℕ) → List Node
-nodes_of [] = []
-nodes_of (name ∷ names) = node_of name ∷ nodes_of names
+nodes_of names = map node_of names
 
 -- the source lines: their nodes and targets are numbered by their signatures
 abbrev pub sources_of : List (List ℕ) → List Declaration → List SourceLine
