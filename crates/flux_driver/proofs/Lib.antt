@@ -3,3 +3,6 @@ pub mod Steps
 pub mod Grammar
 pub mod Spelled
 pub mod FormsRead
+pub mod KindsTold
+pub mod Strips
+pub mod ValueLists

@@ -6,8 +6,10 @@
 
 mod declarations;
 mod forms;
+mod items;
 mod library;
 
 pub use declarations::{Declared, Line};
 pub use forms::{Join, Ready};
+pub use items::ItemsRead;
 pub use library::LibraryNode;
