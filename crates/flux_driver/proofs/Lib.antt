@@ -6,3 +6,4 @@ pub mod FormsRead
 pub mod KindsTold
 pub mod Strips
 pub mod ValueLists
+pub mod ItemLines

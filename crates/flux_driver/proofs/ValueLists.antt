@@ -114,7 +114,7 @@ pub pushed : {X E : Type 0} {P : Type 0} (r : Result X E) → is_err r ≡ false
 pushed (Ok x) e p = p
 pushed (Err x) e p = absurd (true≢false e)
 
-taken_on : (at n : ℕ) (text a b : List ℕ) → at ≤ length text → n ≤ length (drop at text) → take at text ≡ a → take n (drop at text) ≡ b → take (at + n) text ≡ a ++ b
+pub taken_on : (at n : ℕ) (text a b : List ℕ) → at ≤ length text → n ≤ length (drop at text) → take at text ≡ a → take n (drop at text) ≡ b → take (at + n) text ≡ a ++ b
 taken_on at n text a b le lo first second =
     let whole : text ≡ (a ++ b) ++ drop n (drop at text) = sym (take-append-drop at text) ∙ ap (λ (t : List ℕ). t ++ drop at text) first ∙ ap (λ (t : List ℕ). a ++ t) (sym (take-append-drop n (drop at text)) ∙ ap (λ (t : List ℕ). t ++ drop n (drop at text)) second) ∙ sym (append_assoc a b (drop n (drop at text))) in
     let la : length a ≡ at = ap length (sym first) ∙ length-take at text ∙ omega arith in

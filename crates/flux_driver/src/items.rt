@@ -7,7 +7,7 @@ ghost use Rattle.flux_values.specs.Texts.{printed_value};
 ghost use Rattle.flux_values.specs.Reading.{IsValue, EndsBefore};
 ghost use Rattle.flux_model.specs.declared.journals.Item.{Item};
 ghost use Rattle.flux_model.specs.Texts.{source_name};
-ghost use Rattle.flux_driver.specs.Items.{IsNext, IsClosed, IsLine, AreValues, closed, separator, line_of, IsItemsRead};
+ghost use Rattle.flux_driver.specs.Items.{IsNext, IsClosed, IsLine, AreValues, closed, separator, line_of, IsItemsRead, AreItemsOf, IsItemFault};
 
 use flux_model::{Item, Program, SourceNo};
 use flux_values::{Kind, List, Memory, Value, ValueFault, read_value};
@@ -104,4 +104,66 @@ fn separator(values: &List<Value>) -> &'static [u8]
     ensures { result.now ≡ separator values.now }
 {
     if values.as_slice().is_empty() { b"" } else { b", " }
+}
+
+/// The values of a printed item of the source with this name, and how many bytes its line is.
+fn read_line(
+    alloc: Global,
+    name: &[u8],
+    kinds: &[Kind],
+    text: &[u8],
+) -> Result<Option<(List<Value>, usize)>, Memory>
+    ensures found { IfOk result (λ read. IfSome read (IsLine name.now kinds.now text.now)) }
+    ensures only { (values : List Value) (rest : List ℕ) → AreValues kinds.now values → text.now ≡ line_of name.now values ++ rest
+        → IfOk result (λ read. read ≡ Some (values, length (line_of name.now values))) }
+{
+    let Some(behind) = strip(name, text) else {
+        return Ok(None);
+    };
+    let Some(rest) = strip(b" (", behind) else {
+        return Ok(None);
+    };
+    match read_values(alloc, kinds, rest)? {
+        Some((values, length)) => Ok(Some((values, name.len() + 2 + length))),
+        None => Ok(None),
+    }
+}
+
+/// The items of a text, at most 64, or the first line that is none.
+pub fn read_items(
+    alloc: Global,
+    program: &Program,
+    kinds: &[Kind],
+    text: &[u8],
+) -> Result<ItemsRead, Memory>
+    ensures read { IfOk result (IsItemsRead program.now kinds.now text.now) }
+    ensures items { (items : List Item) → AreItemsOf program.now kinds.now items text.now → IfOk result (λ read. read ≡ ItemsRead.Items items) }
+    ensures fault { (line : ℕ) → IsItemFault program.now kinds.now line text.now → IfOk result (λ read. read ≡ ItemsRead.Fault line) }
+{
+    let name = source_name(program);
+    let mut items = List::new(alloc);
+    let mut rest = text;
+    for line in 1..65 {
+        if rest.is_empty() {
+            return Ok(ItemsRead::Items(items));
+        }
+        match read_line(alloc, name, kinds, rest)? {
+            Some((values, length)) => {
+                let item = Item {
+                    source: SourceNo(0),
+                    values,
+                };
+                if items.push(item).is_err() {
+                    return Err(Memory);
+                }
+                rest = &rest[length..];
+            }
+            None => return Ok(ItemsRead::Fault(line)),
+        }
+    }
+    if rest.is_empty() {
+        Ok(ItemsRead::Items(items))
+    } else {
+        Ok(ItemsRead::Fault(65))
+    }
 }
