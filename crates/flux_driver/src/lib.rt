@@ -8,8 +8,10 @@ mod declarations;
 mod forms;
 mod items;
 mod library;
+mod printing;
 
 pub use declarations::{Declared, Line};
 pub use forms::{Join, Ready};
 pub use items::ItemsRead;
 pub use library::LibraryNode;
+pub use printing::print_journal;

@@ -1,6 +1,6 @@
 -- What a flow has done in a journal, and what it does next.
-use Rattle.std.specs.Prelude.{◌≡◌, ℕ, ◌<◌, ◌==◌, if◌then◌else◌, List, [], ◌∷◌, ◌++◌, length, slice_get, Some, All}
-use Rattle.std.specs.List.{flat_map}
+use Rattle.std.specs.Prelude.{◌≡◌, ℕ, ◌<◌, ◌==◌, if◌then◌else◌, List, [], ◌∷◌, ◌++◌, length, slice_get, Some}
+use Rattle.std.specs.List.{flat_map, AllByRecursion}
 use Rattle.flux_values.specs.declared.values.Value.{Value}
 use Rattle.flux_values.specs.declared.answers.Answer.{Answer}
 use Rattle.flux_model.specs.declared.programs.Program.{Program}
@@ -66,4 +66,4 @@ pub record IsWholePath (p : Program) (item : Item) (journal : Journal) (flow : �
 -- each item's flow is one whole path, and there are no other flows
 pub record IsWhole (p : Program) (items : List Item) (journal : Journal) : Type 0 where
   pub paths : (flow : ℕ) (item : Item) → slice_get items flow ≡ Some item → IsWholePath p item journal flow
-  pub flows : All (λ entry. entry.flow.0 < length items) journal.entries
+  pub flows : AllByRecursion (λ entry. entry.flow.0 < length items) journal.entries
