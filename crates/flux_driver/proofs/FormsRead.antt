@@ -30,7 +30,7 @@ sources_are names (source name target ∷ ds) = ap (λ (ls : List SourceLine). n
 abbrev pub built : List (List ℕ) → Join → Program
 built names join = record { classes = []; nodes = nodes_of names; sources = record { node = join.source; target = join.target; session = None } ∷ []; predicates = [] }
 
-built_is : (ds : List Declaration) (join : Join) → IsJoin (names_of ds) (lines_of ds) join → built (names_of ds) join ≡ program_of ds
+pub built_is : (ds : List Declaration) (join : Join) → IsJoin (names_of ds) (lines_of ds) join → built (names_of ds) join ≡ program_of ds
 built_is ds join j =
     let names = names_of ds in
     let line : sources_of names ds ≡ numbered names j.joined.line ∷ [] = sources_are names ds ∙ ap (map (numbered names)) j.joined.one in
@@ -70,8 +70,8 @@ unjoined text declared ds is none form =
     let none' : JoinsNone (names_of ds) (lines_of ds) = subst (λ (d : Declared). JoinsNone d.names d.lines) same none in
     none' form.from form.to form.joined
 
-pub one_program : (text : List ℕ) (declared : Declared) (join : Join) (p : Program) (ds : List Declaration) → Some declared ≡ declared_at (length text) empty text → IsJoin declared.names declared.lines join → p ≡ built declared.names join → IsFirstForm text ds → p ≡ program_of ds
+pub one_program : (text : List ℕ) (declared : Declared) (join : Join) (p : Program) (ds : List Declaration) → Some declared ≡ declared_at (length text) empty text → IsJoin declared.names declared.lines join → p ≡ built declared.names join → IsFirstForm text ds → (p ≡ program_of ds) × IsJoin (names_of ds) (lines_of ds) join
 one_program text declared join p ds is j made form =
     let same = declared_is text declared ds is form in
     let joined : IsJoin (names_of ds) (lines_of ds) join = subst (λ (d : Declared). IsJoin d.names d.lines join) same j in
-    made ∙ ap (λ (d : Declared). built d.names join) same ∙ built_is ds join joined
+    (made ∙ ap (λ (d : Declared). built d.names join) same ∙ built_is ds join joined, joined)

@@ -7,3 +7,6 @@ pub mod KindsTold
 pub mod Strips
 pub mod ValueLists
 pub mod ItemLines
+pub mod Flows
+pub mod Walks
+pub mod Writes

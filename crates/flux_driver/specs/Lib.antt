@@ -1,5 +1,10 @@
 pub mod Library
 pub mod FirstForm
 pub mod Reading
+pub mod Runs
 pub mod Joins
 pub mod Items
+pub mod Statuses
+pub mod Commands
+pub mod Writing
+pub mod Refusals

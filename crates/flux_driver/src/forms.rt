@@ -2,8 +2,8 @@
 
 ghost use Rattle.std.specs.Prelude.{◌≡◌, ◌≤◌, ◌<◌, ◌^◌, ◌↔◌, IsTrue, true, false, List, [], ◌∷◌, IfOk, IfSome, IfNone, IsSomeAnd, Some, None, length};
 ghost use Rattle.flux_model.specs.Declarations.{Declaration};
-ghost use Rattle.flux_model.specs.ProgramOfText.{place_of, nodes_of, program_of};
-ghost use Rattle.flux_driver.specs.FirstForm.{has_name, IsFirstForm};
+ghost use Rattle.flux_model.specs.ProgramOfText.{names_of, place_of, nodes_of, program_of};
+ghost use Rattle.flux_driver.specs.FirstForm.{has_name, lines_of, IsFirstForm};
 ghost use Rattle.flux_driver.specs.Joins.{IsJoin, JoinsNone, IsReady};
 ghost use Rattle.flux_driver.specs.Library.{is_source, ins_of, outs_of};
 
@@ -128,7 +128,7 @@ fn program_of(alloc: Global, declared: &Declared, join: Join) -> Result<Program,
 /// The program of a text of the first form; None for a text of another form.
 pub fn read_program(alloc: Global, text: &[u8]) -> Result<Option<Ready>, Memory>
     ensures found { IfOk result (λ ready. IfSome ready (IsReady text.now)) }
-    ensures only { (declarations : List Declaration) → IsFirstForm text.now declarations → IfOk result (λ ready. IsSomeAnd ready (λ r. r.program ≡ program_of declarations)) }
+    ensures only { (declarations : List Declaration) → IsFirstForm text.now declarations → IfOk result (λ ready. IsSomeAnd ready (λ r. (r.program ≡ program_of declarations) × IsJoin (names_of declarations) (lines_of declarations) r.join)) }
 {
     if text.len() > FIRST_FORM_LIMIT {
         return Ok(None);

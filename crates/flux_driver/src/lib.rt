@@ -9,9 +9,15 @@ mod forms;
 mod items;
 mod library;
 mod printing;
+mod running;
+mod refusals;
+mod statuses;
+mod writing;
 
 pub use declarations::{Declared, Line};
 pub use forms::{Join, Ready};
 pub use items::ItemsRead;
 pub use library::LibraryNode;
 pub use printing::print_journal;
+pub use running::run;
+pub use statuses::Status;

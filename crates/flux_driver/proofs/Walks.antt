@@ -1,0 +1,138 @@
+-- The flows that are run are the walks of the program, whole and with the nodes' answers.
+use Rattle.std.proofs.Common.{◌≡◌, ℕ, zero, suc, ◌+◌, ◌<◌, ◌≤◌, Bool, true, false, cond, ◌||◌, eqb, List, [], ◌∷◌, ◌++◌, length, map, Option, Some, None, refl, sym, ap, subst, ◌∙◌, arith}
+use Rattle.std.specs.List.{AllByRecursion, slice_get, list_any}
+use Rattle.std.specs.Str.{bytes_eq}
+use Rattle.std.proofs.lemmas.Bool.{ne_eqb}
+use Rattle.std.proofs.lemmas.Bool.Decides.{nat_tests}
+use Rattle.std.proofs.lemmas.Option.{slice_get_within}
+use Rattle.std.proofs.lemmas.Slice.Eq.{bytes_eq-Decides}
+use Rattle.flux_values.specs.declared.values.Kind.{Kind}
+use Rattle.flux_values.specs.declared.answers.Answer.{Answer}
+use Rattle.flux_values.specs.declared.answers.CallResult.{CallResult}
+use Rattle.flux_values.specs.declared.answers.CallResult.TheVariants as results
+use Rattle.flux_model.specs.declared.programs.Program.{Program}
+use Rattle.flux_model.specs.declared.programs.Node.{Node}
+use Rattle.flux_model.specs.declared.journals.Entry.{Entry}
+use Rattle.flux_model.specs.declared.journals.Event.{Event}
+use Rattle.flux_model.specs.declared.journals.Item.{Item}
+use Rattle.flux_model.specs.declared.journals.Journal.{Journal}
+use Rattle.flux_model.specs.Walk.{ended_by, flow_events, IsFinished}
+use Rattle.flux_model.specs.Serial.{entries_of, AreWalks}
+use Rattle.flux_model.specs.Events.{events_by, IsWholePath, IsWhole}
+use Rattle.flux_model.specs.Answers.{IsRight, AreAnswersRight}
+use Rattle.flux_model.specs.Declarations.{Declaration}
+use Rattle.flux_model.specs.ProgramOfText.{library_name, names_of, place_of, node_of, nodes_of, program_of}
+use Rattle.flux_driver.specs.declared.forms.Join.{Join}
+use Rattle.flux_driver.specs.FirstForm.{has_name, lines_of}
+use Rattle.flux_driver.specs.Joins.{IsJoin}
+use Rattle.flux_driver.specs.Items.{IsItem}
+use Rattle.flux_driver.specs.Library.{library_node, answer_of, answering}
+use Rattle.flux_driver.specs.Runs.{outcome_of, path, item_path, flows_of}
+use Rattle.flux_driver.proofs.FormsRead.{built, built_is}
+
+-- a name's node stands at its place
+named_place : (name : List ℕ) (names : List (List ℕ)) → has_name name names ≡ true → slice_get (nodes_of names) (place_of name names) ≡ Some (node_of name)
+named_place name [] has = absurd cc
+named_place name (n ∷ names) has =
+    elim (bytes_eq n name) as (λ t. bytes_eq n name ≡ t → slice_get (nodes_of (n ∷ names)) (cond t 0 (suc (place_of name names))) ≡ Some (node_of name)) [
+      | true ↦ λ e. ap (λ (l : List ℕ). Some (node_of l)) ((bytes_eq-Decides n name).0 e)
+      | false ↦ λ e. named_place name names (let h : has_name name names ≡ true = rw e at has in h)
+    ] refl
+
+all_at : (P : Item → Type 0) (items : List Item) (i : ℕ) (item : Item) → slice_get items i ≡ Some item → AllByRecursion P items → P item
+all_at P [] i item at all = absurd cc
+all_at P (first ∷ items) zero item at all = subst P (let h : first ≡ item = cc in h) all.0
+all_at P (first ∷ items) (suc i) item at all = all_at P items i item at all.1
+
+outcome_is : (r : CallResult) (left : List Answer) → (ended_by r left).outcome ≡ outcome_of r
+outcome_is (results.Good values) left = refl
+outcome_is (results.Bad code) left = refl
+
+next_of : (n : ℕ) → 0 < n → (k : ℕ) × (n ≡ suc k)
+next_of zero lt = absurd (omega arith)
+next_of (suc k) lt = (k, refl)
+
+-- ---- in which flows the events are
+
+events_before : (join : Join) (f n : ℕ) (items : List Item) → f < n → events_by f (flows_of join n items) ≡ []
+events_before join f n [] lt = refl
+events_before join f n (item ∷ items) lt = rw (ne_eqb n f (λ (e : n ≡ f). omega (arith, e))) (events_before join f (suc n) items (omega arith))
+
+events_at : (join : Join) (f n i : ℕ) (items : List Item) (item : Item) → slice_get items i ≡ Some item → f ≡ n + i → events_by f (flows_of join n items) ≡ item_path join item
+events_at join f n i [] item at is = absurd cc
+events_at join f n zero (first ∷ items) item at is =
+    let one : first ≡ item = cc in
+    let own : eqb n f ≡ true = grind (arith, nat_tests) in
+    rw (own, events_before join f (suc n) items (omega (arith, is))) (ap (item_path join) one)
+events_at join f n (suc i) (first ∷ items) item at is =
+    let other : eqb n f ≡ false = ne_eqb n f (λ (e : n ≡ f). omega (arith, e, is)) in
+    rw other (events_at join f (suc n) i items item at (omega (arith, is)))
+
+flows_within : (join : Join) (bound n : ℕ) (items : List Item) → n + length items ≤ bound → AllByRecursion (λ (entry : Entry). entry.flow.0 < bound) (flows_of join n items)
+flows_within join bound n [] le = tt
+flows_within join bound n (item ∷ items) le =
+    let lt : n < bound = omega arith in
+    (lt, (lt, (lt, (lt, flows_within join bound (suc n) items (omega arith)))))
+
+-- ---- what the flows are
+
+module _ (names : List (List ℕ)) (join : Join) (target : List ℕ)
+    (node : slice_get (nodes_of names) join.target.0 ≡ Some (node_of target)) (library : library_node (library_name target) ≡ Some join.to) where
+  abbrev program : Program
+  program = built names join
+
+  walked : (kinds : List Kind) (item : Item) (answer : Answer) → IsItem kinds item → flow_events program item (answer ∷ []) ≡ path join.target item.values answer
+  walked kinds item answer is =
+      let first : item.source.0 ≡ 0 = ap (λ s. s.0) is.source in
+      let depth = next_of (length (nodes_of names)) (omega (arith, slice_get_within (nodes_of names) join.target.0 (node_of target) node)) in
+      rw (first, depth.1, node, outcome_is answer.result []) refl
+
+  finished : (kinds : List Kind) (item : Item) (answer : Answer) → IsItem kinds item → IsFinished program item (answer ∷ [])
+  finished kinds item answer is =
+      let first : item.source.0 ≡ 0 = ap (λ s. s.0) is.source in
+      let depth = next_of (length (nodes_of names)) (omega (arith, slice_get_within (nodes_of names) join.target.0 (node_of target) node)) in
+      rw (first, depth.1, node) tt
+
+  are_walks : (kinds : List Kind) (n : ℕ) (items : List Item) → AllByRecursion (IsItem kinds) items → AreWalks program n items (flows_of join n items)
+  are_walks kinds n [] all = refl
+  are_walks kinds n (item ∷ items) all =
+      let answer = answer_of join.to item.values in
+      (answer ∷ [], flows_of join (suc n) items, finished kinds item answer all.0,
+       ap (λ (es : List Event). entries_of n es ++ flows_of join (suc n) items) (sym (walked kinds item answer all.0)),
+       are_walks kinds (suc n) items all.1)
+
+  are_right : (n : ℕ) (items : List Item) → AllByRecursion (λ (entry : Entry). IsRight answering program entry.event) (flows_of join n items)
+  are_right n [] = tt
+  are_right n (item ∷ items) = (tt, (rw (node, library) refl, (tt, (tt, are_right (suc n) items))))
+
+  whole : (kinds : List Kind) (items : List Item) (journal : Journal) → AllByRecursion (IsItem kinds) items → journal.entries ≡ flows_of join 0 items → IsWhole program items journal
+  whole kinds items journal all is = record {
+    paths = λ flow item at.
+      let events : events_by flow journal.entries ≡ item_path join item = ap (events_by flow) is ∙ events_at join flow 0 flow items item at (omega arith) in
+      let one = all_at (IsItem kinds) items flow item at all in
+      let answer = answer_of join.to item.values in
+      record {
+        finished = rw events (finished kinds item answer one);
+        all = rw events (sym (walked kinds item answer one));
+      };
+    flows = rw is (flows_within join (length items) 0 items (omega arith));
+  }
+
+-- all that a journal of the flows is, in the program of the declarations
+pub record AreFlows (kinds : List Kind) (items : List Item) (p : Program) (journal : Journal) : Type 0 where
+  pub walks : AreWalks p 0 items journal.entries
+  pub whole : IsWhole p items journal
+  pub right : AreAnswersRight answering p journal
+
+pub are_flows : (kinds : List Kind) (ds : List Declaration) (join : Join) (items : List Item) (p : Program) (journal : Journal)
+    → p ≡ program_of ds → IsJoin (names_of ds) (lines_of ds) join → AllByRecursion (IsItem kinds) items → journal.entries ≡ flows_of join 0 items → AreFlows kinds items p journal
+are_flows kinds ds join items p journal is j all made =
+    let names = names_of ds in
+    let target = j.joined.line.target in
+    let node : slice_get (nodes_of names) join.target.0 ≡ Some (node_of target) = ap (slice_get (nodes_of names)) j.target ∙ named_place target names j.joined.target.named in
+    let library = j.joined.target.library in
+    subst (λ (q : Program). AreFlows kinds items q journal) (built_is ds join j ∙ sym is) (record {
+      walks = rw made (are_walks names join target node library kinds 0 items all);
+      whole = whole names join target node library kinds items journal all made;
+      right = rw made (are_right names join target node library 0 items);
+    })
