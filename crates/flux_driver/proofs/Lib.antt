@@ -10,3 +10,5 @@ pub mod ItemLines
 pub mod Flows
 pub mod Walks
 pub mod Writes
+pub mod Prepared
+pub mod Answered

@@ -1,5 +1,5 @@
 -- Blanks, words and marks: what is read is spelled so, and what is spelled so is read.
-use Rattle.std.proofs.Common.{◌≡◌, ℕ, zero, suc, ◌+◌, ◌<◌, ◌≤◌, Bool, true, false, cond, ◌||◌, not, eqb, leb, ltb, List, [], ◌∷◌, ◌++◌, length, take, drop, Option, Some, None, IsTrue, refl, sym, ap, subst, ◌∙◌, arith, append_assoc, codes}
+use Rattle.std.proofs.Common.{◌≡◌, ℕ, zero, suc, ◌+◌, ◌<◌, ◌≤◌, Bool, true, false, cond, ◌||◌, not, eqb, leb, ltb, List, [], ◌∷◌, ◌++◌, length, take, drop, Option, Some, None, IsTrue, Result, Ok, Err, IfOk, IfErr, refl, sym, ap, subst, ◌∙◌, arith, append_assoc, codes}
 use Rattle.std.specs.List.{prefix_len, starts_with, list_any, AllByRecursion}
 use Rattle.std.specs.Str.{bytes_eq}
 use Rattle.std.proofs.Math.Numerals.{one-add}
@@ -213,3 +213,13 @@ spells_join P (t ∷ a) b text s = record { blanks = s.blanks; rest = s.rest; ar
 pub spells_then : (P : List ℕ → Type 0) (a : List Token) (text rest : List ℕ) → Spells a (λ r. r ≡ rest) text → P rest → Spells a P text
 spells_then P [] text rest s p = subst P (sym s) p
 spells_then P (t ∷ a) text rest s p = record { blanks = s.blanks; rest = s.rest; are_blanks = s.are_blanks; is = s.is; ends = s.ends; after = spells_then P a s.rest rest s.after p }
+
+-- ---- results
+
+pub if_ok : {A B : Type 0} (P Q : A → Type 0) (r : Result A B) → ((x : A) → P x → Q x) → IfOk r P → IfOk r Q
+if_ok P Q (Ok x) f p = f x p
+if_ok P Q (Err e) f p = tt
+
+pub if_err : {A B : Type 0} (P Q : B → Type 0) (r : Result A B) → ((e : B) → P e → Q e) → IfErr r P → IfErr r Q
+if_err P Q (Ok x) f p = tt
+if_err P Q (Err e) f p = f e p

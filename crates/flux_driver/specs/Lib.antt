@@ -8,3 +8,5 @@ pub mod Statuses
 pub mod Commands
 pub mod Writing
 pub mod Refusals
+pub mod Steps
+pub mod Top

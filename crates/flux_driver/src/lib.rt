@@ -4,20 +4,17 @@
 //! of the items' flows through the program of the text; every other status comes exactly for its cause.
 #![tactic(auto)]
 
+mod commands;
 mod declarations;
 mod forms;
 mod items;
 mod library;
+mod outermost;
 mod printing;
-mod running;
 mod refusals;
+mod running;
 mod statuses;
 mod writing;
 
-pub use declarations::{Declared, Line};
-pub use forms::{Join, Ready};
-pub use items::ItemsRead;
-pub use library::LibraryNode;
-pub use printing::print_journal;
-pub use running::run;
+pub use outermost::{World, top};
 pub use statuses::Status;
