@@ -1,11 +1,11 @@
 -- The flows of items are the walks of the program.
-use Rattle.std.proofs.Common.{◌≡◌, ℕ, zero, suc, ◌+◌, ◌<◌, ◌≤◌, ◌==◌, Bool, true, false, eqb, List, [], ◌∷◌, ◌++◌, length, map, take, get_or, Option, Some, None, refl, sym, ap, subst, ◌∙◌, arith, append_assoc}
-use Rattle.std.proofs.lemmas.List.{take_more, length-take, append-nil}
+use Rattle.std.proofs.Common.{◌≡◌, ℕ, suc, ◌+◌, ◌<◌, List, [], ◌∷◌, ◌++◌, length, take, get_or, refl, sym, ap, ◌∙◌, arith, append_assoc}
+use Rattle.std.proofs.lemmas.List.{take_more, length-take}
 use Rattle.flux_model.specs.declared.journals.Entry.{Entry}
 use Rattle.flux_model.specs.declared.journals.Item.{Item}
 use Rattle.flux_model.specs.Serial.{entries_of}
 use Rattle.flux_driver.specs.declared.forms.Join.{Join}
-use Rattle.flux_driver.specs.Runs.{path, item_path, flows_of}
+use Rattle.flux_driver.specs.Runs.{item_path, flows_of}
 
 -- one item more
 pub flows_push : (join : Join) (flow : ℕ) (items : List Item) (item : Item) (n : ℕ) → n ≡ flow + length items → flows_of join flow (items ++ item ∷ []) ≡ flows_of join flow items ++ entries_of n (item_path join item)

@@ -1,5 +1,5 @@
 -- A text of the first form has one program, and it is the one that is read.
-use Rattle.std.proofs.Common.{◌≡◌, ℕ, ◌+◌, ◌<◌, ◌≤◌, ◌^◌, List, [], ◌∷◌, ◌++◌, length, map, Option, Some, None, IsSomeAnd, refl, sym, ap, subst, ◌∙◌, arith}
+use Rattle.std.proofs.Common.{◌≡◌, ℕ, ◌<◌, ◌≤◌, ◌^◌, List, [], ◌∷◌, length, map, Some, None, refl, sym, ap, subst, ◌∙◌, arith}
 use Rattle.flux_model.specs.declared.programs.Program.{Program}
 use Rattle.flux_model.specs.declared.programs.SourceLine.{SourceLine}
 use Rattle.flux_model.specs.Declarations.{Declaration, signature, source}
@@ -7,8 +7,7 @@ use Rattle.flux_model.specs.ProgramOfText.{names_of, place_of, nodes_of, sources
 use Rattle.flux_driver.specs.declared.declarations.Declared.{Declared}
 use Rattle.flux_driver.specs.declared.declarations.Line.{Line}
 use Rattle.flux_driver.specs.declared.forms.Join.{Join}
-use Rattle.flux_driver.specs.declared.forms.Ready.{Ready}
-use Rattle.flux_driver.specs.FirstForm.{lines_of, IsJoined, IsFirstForm}
+use Rattle.flux_driver.specs.FirstForm.{lines_of, IsFirstForm}
 use Rattle.flux_driver.specs.Reading.{declared_at}
 use Rattle.flux_driver.specs.Joins.{IsJoin, JoinsNone, IsReady}
 use Rattle.flux_driver.proofs.Grammar.{declared_read}

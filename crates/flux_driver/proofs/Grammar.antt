@@ -1,22 +1,22 @@
 -- Declarations: what is read is spelled so, and what is spelled so is read.
-use Rattle.std.proofs.Common.{◌≡◌, ℕ, zero, suc, ◌+◌, ◌<◌, ◌≤◌, Bool, true, false, cond, List, [], ◌∷◌, ◌++◌, length, map, Option, Some, None, refl, sym, ap, subst, ◌∙◌, arith, append_assoc, codes}
-use Rattle.std.specs.List.{AllByRecursion, list_any, flat_map}
+use Rattle.std.proofs.Common.{◌≡◌, ℕ, zero, suc, ◌≤◌, true, false, cond, List, [], ◌∷◌, ◌++◌, length, Option, Some, None, refl, sym, ap, subst, ◌∙◌, arith, append_assoc, codes}
+use Rattle.std.specs.List.{AllByRecursion, flat_map}
 use Rattle.std.specs.Str.{bytes_eq}
 use Rattle.std.proofs.lemmas.Slice.Eq.{bytes_eq-Decides}
 use Rattle.std.proofs.lemmas.Bool.{false_from_ne_true, or_parts, ltb-false}
 use Rattle.std.proofs.lemmas.List.{append-nil, length-append}
 use Rattle.flux_values.specs.declared.values.Kind.{Kind}
 use Rattle.flux_values.specs.declared.values.Kind.TheVariants as kinds
-use Rattle.flux_model.specs.Tokens.{Token, word, opening, closing, comma, semicolon, arrow, IsIdentifier, bytes_of, EndsBefore, AreBlanks, BeginsWith, Spells}
-use Rattle.flux_model.specs.Declarations.{Param, Declaration, signature, source, param_tokens, tokens_of, AreParams, IsDeclaration, AreDeclarationsOf}
+use Rattle.flux_model.specs.Tokens.{Token, word, opening, closing, comma, semicolon, arrow, IsIdentifier, AreBlanks, Spells}
+use Rattle.flux_model.specs.Declarations.{Param, Declaration, signature, source, param_tokens, tokens_of, AreParams, IsDeclaration}
 use Rattle.flux_model.specs.ProgramOfText.{library_name, names_of}
 use Rattle.flux_driver.specs.declared.library.LibraryNode.{LibraryNode}
 use Rattle.flux_driver.specs.declared.declarations.Declared.{Declared}
 use Rattle.flux_driver.specs.declared.declarations.Line.{Line}
 use Rattle.flux_driver.specs.Library.{library_node, ins_of, outs_of}
 use Rattle.flux_driver.specs.FirstForm.{kind_word, HaveKinds, IsSignatureOf, IsFromLibrary, lines_of, has_name, AreNewAfter}
-use Rattle.flux_driver.specs.Reading.{◌>>=◌, skip, word_at, mark_at, no_name, name_at, param_at, next_param_at, more_params_at, params_at, side_at, signature_at, line_at, with_name, with_line, signed_at, sourced_at, declaration_at, at_end, declared_at}
-use Rattle.flux_driver.proofs.Steps.{bind_some, unless_some, when_some, some_is, Front, word_read, word_spelled, mark_read, mark_spelled, name_read, name_spelled, name_free, front_then, front_of, spells_split, spells_join, spells_then, blanks_end, end_blanks, skip_over, NotBlankFirst}
+use Rattle.flux_driver.specs.Reading.{◌>>=◌, word_at, mark_at, no_name, name_at, param_at, next_param_at, more_params_at, params_at, side_at, signature_at, line_at, with_name, with_line, signed_at, sourced_at, declaration_at, at_end, declared_at}
+use Rattle.flux_driver.proofs.Steps.{bind_some, unless_some, when_some, some_is, Front, word_read, mark_read, name_read, front_then, spells_join, spells_then, end_blanks}
 
 same_bytes : (a b : List ℕ) → bytes_eq a b ≡ true → a ≡ b
 same_bytes a b e = (bytes_eq-Decides a b).0 e

@@ -1,5 +1,5 @@
 -- Items, read line by line: whatever items begin the text, the reader has them too.
-use Rattle.std.proofs.Common.{◌≡◌, ℕ, zero, suc, ◌+◌, ◌-◌, ◌<◌, ◌≤◌, ◌⊎◌, inl, inr, List, [], ◌∷◌, ◌++◌, length, map, take, drop, slice_get, Option, Some, None, refl, sym, ap, subst, ◌∙◌, arith, append_assoc, codes}
+use Rattle.std.proofs.Common.{◌≡◌, ℕ, ◌+◌, ◌<◌, ◌≤◌, ◌⊎◌, inl, inr, List, [], ◌∷◌, ◌++◌, length, take, drop, slice_get, Option, Some, refl, sym, ap, subst, ◌∙◌, arith, append_assoc, codes}
 use Rattle.std.specs.List.{AllByRecursion, flat_map}
 use Rattle.std.proofs.lemmas.List.{append-nil, length-append, append_cancel_left, take-append-drop, take_at, length-take}
 use Rattle.std.proofs.lemmas.Grind.{flat_map-append}
@@ -10,8 +10,8 @@ use Rattle.flux_model.specs.declared.programs.SourceNo.{SourceNo}
 use Rattle.flux_model.specs.declared.journals.Item.{Item}
 use Rattle.flux_model.specs.Texts.{printed_values, printed_item, source_name}
 use Rattle.flux_driver.specs.declared.items.ItemsRead.{ItemsRead}
-use Rattle.flux_driver.specs.declared.items.ItemsRead.TheVariants.{Items, Fault}
-use Rattle.flux_driver.specs.Items.{AreValues, IsItem, item_line, AreItemsOf, IsItemFault, BeginsNoItem, IsItemsRead, line_of, IsLine, closed, IsClosed}
+use Rattle.flux_driver.specs.declared.items.ItemsRead.TheVariants.{Items}
+use Rattle.flux_driver.specs.Items.{AreValues, IsItem, item_line, AreItemsOf, IsItemFault, BeginsNoItem, line_of, IsLine, closed, IsClosed}
 use Rattle.flux_driver.proofs.Steps.{some_is}
 use Rattle.flux_driver.proofs.ValueLists.{listed}
 

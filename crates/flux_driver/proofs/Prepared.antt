@@ -1,10 +1,8 @@
 -- What the steps of `run` give is what its words and files decide.
-use Rattle.std.proofs.Common.{◌≡◌, ℕ, ◌≤◌, ◌⊎◌, inl, inr, List, [], ◌∷◌, Option, Some, None, Result, Ok, Err, IfSome, IfOk, IfErr, refl, sym, ap, subst, ◌∙◌, arith}
+use Rattle.std.proofs.Common.{◌≡◌, ℕ, ◌≤◌, inl, inr, List, [], ◌∷◌, Option, Some, None, Result, Ok, Err, IfSome, IfOk, IfErr, refl, sym, ap, subst, ◌∙◌, arith}
 use Rattle.flux_outside.specs.Causes.{Rose}
-use Rattle.flux_outside.specs.Stores.{FitsIn}
 use Rattle.flux_outside.specs.declared.stores.File.{File}
 use Rattle.flux_outside.specs.declared.stores.File.TheVariants.{Found, Missing, Longer}
-use Rattle.flux_values.specs.declared.values.Kind.{Kind}
 use Rattle.flux_model.specs.declared.programs.Program.{Program}
 use Rattle.flux_model.specs.declared.journals.Item.{Item}
 use Rattle.flux_model.specs.Declarations.{Declaration}
@@ -16,7 +14,7 @@ use Rattle.flux_driver.specs.declared.statuses.Status.{Status}
 use Rattle.flux_driver.specs.declared.statuses.Status.TheVariants as statuses
 use Rattle.flux_driver.specs.declared.refusals.Refusal.{Refusal}
 use Rattle.flux_driver.specs.declared.refusals.Refusal.TheVariants as refusals
-use Rattle.flux_driver.specs.FirstForm.{lines_of, IsJoined, IsFirstForm, IsNotBuilt, IsProgramOf}
+use Rattle.flux_driver.specs.FirstForm.{lines_of, IsJoined, IsFirstForm, IsNotBuilt}
 use Rattle.flux_driver.specs.Joins.{IsJoin, IsReady}
 use Rattle.flux_driver.specs.Library.{library_node, outs_of, ins_of}
 use Rattle.flux_driver.specs.Items.{AreItemsOf, IsItemFault}

@@ -1,24 +1,21 @@
 -- What is spelled as declarations is read as these.
-use Rattle.std.proofs.Common.{◌≡◌, ℕ, zero, suc, ◌+◌, ◌<◌, ◌≤◌, Bool, true, false, cond, List, [], ◌∷◌, ◌++◌, length, map, Option, Some, None, refl, sym, ap, subst, ◌∙◌, arith, append_assoc, codes}
-use Rattle.std.specs.List.{AllByRecursion, list_any, flat_map}
+use Rattle.std.proofs.Common.{◌≡◌, ℕ, zero, suc, ◌<◌, ◌≤◌, true, false, List, [], ◌∷◌, ◌++◌, length, map, Option, Some, None, refl, sym, ap, subst, ◌∙◌, arith, append_assoc, codes}
+use Rattle.std.specs.List.{AllByRecursion, flat_map}
 use Rattle.std.specs.Str.{bytes_eq}
-use Rattle.std.proofs.lemmas.Slice.Eq.{bytes_eq-Decides}
 use Rattle.std.proofs.lemmas.Bool.{ne_eqb, or_parts}
 use Rattle.std.proofs.lemmas.List.{append-nil, length-append}
 use Rattle.flux_values.specs.declared.values.Kind.{Kind}
-use Rattle.flux_values.specs.declared.values.Kind.TheVariants as kinds
-use Rattle.flux_model.specs.Tokens.{Token, word, opening, closing, comma, semicolon, arrow, IsIdentifier, IsWord, bytes_of, AreBlanks, BeginsWith, Spells}
+use Rattle.flux_model.specs.Tokens.{Token, word, opening, closing, comma, semicolon, arrow, IsIdentifier, IsWord, AreBlanks, BeginsWith, Spells}
 use Rattle.flux_model.specs.Declarations.{Param, Declaration, signature, source, param_tokens, tokens_of, AreParams, IsDeclaration}
 use Rattle.flux_model.specs.ProgramOfText.{library_name, names_of}
 use Rattle.flux_driver.specs.declared.library.LibraryNode.{LibraryNode}
-use Rattle.flux_driver.specs.declared.library.LibraryNode.TheVariants as nodes
 use Rattle.flux_driver.specs.declared.declarations.Declared.{Declared}
 use Rattle.flux_driver.specs.declared.declarations.Line.{Line}
 use Rattle.flux_driver.specs.Library.{library_node, ins_of, outs_of}
-use Rattle.flux_driver.specs.FirstForm.{kind_word, HaveKinds, IsSignatureOf, IsFromLibrary, lines_of, has_name, AreNewAfter}
-use Rattle.flux_driver.specs.Reading.{◌>>=◌, skip, word_at, mark_at, no_name, name_at, param_at, next_param_at, more_params_at, params_at, side_at, signature_at, line_at, with_name, with_line, signed_at, sourced_at, declaration_at, at_end, declared_at}
+use Rattle.flux_driver.specs.FirstForm.{kind_word, HaveKinds, IsSignatureOf, IsFromLibrary, lines_of, AreNewAfter}
+use Rattle.flux_driver.specs.Reading.{param_at, more_params_at, params_at, side_at, signature_at, line_at, signed_at, sourced_at, declaration_at, at_end, declared_at}
 use Rattle.flux_driver.proofs.Steps.{Front, word_spelled, mark_spelled, name_spelled, name_free, front_of, spells_split, blanks_end, skip_over, word_first}
-use Rattle.flux_driver.proofs.Grammar.{more_tokens, tokens_more, bytes_same, bytes_differ, names_append, lines_append}
+use Rattle.flux_driver.proofs.Grammar.{more_tokens, tokens_more, bytes_same, names_append, lines_append}
 
 -- a reader found what follows, and what follows has P
 abbrev Found : Option (List ℕ) → (List ℕ → Type 0) → Type 0

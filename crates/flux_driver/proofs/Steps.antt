@@ -1,13 +1,12 @@
 -- Blanks, words and marks: what is read is spelled so, and what is spelled so is read.
-use Rattle.std.proofs.Common.{◌≡◌, ℕ, zero, suc, ◌+◌, ◌<◌, ◌≤◌, Bool, true, false, cond, ◌||◌, not, eqb, leb, ltb, List, [], ◌∷◌, ◌++◌, length, take, drop, Option, Some, None, IsTrue, Result, Ok, Err, IfOk, IfErr, refl, sym, ap, subst, ◌∙◌, arith, append_assoc, codes}
-use Rattle.std.specs.List.{prefix_len, starts_with, list_any, AllByRecursion}
-use Rattle.std.specs.Str.{bytes_eq}
+use Rattle.std.proofs.Common.{◌≡◌, ℕ, suc, ◌+◌, Bool, true, false, cond, eqb, List, [], ◌∷◌, ◌++◌, length, take, drop, Option, Some, None, IsTrue, Result, Ok, Err, IfOk, IfErr, refl, sym, ap, subst, ◌∙◌, arith}
+use Rattle.std.specs.List.{prefix_len, starts_with, AllByRecursion}
 use Rattle.std.proofs.Math.Numerals.{one-add}
-use Rattle.std.proofs.lemmas.Bool.{cond-true, or_parts, or_from, or_left, ltb-false, le-ltb, true≢false, cases_Bool}
+use Rattle.std.proofs.lemmas.Bool.{cond-true, or_parts, or_from, or_left, ltb-false, le-ltb}
 use Rattle.std.proofs.lemmas.Bool.Decides.{nat_tests, Decides-eqb}
 use Rattle.std.proofs.lemmas.Slice.Eq.{starts_is}
 use Rattle.std.proofs.lemmas.List.{take_at, drop_at, take-append-drop, append-nil, nil_from_length}
-use Rattle.flux_model.specs.Tokens.{Token, word, is_blank, is_word_start, is_word_byte, IsWord, reserved, IsIdentifier, bytes_of, EndsWord, EndsBefore, AreBlanks, BeginsWith, Spells}
+use Rattle.flux_model.specs.Tokens.{Token, word, is_blank, is_word_start, is_word_byte, IsWord, IsIdentifier, bytes_of, EndsWord, EndsBefore, AreBlanks, BeginsWith, Spells}
 use Rattle.flux_driver.specs.Reading.{◌>>=◌, skip, word_from, word_at, mark_at, no_name, name_at, at_end}
 
 -- ---- steps that did not fail

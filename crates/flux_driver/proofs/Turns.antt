@@ -1,7 +1,7 @@
 -- One turn of the reader of declarations.
-use Rattle.std.proofs.Common.{◌≡◌, ℕ, zero, suc, ◌+◌, ◌-◌, ◌<◌, ◌≤◌, Bool, true, false, List, length, Option, Some, None, refl, sym, ap, ◌∙◌, arith}
+use Rattle.std.proofs.Common.{◌≡◌, ℕ, zero, suc, ◌+◌, ◌-◌, ◌<◌, ◌≤◌, true, false, List, Option, Some, None, refl, sym, ◌∙◌, arith}
 use Rattle.flux_driver.specs.declared.declarations.Declared.{Declared}
-use Rattle.flux_driver.specs.Reading.{◌>>=◌, at_end, declaration_at, declared_at}
+use Rattle.flux_driver.specs.Reading.{at_end, declaration_at, declared_at}
 
 ended : (n : ℕ) (d : Declared) (text : List ℕ) → at_end text ≡ true → declared_at n d text ≡ Some d
 unfolding declared_at

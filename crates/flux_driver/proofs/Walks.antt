@@ -1,6 +1,6 @@
 -- The flows that are run are the walks of the program, whole and with the nodes' answers.
-use Rattle.std.proofs.Common.{◌≡◌, ℕ, zero, suc, ◌+◌, ◌<◌, ◌≤◌, Bool, true, false, cond, ◌||◌, eqb, List, [], ◌∷◌, ◌++◌, length, map, Option, Some, None, refl, sym, ap, subst, ◌∙◌, arith}
-use Rattle.std.specs.List.{AllByRecursion, slice_get, list_any}
+use Rattle.std.proofs.Common.{◌≡◌, ℕ, zero, suc, ◌+◌, ◌<◌, ◌≤◌, true, false, cond, eqb, List, [], ◌∷◌, ◌++◌, length, Some, refl, sym, ap, subst, ◌∙◌, arith}
+use Rattle.std.specs.List.{AllByRecursion, slice_get}
 use Rattle.std.specs.Str.{bytes_eq}
 use Rattle.std.proofs.lemmas.Bool.{ne_eqb}
 use Rattle.std.proofs.lemmas.Bool.Decides.{nat_tests}
@@ -11,14 +11,13 @@ use Rattle.flux_values.specs.declared.answers.Answer.{Answer}
 use Rattle.flux_values.specs.declared.answers.CallResult.{CallResult}
 use Rattle.flux_values.specs.declared.answers.CallResult.TheVariants as results
 use Rattle.flux_model.specs.declared.programs.Program.{Program}
-use Rattle.flux_model.specs.declared.programs.Node.{Node}
 use Rattle.flux_model.specs.declared.journals.Entry.{Entry}
 use Rattle.flux_model.specs.declared.journals.Event.{Event}
 use Rattle.flux_model.specs.declared.journals.Item.{Item}
 use Rattle.flux_model.specs.declared.journals.Journal.{Journal}
 use Rattle.flux_model.specs.Walk.{ended_by, flow_events, IsFinished}
 use Rattle.flux_model.specs.Serial.{entries_of, AreWalks}
-use Rattle.flux_model.specs.Events.{events_by, IsWholePath, IsWhole}
+use Rattle.flux_model.specs.Events.{events_by, IsWhole}
 use Rattle.flux_model.specs.Answers.{IsRight, AreAnswersRight}
 use Rattle.flux_model.specs.Declarations.{Declaration}
 use Rattle.flux_model.specs.ProgramOfText.{library_name, names_of, place_of, node_of, nodes_of, program_of}

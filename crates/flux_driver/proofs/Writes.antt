@@ -1,10 +1,8 @@
 -- Bytes written piece by piece.
-use Rattle.std.proofs.Common.{◌≡◌, ℕ, ◌+◌, ◌-◌, ◌<◌, ◌≤◌, List, [], ◌∷◌, ◌++◌, length, take, drop, Option, Some, None, Result, Ok, Err, refl, sym, ap, subst, ◌∙◌, arith, append_assoc}
+use Rattle.std.proofs.Common.{◌≡◌, ℕ, ◌≤◌, List, [], ◌++◌, length, take, drop, Option, Some, None, refl, sym, ap, ◌∙◌, arith, append_assoc}
 use Rattle.std.specs.Option.{option_map}
-use Rattle.std.proofs.lemmas.List.{append-nil, take-append-drop, nil_from_length, length-drop, length-take}
+use Rattle.std.proofs.lemmas.List.{append-nil, take-append-drop, nil_from_length}
 use Rattle.flux_outside.specs.Causes.{Rose}
-use Rattle.flux_outside.specs.Sinks.{gained}
-use Rattle.flux_outside.specs.declared.faults.Failed.{Failed}
 use Rattle.flux_driver.specs.Writing.{Gained, GainedPart}
 
 -- a front of the bytes has been written, and the rest is left

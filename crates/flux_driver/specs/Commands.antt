@@ -1,6 +1,5 @@
 -- What the program answers to its words, and what it prints.
-use Rattle.std.specs.Prelude.{◌≡◌, ℕ, ◌⊎◌, List, [], ◌∷◌, ◌++◌, Option, Some, IfSome, codes}
-use Rattle.std.specs.Option.{option_map}
+use Rattle.std.specs.Prelude.{◌≡◌, ℕ, ◌⊎◌, List, [], ◌∷◌, ◌++◌, Option, IfSome, codes}
 use Rattle.std.specs.Fmt.{decimal}
 use Rattle.flux_outside.specs.Stores.{file_of, FitsIn}
 use Rattle.flux_outside.specs.declared.stores.File.{File}

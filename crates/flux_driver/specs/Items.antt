@@ -1,5 +1,5 @@
 -- The items text: printed items of the one source, each on a line.
-use Rattle.std.specs.Prelude.{◌≡◌, ℕ, ◌+◌, ◌<◌, ◌≤◌, ◌⊎◌, List, [], ◌∷◌, ◌++◌, length, map, take, Option, Some, None, codes}
+use Rattle.std.specs.Prelude.{◌≡◌, ℕ, ◌+◌, ◌<◌, ◌≤◌, ◌⊎◌, List, [], ◌∷◌, ◌++◌, length, map, take, codes}
 use Rattle.std.specs.List.{AllByRecursion, flat_map}
 use Rattle.flux_values.specs.Values.{kind_of}
 use Rattle.flux_values.specs.Texts.{printed_value}

@@ -1,9 +1,7 @@
 -- What reading a text of the first form gives.
-use Rattle.std.specs.Prelude.{◌≡◌, ℕ, List, [], ◌∷◌}
-use Rattle.flux_model.specs.declared.programs.Program.{Program}
-use Rattle.flux_model.specs.declared.programs.Node.{Node}
+use Rattle.std.specs.Prelude.{◌≡◌, ℕ, List}
 use Rattle.flux_model.specs.Declarations.{Declaration}
-use Rattle.flux_model.specs.ProgramOfText.{names_of, place_of, nodes_of, program_of}
+use Rattle.flux_model.specs.ProgramOfText.{names_of, place_of, program_of}
 use Rattle.flux_driver.specs.declared.library.LibraryNode.{LibraryNode}
 use Rattle.flux_driver.specs.declared.declarations.Line.{Line}
 use Rattle.flux_driver.specs.declared.forms.Join.{Join}

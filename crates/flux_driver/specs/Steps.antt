@@ -1,7 +1,5 @@
 -- What the steps of `run` give.
-use Rattle.std.specs.Prelude.{◌≡◌, ℕ, ◌⊎◌, List, [], Result, Ok, Err}
-use Rattle.flux_values.specs.declared.values.Kind.{Kind}
-use Rattle.flux_model.specs.declared.programs.Program.{Program}
+use Rattle.std.specs.Prelude.{◌≡◌, ℕ, ◌⊎◌, List, Result, Ok, Err}
 use Rattle.flux_model.specs.declared.journals.Item.{Item}
 use Rattle.flux_model.specs.declared.journals.Journal.{Journal}
 use Rattle.flux_model.specs.Texts.{printed_journal}

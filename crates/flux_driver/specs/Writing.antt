@@ -1,5 +1,5 @@
 -- What a stream has gained.
-use Rattle.std.specs.Prelude.{◌≡◌, ℕ, ◌⊎◌, List, ◌++◌, Option, Some, None}
+use Rattle.std.specs.Prelude.{◌≡◌, ℕ, ◌⊎◌, List, ◌++◌, Option}
 use Rattle.std.specs.Option.{option_map}
 use Rattle.flux_outside.specs.Causes.{Rose}
 

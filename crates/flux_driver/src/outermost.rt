@@ -15,6 +15,7 @@ use std::alloc::Global;
 
 /// The outside world: the files that are named, the stream that is printed on, and the stream for lines about
 /// what went wrong.
+#[derive(Drop)]
 pub struct World<S: Store, O: Sink, E: Sink> {
     pub store: S,
     pub out: O,

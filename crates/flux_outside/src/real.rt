@@ -13,6 +13,7 @@ use std::io::{ErrorKind, Read, Write};
 use std::rt::Files;
 
 /// A stream of std, as standard output.
+#[derive(Drop)]
 pub struct RealSink<W> {
     stream: W,
     faults: u64,
@@ -43,6 +44,7 @@ impl<W: Write> Sink for RealSink<W> {
 }
 
 /// The files of the system.
+#[derive(Drop)]
 pub struct RealStore<R> {
     runtime: R,
     faults: u64,

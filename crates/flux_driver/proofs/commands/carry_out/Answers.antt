@@ -1,6 +1,3 @@
-use Rattle.flux_driver.specs.Items.{IsItemFault}
-use Rattle.std.proofs.Common.{◌≡◌, List, sym, subst}
-use Rattle.flux_values.specs.declared.values.Kind.{Kind}
 use Rattle.flux_driver.proofs.commands.carry_out.Goals as goal
 
 pub returns-in_ok-print_journal-in-Items-clause-fault : goal.returns-in_ok-print_journal-in-Items-clause-fault

@@ -1,4 +1,4 @@
-use Rattle.std.proofs.Common.{◌≡◌, List, [], sym, ◌∙◌, refl}
+use Rattle.std.proofs.Common.{[], refl}
 use Rattle.std.proofs.lemmas.Result.{err_from_is_err_and}
 use Rattle.flux_driver.proofs.Prepared.{unread_program, unread_items, has_text, has_program, static_settles, unread_settles, is_done, is_refused, settles}
 use Rattle.flux_driver.specs.Commands.{IsDone, IsAnswer}

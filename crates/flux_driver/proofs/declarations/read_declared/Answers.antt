@@ -1,4 +1,4 @@
-use Rattle.std.proofs.Common.{◌≡◌, sym, ◌∙◌, length, arith}
+use Rattle.std.proofs.Common.{sym, ◌∙◌, length}
 use Rattle.flux_driver.proofs.Turns.{turn_ended, turn_next, turn_none, turns_over}
 use Rattle.flux_driver.proofs.declarations.read_declared.Goals as goal
 use Rattle.flux_driver.proofs.declarations.read_declared.Goals.{then-is_at_end-2, else-is_at_end-2}

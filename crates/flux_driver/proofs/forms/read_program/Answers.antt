@@ -1,4 +1,4 @@
-use Rattle.std.proofs.Common.{◌≡◌, sym, ◌∙◌, arith}
+use Rattle.std.proofs.Common.{sym, ◌∙◌, arith}
 use Rattle.flux_driver.proofs.FormsRead.{few_names, ready, undeclared, unjoined, one_program}
 use Rattle.flux_driver.proofs.forms.read_program.Goals as goal
 

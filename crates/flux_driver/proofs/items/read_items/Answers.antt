@@ -1,4 +1,4 @@
-use Rattle.std.proofs.Common.{◌≡◌, ℕ, ◌<◌, List, false, eqb, sym, ap, refl, arith}
+use Rattle.std.proofs.Common.{◌≡◌, ℕ, ◌<◌, false, eqb, sym, ap, arith}
 use Rattle.std.proofs.lemmas.Bool.Decides.{nat_tests}
 use Rattle.std.proofs.lemmas.List.{take_rest}
 use Rattle.flux_driver.specs.declared.items.ItemsRead.TheVariants.{Fault}

@@ -1,4 +1,3 @@
-use Rattle.std.proofs.Common.{◌≡◌}
 use Rattle.flux_driver.proofs.ItemLines.{line_found, line_behind, line_inside, line_len}
 use Rattle.flux_driver.proofs.items.read_line.Goals as goal
 

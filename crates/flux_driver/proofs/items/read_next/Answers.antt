@@ -1,4 +1,4 @@
-use Rattle.std.proofs.Common.{◌≡◌, ap, ◌∙◌}
+use Rattle.std.proofs.Common.{ap, ◌∙◌}
 use denote.Enum.Bare.{sameb}
 use Rattle.flux_values.specs.contracts.values.Kind.{the_type}
 use Rattle.flux_driver.proofs.Strips.{behind, same_read, other_kind}

@@ -1,7 +1,7 @@
-use Rattle.std.proofs.Common.{◌≡◌, sym, refl}
+use Rattle.std.proofs.Common.{sym, refl}
 use Rattle.std.proofs.lemmas.List.{take_rest}
 use Rattle.flux_values.specs.declared.values.Kind.TheVariants.{Int}
-use Rattle.flux_driver.proofs.ValueLists.{SoFar, pushed, turn_found, turn_none, over_closed}
+use Rattle.flux_driver.proofs.ValueLists.{pushed, turn_found, turn_none, over_closed}
 use Rattle.flux_driver.proofs.items.read_values.Goals as goal
 
 pub returns-in-None-clause-only : goal.returns-in-None-clause-only

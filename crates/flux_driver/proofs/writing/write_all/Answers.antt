@@ -1,7 +1,7 @@
 use Rattle.std.proofs.Common.{arith}
 use Rattle.std.proofs.lemmas.Bool.Decides.{nat_tests}
 use Rattle.std.proofs.lemmas.List.{take_rest}
-use Rattle.flux_driver.proofs.Writes.{so_far_none, so_far_more, so_far_all, so_far_part, rose_later}
+use Rattle.flux_driver.proofs.Writes.{so_far_none, so_far_more, so_far_all}
 use Rattle.flux_driver.proofs.writing.write_all.Goals as goal
 
 pub loop-rest-init : goal.loop-rest-init

@@ -1,0 +1,4 @@
+Listen () => (int link, text words);
+Echo (int link, text words) => ();
+
+source Listen => Echo;
