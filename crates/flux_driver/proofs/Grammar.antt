@@ -74,7 +74,7 @@ more_read (k ∷ ks) text rest e =
       names = ((kind_name k, p.1), others.names);
       have = ap (λ (ws : List (List ℕ)). kind_word k ∷ ws) others.have;
       spelled = front_then (λ r. r ≡ rest) comma (word (kind_word k) ∷ word p.0 ∷ more_tokens others.params) b.0 text (mark_read comma text b.0 (λ r. tt) b.1)
-        (spells_then (Spells (more_tokens others.params) (λ r. r ≡ rest)) (word (kind_word k) ∷ word p.0 ∷ []) b.0 a.0 p.2 others.spelled);
+          (spells_then (Spells (more_tokens others.params) (λ r. r ≡ rest)) (word (kind_word k) ∷ word p.0 ∷ []) b.0 a.0 p.2 others.spelled);
     }
 
 params_read : (ks : List Kind) (text rest : List ℕ) → params_at ks text ≡ Some rest → Params param_tokens ks text rest
@@ -89,7 +89,7 @@ params_read (k ∷ ks) text rest e =
       names = ((kind_name k, p.1), others.names);
       have = ap (λ (ws : List (List ℕ)). kind_word k ∷ ws) others.have;
       spelled = subst (λ (ts : List Token). Spells ts (λ r. r ≡ rest) text) (sym (tokens_more first others.params))
-        (spells_then (Spells (more_tokens others.params) (λ r. r ≡ rest)) (word (kind_word k) ∷ word p.0 ∷ []) text a.0 p.2 others.spelled);
+          (spells_then (Spells (more_tokens others.params) (λ r. r ≡ rest)) (word (kind_word k) ∷ word p.0 ∷ []) text a.0 p.2 others.spelled);
     }
 
 -- parameters in parentheses
@@ -131,7 +131,7 @@ signature_read node name text rest e =
     let end : Spells last R right.behind = front_then R closing (semicolon ∷ []) c.0 right.behind right.close_front (front_then R semicolon [] rest c.0 (mark_read semicolon c.0 rest (λ r. tt) c.2) refl) in
     let outs_spelled : Spells (opening ∷ param_tokens outs) (Spells last R) b.0 = front_then (Spells last R) opening (param_tokens outs) right.inside b.0 right.open_front (spells_then (Spells last R) (param_tokens outs) right.inside right.behind right.params.spelled end) in
     let middle_spelled : Spells middle (Spells last R) left.behind = front_then (Spells last R) closing (arrow ∷ opening ∷ param_tokens outs) a.0 left.behind left.close_front
-      (front_then (Spells last R) arrow (opening ∷ param_tokens outs) b.0 a.0 (mark_read arrow a.0 b.0 (λ r. tt) b.1) outs_spelled) in
+    (front_then (Spells last R) arrow (opening ∷ param_tokens outs) b.0 a.0 (mark_read arrow a.0 b.0 (λ r. tt) b.1) outs_spelled) in
     let ins_spelled : Spells (param_tokens ins ++ middle) (Spells last R) left.inside = spells_join (Spells last R) (param_tokens ins) middle left.inside (spells_then (Spells middle (Spells last R)) (param_tokens ins) left.inside left.behind left.params.spelled middle_spelled) in
     record {
       ins = ins;
@@ -139,7 +139,7 @@ signature_read node name text rest e =
       names = (left.params.names, right.params.names);
       have = (left.params.have, right.params.have);
       spelled = λ front f. front_then R (word name) (opening ∷ ((param_tokens ins ++ middle) ++ last)) text front f
-        (front_then R opening ((param_tokens ins ++ middle) ++ last) left.inside text left.open_front (spells_join R (param_tokens ins ++ middle) last left.inside ins_spelled));
+          (front_then R opening ((param_tokens ins ++ middle) ++ last) left.inside text left.open_front (spells_join R (param_tokens ins ++ middle) last left.inside ins_spelled));
     }
 
 -- one declaration more
@@ -176,10 +176,10 @@ sourced_read d front text next rest f e =
       lines = refl;
       new = tt;
       spelled = front_then (λ r. r ≡ g.0) (word (codes "source")) (word a.0.0 ∷ arrow ∷ word c.0.0 ∷ semicolon ∷ []) text front f
-        (front_then (λ r. r ≡ g.0) (word a.0.0) (arrow ∷ word c.0.0 ∷ semicolon ∷ []) a.0.1 text x.0
-        (front_then (λ r. r ≡ g.0) arrow (word c.0.0 ∷ semicolon ∷ []) b.0 a.0.1 (mark_read arrow a.0.1 b.0 (λ r. tt) b.1)
-        (front_then (λ r. r ≡ g.0) (word c.0.0) (semicolon ∷ []) c.0.1 b.0 y.0
-        (front_then (λ r. r ≡ g.0) semicolon [] g.0 c.0.1 (mark_read semicolon c.0.1 g.0 (λ r. tt) g.1) refl))));
+          (front_then (λ r. r ≡ g.0) (word a.0.0) (arrow ∷ word c.0.0 ∷ semicolon ∷ []) a.0.1 text x.0
+          (front_then (λ r. r ≡ g.0) arrow (word c.0.0 ∷ semicolon ∷ []) b.0 a.0.1 (mark_read arrow a.0.1 b.0 (λ r. tt) b.1)
+          (front_then (λ r. r ≡ g.0) (word c.0.0) (semicolon ∷ []) c.0.1 b.0 y.0
+          (front_then (λ r. r ≡ g.0) semicolon [] g.0 c.0.1 (mark_read semicolon c.0.1 g.0 (λ r. tt) g.1) refl))));
     })
 
 signed_read : (d : Declared) (front name text : List ℕ) (next : Declared) (rest : List ℕ) → Front (word name) text front → signed_at d (name, text) ≡ Some (next, rest) → Declares d next front rest
@@ -240,7 +240,15 @@ pub record Declared_all (n : ℕ) (d total : Declared) (text : List ℕ) : Type 
 
 none_left : (n : ℕ) (d total : Declared) (text : List ℕ) → at_end text ≡ true → d ≡ total → Declared_all n d total text
 none_left n d total text end same = subst (λ (e : Declared). Declared_all n d e text) same (record {
-  declarations = []; named = tt; library = tt; names = sym (append-nil d.names); lines = sym (append-nil d.lines); new = tt; spelled = end_blanks text end; few = omega arith })
+  declarations = [];
+  named = tt;
+  library = tt;
+  names = sym (append-nil d.names);
+  lines = sym (append-nil d.lines);
+  new = tt;
+  spelled = end_blanks text end;
+  few = omega arith;
+})
 
 few_names : (x : Declaration) → length (names_of (x ∷ [])) ≤ 1
 few_names (signature name ins outs) = omega arith
@@ -267,6 +275,6 @@ declared_read (suc n) d total text e =
     elim (at_end text) as (λ t. at_end text ≡ t → cond t (Some d) (declaration_at d text >>= λ next. declared_at n next.0 next.1) ≡ Some total → Declared_all (suc n) d total text) [
       | true ↦ λ end h. none_left (suc n) d total text end (some_is d total h)
       | false ↦ λ end h.
-        let a = bind_some (declaration_at d text) (λ next. declared_at n next.0 next.1) total h in
-        one_more n d a.0.0 total text a.0.1 (declaration_read d text a.0.0 a.0.1 a.1) (declared_read n a.0.0 total a.0.1 a.2)
+          let a = bind_some (declaration_at d text) (λ next. declared_at n next.0 next.1) total h in
+          one_more n d a.0.0 total text a.0.1 (declaration_read d text a.0.0 a.0.1 a.1) (declared_read n a.0.0 total a.0.1 a.2)
     ] refl e

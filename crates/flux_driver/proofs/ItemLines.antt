@@ -108,16 +108,18 @@ pub line_taken : (p : Program) (kinds : List Kind) (text : List ℕ) (items : Li
     → ((w : Item) (t : List ℕ) → IsItem kinds w → rest ≡ item_line p w ++ t → w ≡ x)
     → ItemsSoFar p kinds text (items ++ x ∷ []) after (line + 1)
 line_taken p kinds text items rest after line x s is front one = record {
-    lines = s.lines ∙ ap (λ (t : List ℕ). flat_map (item_line p) items ++ t) front ∙ sym (flat_push p items x after);
-    each = each_push kinds items x s.each is;
-    place = ap (λ (n : ℕ). n + 1) (length-append items (x ∷ [])) ∙ omega (arith, s.place);
-    only = λ others behind each lines. step others behind each (s.only others behind each lines);
-  }
+  lines = s.lines ∙ ap (λ (t : List ℕ). flat_map (item_line p) items ++ t) front ∙ sym (flat_push p items x after);
+  each = each_push kinds items x s.each is;
+  place = ap (λ (n : ℕ). n + 1) (length-append items (x ∷ [])) ∙ omega (arith, s.place);
+  only = λ others behind each lines. step others behind each (s.only others behind each lines);
+}
   where
     -- the item that other items go on with is the one that was read
     longer : (others : List Item) (behind : List ℕ) → AllByRecursion (IsItem kinds) others → (w : Item) (ws : List Item) → w ≡ x → others ≡ items ++ w ∷ ws → rest ≡ item_line p w ++ (flat_map (item_line p) ws ++ behind) → Compared p kinds (items ++ x ∷ []) after others behind
-    longer others behind each w [] same list at_rest = inl (list ∙ ap (λ (y : Item). items ++ y ∷ []) same,
-      append_cancel_left (item_line p x) behind after (ap (λ (y : Item). item_line p y ++ behind) (sym same) ∙ sym at_rest ∙ front))
+    longer others behind each w [] same list at_rest = inl (
+      list ∙ ap (λ (y : Item). items ++ y ∷ []) same,
+      append_cancel_left (item_line p x) behind after (ap (λ (y : Item). item_line p y ++ behind) (sym same) ∙ sym at_rest ∙ front),
+    )
     longer others behind each w (v ∷ vs) same list at_rest = inr (inr (record {
       next = v;
       more = vs;
@@ -128,7 +130,12 @@ line_taken p kinds text items rest after line x s is front one = record {
 
     step : (others : List Item) (behind : List ℕ) → AllByRecursion (IsItem kinds) others → Compared p kinds items rest others behind → Compared p kinds (items ++ x ∷ []) after others behind
     step others behind each (inl same) = inr (inl (record {
-      next = x; more = []; is_item = is; list = ap (λ (l : List Item). l ++ x ∷ []) (sym same.0); text = same.1 ∙ front }))
+      next = x;
+      more = [];
+      is_item = is;
+      list = ap (λ (l : List Item). l ++ x ∷ []) (sym same.0);
+      text = same.1 ∙ front;
+    }))
     step others behind each (inr (inl g)) = inr (inl (record {
       next = g.next;
       more = g.more ++ x ∷ [];

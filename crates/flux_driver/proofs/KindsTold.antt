@@ -16,4 +16,3 @@ kinds_decide Bool Int = (λ e. absurd (false≢true e), λ e. cc)
 kinds_decide Bool Text = (λ e. absurd (false≢true e), λ e. cc)
 kinds_decide Text Int = (λ e. absurd (false≢true e), λ e. cc)
 kinds_decide Text Bool = (λ e. absurd (false≢true e), λ e. cc)
-

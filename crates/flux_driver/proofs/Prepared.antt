@@ -121,11 +121,11 @@ IsOnly text ready = (ds : List Declaration) → IsFirstForm text ds → (ready.p
 module _ (words : List (List ℕ)) (file items text : List ℕ) (names : AreNames words file items) (ready : Ready) (is_ready : IsReady text ready) where
   abbrev pub has_program : (told : Files) → Gives told file 2097152 (Found text) → HasProgram words told
   has_program told gives = record {
-      text = text;
-      has = has_text words file items text names told gives;
-      program = ready.program;
-      is = record { declarations = is_ready.declarations; form = is_ready.form; is = is_ready.is };
-    }
+    text = text;
+    has = has_text words file items text names told gives;
+    program = ready.program;
+    is = record { declarations = is_ready.declarations; form = is_ready.form; is = is_ready.is };
+  }
 
   pub fits : outs_of ready.join.from ≡ ins_of ready.join.to
   fits = is_ready.join.joined.fits
@@ -135,10 +135,10 @@ module _ (words : List (List ℕ)) (file items text : List ℕ) (names : AreName
 
   abbrev pub has_items : (told : Files) (items_text : List ℕ) → Gives told file 2097152 (Found text) → Gives told items 16777216 (Found items_text) → HasItems words told
   has_items told items_text gives more = record {
-      source = has_program told gives;
-      text = items_text;
-      gives = subst (λ (n : List ℕ). Gives told n 16777216 (Found items_text)) (sym names.second) more;
-    }
+    source = has_program told gives;
+    text = items_text;
+    gives = subst (λ (n : List ℕ). Gives told n 16777216 (Found items_text)) (sym names.second) more;
+  }
 
   pub is_done : (told : Files) (items_text printed : List ℕ) → Gives told file 2097152 (Found text) → Gives told items 16777216 (Found items_text) → IsPrinted ready items_text printed → IsDone words told printed []
   is_done told items_text printed gives more p =
@@ -156,12 +156,12 @@ module _ (words : List (List ℕ)) (file items text : List ℕ) (names : AreName
 
   pub is_refused : (told : Files) (items_text : List ℕ) (refusal : Refusal) → Gives told file 2097152 (Found text) → Gives told items 16777216 (Found items_text) → AreRefused ready items_text refusal → IsAnswer words told (status_of refusal) [] (line_of refusal)
   is_refused told items_text (refusals.Items place) gives more r = record {
-      has = has_items told items_text gives more;
-      place = place;
-      fault = subst (λ (n : LibraryNode). IsItemFault ready.program (outs_of n) place items_text) (sym own_from) r;
-      none = refl;
-      said = refl;
-    }
+    has = has_items told items_text gives more;
+    place = place;
+    fault = subst (λ (n : LibraryNode). IsItemFault ready.program (outs_of n) place items_text) (sym own_from) r;
+    none = refl;
+    said = refl;
+  }
   is_refused told items_text refusals.Memory gives more r = (refl, refl)
   is_refused told items_text refusals.Usage gives more r = absurd r
   is_refused told items_text refusals.Static gives more r = absurd r
@@ -219,15 +219,15 @@ module _ (words : List (List ℕ)) (file items text : List ℕ) (names : AreName
     their_items files gives more h its are =
         let same = same_program files gives h.source in
         subst (λ (x : List ℕ). AreItemsOf ready.program (outs_of ready.join.from) its x) (same_items_text files more h)
-          (subst (λ (n : LibraryNode). AreItemsOf ready.program (outs_of n) its h.text) same.1
-            (subst (λ (p : Program). AreItemsOf p (outs_of h.source.is.form.from) its h.text) same.0 are))
+        (subst (λ (n : LibraryNode). AreItemsOf ready.program (outs_of n) its h.text) same.1
+        (subst (λ (p : Program). AreItemsOf p (outs_of h.source.is.form.from) its h.text) same.0 are))
 
     their_fault : (files : List ℕ → Option (List ℕ)) → Gives (Some files) file 2097152 (Found text) → Gives (Some files) items 16777216 (Found items_text) → (h : HasItems words (Some files)) (place : ℕ) → IsItemFault h.source.program (outs_of h.source.is.form.from) place h.text → IsItemFault ready.program (outs_of ready.join.from) place items_text
     their_fault files gives more h place is =
         let same = same_program files gives h.source in
         subst (λ (x : List ℕ). IsItemFault ready.program (outs_of ready.join.from) place x) (same_items_text files more h)
-          (subst (λ (n : LibraryNode). IsItemFault ready.program (outs_of n) place h.text) same.1
-            (subst (λ (p : Program). IsItemFault p (outs_of h.source.is.form.from) place h.text) same.0 is))
+        (subst (λ (n : LibraryNode). IsItemFault ready.program (outs_of n) place h.text) same.1
+        (subst (λ (p : Program). IsItemFault p (outs_of h.source.is.form.from) place h.text) same.0 is))
 
     carried_settles : (files : List ℕ → Option (List ℕ)) (before after : ℕ) (status : Status) → Gives (Some files) file 2097152 (Found text) → Gives (Some files) items 16777216 (Found items_text)
         → ((its : List Item) → AreItemsOf ready.program (outs_of ready.join.from) its items_text → Settles status statuses.Done before after)
@@ -259,8 +259,8 @@ module _ (words : List (List ℕ)) (file items text : List ℕ) (names : AreName
         carried_settles files before after statuses.Done gives more (λ its are. inl refl) (λ place is. absurd (if_fault place is))
     settles (Some files) before after (Err refusal) gives more refused if_items if_fault =
         carried_settles files before after (status_of refusal) gives more
-          (λ its are. inr (inl (ap status_of (if_items its are))))
-          (λ place is. refused_items refusal refused)
+        (λ its are. inr (inl (ap status_of (if_items its are))))
+        (λ place is. refused_items refusal refused)
       where
         refused_items : (r : Refusal) → AreRefused ready items_text r → Settles (status_of r) statuses.Items before after
         refused_items (refusals.Items place) h = inl refl

@@ -72,7 +72,7 @@ signature_spelled P node ins outs text ins_names outs_names ins_have outs_have s
     let L : List ℕ → Type 0 = Spells last P in
     let inner : Spells (param_tokens ins) (Spells middle L) s.rest = spells_split L (param_tokens ins) middle s.rest (spells_split P (param_tokens ins ++ middle) last s.rest s.after) in
     let left : BeginsWith opening (Spells (param_tokens ins) (Spells (closing ∷ []) (Spells (arrow ∷ opening ∷ param_tokens outs) L))) text =
-      record { blanks = s.blanks; rest = s.rest; are_blanks = s.are_blanks; is = s.is; ends = s.ends; after = inner } in
+    record { blanks = s.blanks; rest = s.rest; are_blanks = s.are_blanks; is = s.is; ends = s.ends; after = inner } in
     let a = side_spelled (Spells (arrow ∷ opening ∷ param_tokens outs) L) (ins_of node) ins text ins_names ins_have left in
     let m = mark_spelled arrow a.0 a.2.rest refl (front_of (Spells (opening ∷ param_tokens outs) L) arrow a.0 a.2) in
     let b = side_spelled (Spells (semicolon ∷ []) P) (outs_of node) outs a.2.rest outs_names outs_have a.2.after in
@@ -102,8 +102,8 @@ declaration_spelled P d (signature name ins outs) text named library new s =
     elim (library_node (library_name name)) as (λ o. library_node (library_name name) ≡ o → IsSignatureOf o ins outs → (rest : List ℕ) × (declaration_at d text ≡ Some (with_all d (signature name ins outs ∷ []), rest)) × P rest) [
       | None ↦ λ is h. absurd h
       | Some node ↦ λ is h.
-        let a = signature_spelled P node ins outs s.rest named.1 named.2 h.0 h.1 s.after in
-        (a.0, rw (w, name_free name named.0, not_source name named.0, new.0, is, a.1) (ap (λ (ls : List Line). Some (record { names = d.names ++ name ∷ []; lines = ls }, a.0)) (sym (append-nil d.lines))), a.2)
+          let a = signature_spelled P node ins outs s.rest named.1 named.2 h.0 h.1 s.after in
+          (a.0, rw (w, name_free name named.0, not_source name named.0, new.0, is, a.1) (ap (λ (ls : List Line). Some (record { names = d.names ++ name ∷ []; lines = ls }, a.0)) (sym (append-nil d.lines))), a.2)
     ] refl library
 
 -- a text that begins with a word isn't at its end

@@ -23,7 +23,6 @@ pub when_some : {A : Type 0} (b : Bool) (o : Option A) (y : A) → cond b o None
 when_some true o y e = (refl, e)
 when_some false o y e = absurd cc
 
-
 pub some_is : {A : Type 0} (x y : A) → ◌≡◌ {A = Option A} (Some x) (Some y) → x ≡ y
 some_is x y e = cc
 

@@ -93,10 +93,10 @@ next_is kinds text vs at i k d ws rest s lt is are spelled =
     let others = drop (i + 1) ws in
     let split : ws ≡ vs ++ w ∷ others = sym (take-append-drop i ws) ∙ ap (λ (l : List Value). l ++ drop i ws) (s.only ws rest are spelled) ∙ ap (λ (l : List Value). vs ++ l) (drop_more ws i (values.Bool Rattle.std.specs.Prelude.true) long) in
     let whole : text ≡ listed vs ++ (separator vs ++ (printed_value w ++ (more others ++ (codes ")\n" ++ rest)))) =
-      spelled ∙ append_assoc (listed ws) (codes ")\n") rest ∙ ap (λ (l : List Value). listed l ++ (codes ")\n" ++ rest)) split ∙ ap (λ (t : List ℕ). t ++ (codes ")\n" ++ rest)) (listed_next vs w others)
-      ∙ append_assoc (listed vs) (separator vs ++ (printed_value w ++ more others)) (codes ")\n" ++ rest)
-      ∙ ap (λ (t : List ℕ). listed vs ++ t) (append_assoc (separator vs) (printed_value w ++ more others) (codes ")\n" ++ rest)
-      ∙ ap (λ (t : List ℕ). separator vs ++ t) (append_assoc (printed_value w) (more others) (codes ")\n" ++ rest))) in
+    spelled ∙ append_assoc (listed ws) (codes ")\n") rest ∙ ap (λ (l : List Value). listed l ++ (codes ")\n" ++ rest)) split ∙ ap (λ (t : List ℕ). t ++ (codes ")\n" ++ rest)) (listed_next vs w others)
+    ∙ append_assoc (listed vs) (separator vs ++ (printed_value w ++ more others)) (codes ")\n" ++ rest)
+    ∙ ap (λ (t : List ℕ). listed vs ++ t) (append_assoc (separator vs) (printed_value w ++ more others) (codes ")\n" ++ rest)
+    ∙ ap (λ (t : List ℕ). separator vs ++ t) (append_assoc (printed_value w) (more others) (codes ")\n" ++ rest))) in
     record {
       value = w;
       behind = more others ++ (codes ")\n" ++ rest);
@@ -127,18 +127,18 @@ pub turn_found : (kinds : List Kind) (text : List ℕ) (vs : List Value) (at i n
     → ((value : Value) (rest : List ℕ) → IsValue value → kind_of value ≡ k → EndsBefore value rest → drop at text ≡ mark ++ (printed_value value ++ rest) → ◌≡◌ {A = Option (Value × ℕ)} (Some (v, n)) (Some (value, length mark + length (printed_value value))))
     → SoFar kinds text (vs ++ v ∷ []) (at + n) (i + 1)
 turn_found kinds text vs at i n k d mark v s lt is m next only = record {
-    within = omega (arith, s.within, next.within, length-drop at text);
-    read = taken_on at n text (listed vs) (mark ++ printed_value v) s.within next.within s.read next.spelled ∙ ap (λ (t : List ℕ). listed vs ++ (t ++ printed_value v)) m ∙ sym (listed_push vs v);
-    count = length-append vs (v ∷ []) ∙ omega (arith, s.count);
-    have = map-append kind_of vs (v ∷ []) ∙ ap (λ (ks : List Kind). ks ++ kind_of v ∷ []) s.have ∙ ap (λ (j : Kind). take i kinds ++ j ∷ []) (next.fits ∙ is) ∙ sym (take_more kinds i d lt);
-    each = each_push vs v s.each next.value;
-    only = λ ws rest are spelled.
+  within = omega (arith, s.within, next.within, length-drop at text);
+  read = taken_on at n text (listed vs) (mark ++ printed_value v) s.within next.within s.read next.spelled ∙ ap (λ (t : List ℕ). listed vs ++ (t ++ printed_value v)) m ∙ sym (listed_push vs v);
+  count = length-append vs (v ∷ []) ∙ omega (arith, s.count);
+  have = map-append kind_of vs (v ∷ []) ∙ ap (λ (ks : List Kind). ks ++ kind_of v ∷ []) s.have ∙ ap (λ (j : Kind). take i kinds ++ j ∷ []) (next.fits ∙ is) ∙ sym (take_more kinds i d lt);
+  each = each_push vs v s.each next.value;
+  only = λ ws rest are spelled.
       let h = next_is kinds text vs at i k d ws rest s lt is are spelled in
       let same = only h.value h.behind h.is_value h.kind h.ends (h.spelled ∙ ap (λ (t : List ℕ). t ++ (printed_value h.value ++ h.behind)) (sym m)) in
       let pair : ◌≡◌ {A = Value × ℕ} (v, n) (h.value, length mark + length (printed_value h.value)) = some_is (v, n) (h.value, length mark + length (printed_value h.value)) same in
       let one : v ≡ h.value = ap (λ (p : Value × ℕ). p.0) pair in
       h.taken ∙ ap (λ (x : Value). vs ++ x ∷ []) (sym one);
-  }
+}
 
 -- read_next found none
 pub turn_none : (kinds : List Kind) (text : List ℕ) (vs : List Value) (at i : ℕ) (k d : Kind) (mark : List ℕ) → SoFar kinds text vs at i → i < length kinds → k ≡ get_or kinds i d → mark ≡ separator vs

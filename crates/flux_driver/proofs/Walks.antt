@@ -95,10 +95,13 @@ module _ (names : List (List ℕ)) (join : Join) (target : List ℕ)
   are_walks : (kinds : List Kind) (n : ℕ) (items : List Item) → AllByRecursion (IsItem kinds) items → AreWalks program n items (flows_of join n items)
   are_walks kinds n [] all = refl
   are_walks kinds n (item ∷ items) all =
-      let answer = answer_of join.to item.values in
-      (answer ∷ [], flows_of join (suc n) items, finished kinds item answer all.0,
-       ap (λ (es : List Event). entries_of n es ++ flows_of join (suc n) items) (sym (walked kinds item answer all.0)),
-       are_walks kinds (suc n) items all.1)
+      let answer = answer_of join.to item.values in (
+        answer ∷ [],
+        flows_of join (suc n) items,
+        finished kinds item answer all.0,
+        ap (λ (es : List Event). entries_of n es ++ flows_of join (suc n) items) (sym (walked kinds item answer all.0)),
+        are_walks kinds (suc n) items all.1,
+      )
 
   are_right : (n : ℕ) (items : List Item) → AllByRecursion (λ (entry : Entry). IsRight answering program entry.event) (flows_of join n items)
   are_right n [] = tt
@@ -107,13 +110,13 @@ module _ (names : List (List ℕ)) (join : Join) (target : List ℕ)
   whole : (kinds : List Kind) (items : List Item) (journal : Journal) → AllByRecursion (IsItem kinds) items → journal.entries ≡ flows_of join 0 items → IsWhole program items journal
   whole kinds items journal all is = record {
     paths = λ flow item at.
-      let events : events_by flow journal.entries ≡ item_path join item = ap (events_by flow) is ∙ events_at join flow 0 flow items item at (omega arith) in
-      let one = all_at (IsItem kinds) items flow item at all in
-      let answer = answer_of join.to item.values in
-      record {
-        finished = rw events (finished kinds item answer one);
-        all = rw events (sym (walked kinds item answer one));
-      };
+        let events : events_by flow journal.entries ≡ item_path join item = ap (events_by flow) is ∙ events_at join flow 0 flow items item at (omega arith) in
+        let one = all_at (IsItem kinds) items flow item at all in
+        let answer = answer_of join.to item.values in
+        record {
+          finished = rw events (finished kinds item answer one);
+          all = rw events (sym (walked kinds item answer one));
+        };
     flows = rw is (flows_within join (length items) 0 items (omega arith));
   }
 

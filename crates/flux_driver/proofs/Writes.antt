@@ -25,11 +25,11 @@ gained_twice (Some written) mid after a b first second = second ∙ ap (option_m
 
 pub so_far_more : (before mid after : Option (List ℕ)) (count m later : ℕ) (bytes rest : List ℕ) (n : ℕ) → SoFar before mid count m bytes rest → Gained mid after (take n rest) → m ≤ later → SoFar before after count later bytes (drop n rest)
 so_far_more before mid after count m later bytes rest n s more le = record {
-    done = s.done ++ take n rest;
-    split = s.split ∙ ap (λ (l : List ℕ). s.done ++ l) (sym (take-append-drop n rest)) ∙ sym (append_assoc s.done (take n rest) (drop n rest));
-    gains = gained_twice before mid after s.done (take n rest) s.gains more;
-    rises = omega (arith, s.rises, le);
-  }
+  done = s.done ++ take n rest;
+  split = s.split ∙ ap (λ (l : List ℕ). s.done ++ l) (sym (take-append-drop n rest)) ∙ sym (append_assoc s.done (take n rest) (drop n rest));
+  gains = gained_twice before mid after s.done (take n rest) s.gains more;
+  rises = omega (arith, s.rises, le);
+}
 
 pub so_far_all : (before after : Option (List ℕ)) (count later : ℕ) (bytes rest : List ℕ) → SoFar before after count later bytes rest → length rest ≡ 0 → Gained before after bytes
 so_far_all before after count later bytes rest s none =
@@ -38,11 +38,11 @@ so_far_all before after count later bytes rest s none =
 
 pub so_far_part : (before mid after : Option (List ℕ)) (count m : ℕ) (bytes rest : List ℕ) → SoFar before mid count m bytes rest → Gained mid after [] → GainedPart before after bytes
 so_far_part before mid after count m bytes rest s none = record {
-    front = s.done ++ [];
-    rest = rest;
-    is = rw (append-nil s.done) s.split;
-    gained = gained_twice before mid after s.done [] s.gains none;
-  }
+  front = s.done ++ [];
+  rest = rest;
+  is = rw (append-nil s.done) s.split;
+  gained = gained_twice before mid after s.done [] s.gains none;
+}
 
 pub rose_later : (before mid after : ℕ) → before ≤ mid → Rose mid after → Rose before after
 rose_later before mid after le rose = omega (arith, le, rose)

@@ -140,7 +140,7 @@ pub fn print<O: Sink, E: Sink>(out: &mut O, err: &mut E, text: &[u8]) -> Status
     ensures later { (O.faults out.old ≤ O.faults out.new) × (E.faults err.old ≤ E.faults err.new) }
     ensures printed { ((result ≡ Status.Done) × Gained (O.written out.old) (O.written out.new) text.now × Gained (E.written err.old) (E.written err.new) [])
         ⊎ ((result ≡ Status.Write) × Failed (O.written out.old) (O.written out.new) (O.faults out.old) (O.faults out.new) text.now
-            × GainedOrFailed (E.written err.old) (E.written err.new) (E.faults err.old) (E.faults err.new) write_line) }
+        × GainedOrFailed (E.written err.old) (E.written err.new) (E.faults err.old) (E.faults err.new) write_line) }
 {
     match write_all(out, text) {
         Ok(()) => Status::Done,

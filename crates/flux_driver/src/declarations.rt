@@ -325,5 +325,9 @@ pub fn read_declared(alloc: Global, text: &[u8]) -> Result<Option<Declared>, Mem
             None => return Ok(None),
         }
     }
-    Ok(if is_at_end(rest) { Some(declared) } else { None })
+    Ok(if is_at_end(rest) {
+        Some(declared)
+    } else {
+        None
+    })
 }

@@ -7,7 +7,7 @@ ghost use Rattle.flux_driver.specs.FirstForm.{has_name, lines_of, IsFirstForm};
 ghost use Rattle.flux_driver.specs.Joins.{IsJoin, JoinsNone, IsReady};
 ghost use Rattle.flux_driver.specs.Library.{is_source, ins_of, outs_of};
 
-use crate::declarations::{Declared, has_name, library_name, read_declared, copy_name};
+use crate::declarations::{Declared, copy_name, has_name, library_name, read_declared};
 use crate::library::LibraryNode;
 use flux_model::{Body, Node, NodeNo, Program, SourceLine};
 use flux_values::{Kind, List, Memory, TextBytes};
@@ -71,7 +71,11 @@ fn find_join(declared: &Declared) -> Option<Join>
         from: LibraryNode::named(library_name(source))?,
         to: LibraryNode::named(library_name(target))?,
     };
-    if fits(join.from, join.to) { Some(join) } else { None }
+    if fits(join.from, join.to) {
+        Some(join)
+    } else {
+        None
+    }
 }
 
 /// Whether a source gives what another node takes.
@@ -102,10 +106,10 @@ fn nodes_of(alloc: Global, names: &[TextBytes]) -> Result<List<Node>, Memory>
 
 fn program_of(alloc: Global, declared: &Declared, join: Join) -> Result<Program, Memory>
     ensures { IfOk result (λ p. p ≡ record {
-        classes = [];
-        nodes = nodes_of declared.now.names;
-        sources = record { node = join.source; target = join.target; session = None } ∷ [];
-        predicates = [];
+      classes = [];
+      nodes = nodes_of declared.now.names;
+      sources = record { node = join.source; target = join.target; session = None } ∷ [];
+      predicates = [];
     }) }
 {
     let mut sources = List::new(alloc);

@@ -103,7 +103,11 @@ fn read_values(
 fn separator(values: &List<Value>) -> &'static [u8]
     ensures { result.now ≡ separator values.now }
 {
-    if values.as_slice().is_empty() { b"" } else { b", " }
+    if values.as_slice().is_empty() {
+        b""
+    } else {
+        b", "
+    }
 }
 
 /// The values of a printed item of the source with this name, and how many bytes its line is.

@@ -14,6 +14,8 @@ mod printing;
 mod refusals;
 mod running;
 mod statuses;
+#[cfg(test)]
+mod tests;
 mod writing;
 
 pub use outermost::{World, top};

@@ -7,7 +7,7 @@ ghost use Rattle.flux_values.specs.Texts.{printed_value, printed_text};
 ghost use Rattle.flux_model.specs.Texts.{node_name, class_name, printed_values, comma_separated, printed_key, printed_session, printed_mode, printed_result, printed_put, printed_change, printed_emission, printed_call, printed_exit, printed_end, printed_event, printed_entry, printed_journal};
 
 use flux_model::{
-    CallMade, ClassNo, Entry, Event, Journal, Key, Mode, NodeNo, Outcome, Program, Put, CallResult,
+    CallMade, CallResult, ClassNo, Entry, Event, Journal, Key, Mode, NodeNo, Outcome, Program, Put,
 };
 use flux_values::{Bytes, List, Memory, Value, append_number, append_text, append_value};
 use std::alloc::Global;

@@ -33,9 +33,9 @@ loop-line-preserved c =
     let name = c.source_name-name.result.now in
     let added = pushed c.push.result (sym c.if-is_err.ensures.value) c.push.ensures.added in
     rw (added, take_rest) (line_taken p c.args.kinds.now c.args.text.now c.loop-line.items c.loop-line.rest.now _ c.loop-line.line (item_of c.in-Some.values) c.loop-line.invariant
-      (is_item c.args.kinds.now c.in-Some.values read.found.values)
-      (line_item p c.args.kinds.now name c.loop-line.rest.now c.in-Some.values c.in-Some.length c.source_name-name.ensures read.found)
-      (one_item p c.args.kinds.now name c.loop-line.rest.now c.in-Some.values c.in-Some.length c.source_name-name.ensures read.only))
+    (is_item c.args.kinds.now c.in-Some.values read.found.values)
+    (line_item p c.args.kinds.now name c.loop-line.rest.now c.in-Some.values c.in-Some.length c.source_name-name.ensures read.found)
+    (one_item p c.args.kinds.now name c.loop-line.rest.now c.in-Some.values c.in-Some.length c.source_name-name.ensures read.only))
 
 -- the 65th line
 pub returns-else-is_empty-2-clause-items : goal.returns-else-is_empty-2-clause-items

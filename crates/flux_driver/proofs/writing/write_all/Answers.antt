@@ -12,8 +12,8 @@ loop-rest-preserved g c =
     let rest = c.loop-rest.rest.now in
     let n = c.in-Ok.count in
     rw (take_rest rest n)
-      (so_far_more (g.O.Sink.written c.args.out.now) (g.O.Sink.written c.loop-rest.out) (g.O.Sink.written c.write.new.self) (g.O.Sink.faults c.args.out.now) (g.O.Sink.faults c.loop-rest.out) (g.O.Sink.faults c.write.new.self)
-        c.args.bytes.now rest n c.loop-rest.invariant c.in-Ok.ensures.bytes c.in-Ok.ensures.cause.later)
+    (so_far_more (g.O.Sink.written c.args.out.now) (g.O.Sink.written c.loop-rest.out) (g.O.Sink.written c.write.new.self) (g.O.Sink.faults c.args.out.now) (g.O.Sink.faults c.loop-rest.out) (g.O.Sink.faults c.write.new.self)
+    c.args.bytes.now rest n c.loop-rest.invariant c.in-Ok.ensures.bytes c.in-Ok.ensures.cause.later)
 
 pub returns-clause-later : goal.returns-clause-later
 returns-clause-later g c = c.loop-rest.invariant.rises

@@ -1,0 +1,415 @@
+//! The worked rows of the command line, over a world in memory.
+
+ghost use Rattle.std.specs.Prelude.{◌<◌};
+
+use super::{Status, World, top};
+use flux_outside::{FileBytes, MemorySink, MemoryStore};
+use flux_values::{Bytes, List, Memory};
+use std::alloc::Global;
+use std::process::Abort;
+use std::test::Fail;
+
+const ECHO: &str =
+    "Listen () => (int link, text words);\nEcho (int link, text words) => ();\nsource Listen => Echo;\n";
+
+const TICK: &str = "Tick () => (int n);\nPass (int n) => (int n);\nsource Tick => Pass;\n";
+
+const ECHOED: &str =
+    "0 enter Echo\n0 call Echo (1, \"hi\") ok () emits \"hi\"\n0 exit Echo ok\n0 end done\n";
+
+const USAGE: &str = "flux: bad command line, try flux --help\n";
+
+/// How many bytes the sinks have room for.
+const ROOM: usize = 16_384;
+
+type Memories = World<MemoryStore, MemorySink, MemorySink>;
+
+/// A command over the two files `program` and `items`.
+#[derive(Clone, Copy)]
+struct Case {
+    words: &'static [&'static str],
+    program: &'static str,
+    items: &'static str,
+    status: Status,
+    out: &'static str,
+    err: &'static str,
+}
+
+fn run_of(
+    program: &'static str,
+    items: &'static str,
+    status: Status,
+    out: &'static str,
+    err: &'static str,
+) -> Case {
+    Case {
+        words: &["run", "program", "items"],
+        program,
+        items,
+        status,
+        out,
+        err,
+    }
+}
+
+fn words_of(alloc: Global, words: &[&str]) -> Result<List<Bytes>, Memory> {
+    let mut list = List::new(alloc);
+    for word in words {
+        if list.push(Bytes::copy(alloc, word.as_bytes())?).is_err() {
+            return Err(Memory);
+        }
+    }
+    Ok(list)
+}
+
+fn failing(alloc: Global, call: u64) -> Result<List<u64>, Memory> {
+    let mut fails = List::new(alloc);
+    if call > 0 && fails.push(call).is_err() {
+        return Err(Memory);
+    }
+    Ok(fails)
+}
+
+fn store_of(
+    alloc: Global,
+    program: &[u8],
+    items: &[u8],
+    fails: u64,
+) -> Result<MemoryStore, Memory> {
+    let program = FileBytes {
+        name: Bytes::copy(alloc, b"program")?,
+        body: Bytes::copy(alloc, program)?,
+    };
+    let items = FileBytes {
+        name: Bytes::copy(alloc, b"items")?,
+        body: Bytes::copy(alloc, items)?,
+    };
+    let mut files = List::new(alloc);
+    if files.push(program).is_err() || files.push(items).is_err() {
+        return Err(Memory);
+    }
+    Ok(MemoryStore::new(files, failing(alloc, fails)?))
+}
+
+/// A sink that takes `piece` bytes a call, and whose call `fails` fails; 0 stands for none.
+fn sink_of(alloc: Global, piece: usize, fails: u64) -> Result<MemorySink, Memory>
+    requires { 0 < piece }
+{
+    MemorySink::new(alloc, ROOM, piece, failing(alloc, fails)?)
+}
+
+/// A world with these files, in which no call fails.
+fn world_with(alloc: Global, program: &[u8], items: &[u8]) -> Result<Memories, Memory> {
+    Ok(World {
+        store: store_of(alloc, program, items, 0)?,
+        out: sink_of(alloc, ROOM, 0)?,
+        err: sink_of(alloc, ROOM, 0)?,
+    })
+}
+
+fn assert_case(rt: &impl Abort, case: &Case, status: Status, out: &[u8], err: &[u8]) {
+    assert_eq!(rt; status, case.status, "on {:?}", case.program);
+    assert_eq!(rt; out, case.out.as_bytes(), "on {:?}", case.program);
+    assert_eq!(rt; err, case.err.as_bytes(), "on {:?}", case.program);
+}
+
+#[test]
+fn commands_answer_as_their_rows(rt: HostRuntime) -> Result<(), Fail> {
+    let alloc = rt.alloc();
+    let not_built = "1:1: fault 0 NotBuilt\n";
+    let cases = [
+        run_of(ECHO, "Listen (1, \"hi\")\n", Status::Done, ECHOED, ""),
+        run_of(
+            TICK,
+            "Tick (7)\nTick (-12)\n",
+            Status::Done,
+            "0 enter Pass\n0 call Pass (7) ok (7)\n0 exit Pass ok\n0 end done\n1 enter Pass\n1 call Pass (-12) ok (-12)\n1 exit Pass ok\n1 end done\n",
+            "",
+        ),
+        run_of(
+            "Tick_a () => (int n);\nShow_b (int n) => ();\nsource Tick_a => Show_b;",
+            "Tick_a (3)\n",
+            Status::Done,
+            "0 enter Show_b\n0 call Show_b (3) ok () emits \"3\\n\"\n0 exit Show_b ok\n0 end done\n",
+            "",
+        ),
+        run_of(
+            "Tick () => (int n);\nPass (int n) => (int n);\nsource Tick => Pass;\natomic Pass:{x};\n",
+            "Tick (1)\n",
+            Status::Static,
+            "",
+            not_built,
+        ),
+        run_of(
+            "Tick () => (int n);\nsource Tick => Pass;\n",
+            "Tick (1)\n",
+            Status::Static,
+            "",
+            not_built,
+        ),
+        run_of(
+            "Listen () => (int l, text w);\nPass (int n) => (int n);\nsource Listen => Pass;\n",
+            "",
+            Status::Static,
+            "",
+            not_built,
+        ),
+        run_of(
+            TICK,
+            "Tick (01)\n",
+            Status::Items,
+            "",
+            "line 1: item fault 0 NotBuilt\n",
+        ),
+        run_of(
+            TICK,
+            "Tick (1)\nTick (2)",
+            Status::Items,
+            "",
+            "line 2: item fault 0 NotBuilt\n",
+        ),
+        Case {
+            words: &[],
+            program: ECHO,
+            items: "",
+            status: Status::Usage,
+            out: "",
+            err: USAGE,
+        },
+        Case {
+            words: &["run", "a"],
+            program: ECHO,
+            items: "",
+            status: Status::Usage,
+            out: "",
+            err: USAGE,
+        },
+        Case {
+            words: &["check", "-x"],
+            program: ECHO,
+            items: "",
+            status: Status::Usage,
+            out: "",
+            err: USAGE,
+        },
+        Case {
+            words: &["run", "a", "b", "--runtime", "pool=17"],
+            program: ECHO,
+            items: "",
+            status: Status::Usage,
+            out: "",
+            err: USAGE,
+        },
+        Case {
+            words: &["run", "program", ""],
+            program: ECHO,
+            items: "",
+            status: Status::Usage,
+            out: "",
+            err: USAGE,
+        },
+        Case {
+            words: &["run", "absent", "items"],
+            program: ECHO,
+            items: "Listen (1)\n",
+            status: Status::Missing,
+            out: "",
+            err: "flux: missing or too long: absent\n",
+        },
+        Case {
+            words: &["run", "program", "absent"],
+            program: ECHO,
+            items: "",
+            status: Status::Missing,
+            out: "",
+            err: "flux: missing or too long: absent\n",
+        },
+    ];
+    for case in cases {
+        let mut world = world_with(alloc, case.program.as_bytes(), case.items.as_bytes())?;
+        let words = words_of(alloc, case.words)?;
+        let status = top(alloc, words.as_slice(), &mut world);
+        assert_case(&rt, &case, status, world.out.written(), world.err.written());
+    }
+    Ok(())
+}
+
+#[test]
+fn an_empty_items_file_prints_nothing(rt: HostRuntime) -> Result<(), Fail> {
+    let alloc = rt.alloc();
+    let mut world = world_with(alloc, ECHO.as_bytes(), b"")?;
+    let words = words_of(alloc, &["run", "program", "items"])?;
+    assert_eq!(rt; top(alloc, words.as_slice(), &mut world), Status::Done);
+    assert!(rt; world.out.written().is_empty() && world.err.written().is_empty());
+    Ok(())
+}
+
+#[test]
+fn the_sixty_fifth_item_is_a_fault(rt: HostRuntime) -> Result<(), Fail> {
+    let alloc = rt.alloc();
+    let items = b"Tick (1)\n".repeat(alloc, 65)?;
+    for (length, wanted) in [(64 * 9, Status::Done), (65 * 9, Status::Items)] {
+        let items = items.get(..length).ok_or("items")?;
+        let mut world = world_with(alloc, TICK.as_bytes(), items)?;
+        let words = words_of(alloc, &["run", "program", "items"])?;
+        assert_eq!(rt;
+            top(alloc, words.as_slice(), &mut world),
+            wanted,
+            "{length} bytes"
+        );
+        if wanted == Status::Items {
+            let line = b"line 65: item fault 0 NotBuilt\n".as_slice();
+            assert_eq!(rt; world.err.written(), line);
+        }
+    }
+    Ok(())
+}
+
+#[test]
+fn a_file_past_its_limit_is_too_long(rt: HostRuntime) -> Result<(), Fail> {
+    let alloc = rt.alloc();
+    let spaces = vec![in alloc; b' '; 16_777_217]?;
+    let cases = [
+        (2_097_152, 0, Status::Static),
+        (2_097_153, 0, Status::Missing),
+        (0, 16_777_216, Status::Items),
+        (0, 16_777_217, Status::Missing),
+    ];
+    for (program, items, wanted) in cases {
+        let items = spaces.get(..items).ok_or("items")?;
+        let mut world = if program == 0 {
+            world_with(alloc, TICK.as_bytes(), items)?
+        } else {
+            world_with(alloc, spaces.get(..program).ok_or("program")?, items)?
+        };
+        let words = words_of(alloc, &["run", "program", "items"])?;
+        assert_eq!(rt;
+            top(alloc, words.as_slice(), &mut world),
+            wanted,
+            "{program} and {}",
+            items.len()
+        );
+    }
+    Ok(())
+}
+
+/// Runs the first row with these sinks, where a call of the store fails.
+fn echo_to(
+    alloc: Global,
+    out: MemorySink,
+    err: MemorySink,
+    store_fails: u64,
+) -> Result<(Status, Memories), Memory> {
+    let mut world = World {
+        store: store_of(alloc, ECHO.as_bytes(), b"Listen (1, \"hi\")\n", store_fails)?,
+        out,
+        err,
+    };
+    let words = words_of(alloc, &["run", "program", "items"])?;
+    let status = top(alloc, words.as_slice(), &mut world);
+    Ok((status, world))
+}
+
+#[test]
+fn a_sink_that_takes_one_byte_a_call_gets_all(rt: HostRuntime) -> Result<(), Fail> {
+    let alloc = rt.alloc();
+    let (status, world) = echo_to(alloc, sink_of(alloc, 1, 0)?, sink_of(alloc, 1, 0)?, 0)?;
+    assert_eq!(rt; status, Status::Done);
+    assert_eq!(rt; world.out.written(), ECHOED.as_bytes());
+    Ok(())
+}
+
+#[test]
+fn a_failed_write_leaves_a_front_of_the_text(rt: HostRuntime) -> Result<(), Fail> {
+    let alloc = rt.alloc();
+    let calls = ECHOED.len().div_ceil(4);
+    for call in 1..40usize {
+        let (status, world) = echo_to(
+            alloc,
+            sink_of(alloc, 4, call as u64)?,
+            sink_of(alloc, ROOM, 0)?,
+            0,
+        )?;
+        let front = 4 * (call - 1);
+        if call <= calls {
+            assert_eq!(rt; status, Status::Write, "call {call}");
+            assert_eq!(rt;
+                world.out.written(),
+                ECHOED.as_bytes().get(..front).ok_or("front")?,
+                "call {call}"
+            );
+            assert_eq!(rt;
+                world.err.written(),
+                b"flux: write failed\n".as_slice(),
+                "call {call}"
+            );
+        } else {
+            assert_eq!(rt; status, Status::Done, "call {call}");
+            assert_eq!(rt; world.out.written(), ECHOED.as_bytes(), "call {call}");
+        }
+    }
+    Ok(())
+}
+
+#[test]
+fn a_fault_of_err_changes_no_status(rt: HostRuntime) -> Result<(), Fail> {
+    let alloc = rt.alloc();
+    for call in 1..8usize {
+        let (status, world) = echo_to(
+            alloc,
+            sink_of(alloc, 4, 1)?,
+            sink_of(alloc, 4, call as u64)?,
+            0,
+        )?;
+        assert_eq!(rt; status, Status::Write, "call {call}");
+        let said = b"flux: write failed\n".as_slice();
+        let front = said.len().min(4 * (call - 1));
+        assert_eq!(rt;
+            world.err.written(),
+            said.get(..front).ok_or("front")?,
+            "call {call}"
+        );
+    }
+    Ok(())
+}
+
+#[test]
+fn a_failed_read_is_answered(rt: HostRuntime) -> Result<(), Fail> {
+    let alloc = rt.alloc();
+    for (call, wanted) in [(1, Status::Read), (2, Status::Read), (3, Status::Done)] {
+        let (status, world) = echo_to(
+            alloc,
+            sink_of(alloc, ROOM, 0)?,
+            sink_of(alloc, ROOM, 0)?,
+            call,
+        )?;
+        assert_eq!(rt; status, wanted, "call {call}");
+        let said = if call < 3 {
+            b"flux: read failed\n".as_slice()
+        } else {
+            b"".as_slice()
+        };
+        assert_eq!(rt; world.err.written(), said, "call {call}");
+    }
+    Ok(())
+}
+
+#[test]
+fn statuses_have_their_numbers(rt: HostRuntime) {
+    let table = [
+        (Status::Done, 0),
+        (Status::Usage, 2),
+        (Status::Static, 3),
+        (Status::Items, 4),
+        (Status::Read, 5),
+        (Status::Write, 6),
+        (Status::Door, 7),
+        (Status::No, 8),
+        (Status::Missing, 9),
+        (Status::NotServed, 10),
+        (Status::Memory, 12),
+    ];
+    for (status, code) in table {
+        assert_eq!(rt; status.code(), code, "{status:?}");
+    }
+}
