@@ -11,6 +11,8 @@ mod memory;
 mod real;
 mod sinks;
 mod stores;
+#[cfg(test)]
+mod tests;
 
 pub use faults::{Failed, StoreFault};
 pub use memory::{FileBytes, MemorySink, MemoryStore};

@@ -11,6 +11,8 @@ mod failures;
 mod lists;
 mod printing;
 mod reading;
+#[cfg(test)]
+mod tests;
 mod texts;
 mod values;
 
