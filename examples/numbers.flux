@@ -1,0 +1,4 @@
+Tick () => (int n);
+Show (int n) => ();
+
+source Tick => Show;
