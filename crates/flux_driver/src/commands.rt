@@ -1,6 +1,6 @@
 //! The command line: the words, and what they do.
 
-ghost use Rattle.std.specs.Prelude.{◌≡◌, ◌≤◌, ◌↔◌, ◌⊎◌, [], List, ℕ, IfOk, IfErr, IsErrOf, IfSome, IfNone, Some};
+ghost use Rattle.std.specs.Prelude.{◌≡◌, ◌≤◌, ◌↔◌, ◌⊎◌, [], List, ℕ, IfOk, IfErr, IfSome, IfNone, Some};
 ghost use Rattle.flux_model.specs.declared.journals.Item.{Item};
 ghost use Rattle.flux_outside.specs.Causes.{Rose};
 ghost use Rattle.flux_outside.specs.declared.stores.File.TheVariants as files;
@@ -106,6 +106,7 @@ pub fn prepare<'a, S: Store>(
     ensures done { IfOk result (λ text. IsDone words.now (S.files store.old) text []) }
     ensures refused { IfErr result (λ refusal. IsAnswer words.now (S.files store.old) (status_of refusal) [] (line_of refusal)) }
     ensures read { IfErr result (λ refusal. status_of refusal ≡ statuses.Read → Rose (S.faults store.old) (S.faults store.new)) }
+    ensures usage { (IsRun words.now → ⊥) → prepared_status result ≡ statuses.Usage }
     ensures complete { IfSome (S.files store.old) (λ told. (due : Status) (text line : List ℕ) → IsDue words.now (Some told) due text line
         → Settles (prepared_status result) due (S.faults store.old) (S.faults store.new)) }
 {

@@ -1,10 +1,10 @@
 //! All that the program does, as one call.
 
-ghost use Rattle.std.specs.Prelude.{◌≡◌, ◌≤◌, List, ℕ, IfSome, Some};
+ghost use Rattle.std.specs.Prelude.{◌≡◌, ◌≤◌, ◌⊎◌, List, ℕ, IfSome, Some};
 ghost use Rattle.flux_outside.specs.Causes.{Rose};
 ghost use Rattle.flux_driver.specs.declared.statuses.Status.{Status};
 ghost use Rattle.flux_driver.specs.declared.statuses.Status.TheVariants as statuses;
-ghost use Rattle.flux_driver.specs.Commands.{IsDue, IsAnswer};
+ghost use Rattle.flux_driver.specs.Commands.{IsRun, IsDue};
 ghost use Rattle.flux_driver.specs.Top.{Answers, Decides};
 
 use crate::commands::{prepare, print, refuse};
@@ -41,6 +41,8 @@ pub fn top<S: Store, O: Sink, E: Sink>(
     // Reading and writing failed only where a count rose.
     ensures read { result ≡ statuses.Read → Rose (S.faults world.old.store) (S.faults world.new.store) }
     ensures write { result ≡ statuses.Write → Rose (O.faults world.old.out) (O.faults world.new.out) }
+    // Words that are no command are refused, unless memory is short.
+    ensures usage { (IsRun words.now → ⊥) → (result ≡ statuses.Usage) ⊎ (result ≡ statuses.Memory) }
     // What words and told files decide is answered, unless memory is short or a count rose.
     ensures complete { IfSome (S.files world.old.store) (λ files. (due : Status) (text line : List ℕ) → IsDue words.now (Some files) due text line
         → Decides result due (S.faults world.old.store) (S.faults world.new.store) (O.faults world.old.out) (O.faults world.new.out)) }

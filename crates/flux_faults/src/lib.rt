@@ -1,0 +1,15 @@
+//! Faults of program texts, their places and their lines.
+//!
+//! A fault stands at a byte of the text. `place` gives its line and column, and `fault_line` the one line that is
+//! written about it.
+#![tactic(auto)]
+
+mod faults;
+mod lines;
+mod places;
+#[cfg(test)]
+mod tests;
+
+pub use faults::{CheckFault, FaultKind, Place, StaticFault};
+pub use lines::fault_line;
+pub use places::place;

@@ -1,0 +1,54 @@
+//! The line that is written about a fault.
+
+ghost use Rattle.std.specs.Prelude.{◌≡◌, ◌≤◌, ◌<◌, ◌++◌, [], if◌then◌else◌, codes, length, IfOk, OnOk};
+ghost use Rattle.flux_faults.specs.Faults.{printed_fault, printed_path, arrows};
+
+use crate::faults::StaticFault;
+use crate::places::place;
+use flux_values::{Bytes, Memory, TextBytes, append_number};
+use std::alloc::Global;
+
+/// The line about a fault of the text, without a line end.
+pub fn fault_line(alloc: Global, text: &[u8], fault: &StaticFault) -> Result<Bytes, Memory>
+    requires inside { fault.now.at ≤ length text.now }
+    requires room { fault.now.at < 4294967295 }
+    ensures { IfOk result (λ line. line ≡ printed_fault text.now fault.now) }
+{
+    let place = place(text, fault.at);
+    let mut line = Bytes::new(alloc);
+    append_number(alloc, &mut line, place.line as u64)?;
+    line.append(b":")?;
+    append_number(alloc, &mut line, place.column as u64)?;
+    line.append(b": fault ")?;
+    append_number(alloc, &mut line, fault.kind.number())?;
+    line.append(b" ")?;
+    line.append(fault.kind.name())?;
+    append_path(&mut line, fault)?;
+    Ok(line)
+}
+
+fn append_path(line: &mut Bytes, fault: &StaticFault) -> Result<(), Memory>
+    ensures { OnOk result (line.new ≡ line.old ++ printed_path fault.now) }
+{
+    if fault.kind.number() != 15 {
+        return Ok(());
+    }
+    line.append(b" ")?;
+    append_arrows(line, fault.path.as_slice())
+}
+
+fn append_arrows(line: &mut Bytes, names: &[TextBytes]) -> Result<(), Memory>
+    ensures { OnOk result (line.new ≡ line.old ++ arrows names.now) }
+{
+    for (place, name) in names.iter().enumerate() {
+        append_next(line, place == 0, name)?;
+    }
+    Ok(())
+}
+
+fn append_next(line: &mut Bytes, first: bool, name: &TextBytes) -> Result<(), Memory>
+    ensures { OnOk result (line.new ≡ line.old ++ ((if first then [] else codes " -> ") ++ name.now)) }
+{
+    line.append(if first { b"" } else { b" -> " })?;
+    line.append(name.as_bytes())
+}
