@@ -149,7 +149,7 @@ module _ (words : List (List ℕ)) (file items text : List ℕ) (names : AreName
         items = p.items;
         are_items = subst (λ (n : LibraryNode). AreItemsOf ready.program (outs_of n) p.items items_text) (sym own_from) p.are_items;
         journal = p.journal;
-        is_run = record { walks = all.walks; whole = all.whole; right = all.right };
+        is_run = record { walks = all.walks; whole = all.whole; right = all.right; excludes = all.excludes; waits = all.waits };
         printed = p.is;
         none = refl;
       }

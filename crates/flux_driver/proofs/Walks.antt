@@ -13,11 +13,16 @@ use Rattle.flux_values.specs.declared.answers.CallResult.TheVariants as results
 use Rattle.flux_model.specs.declared.programs.Program.{Program}
 use Rattle.flux_model.specs.declared.journals.Entry.{Entry}
 use Rattle.flux_model.specs.declared.journals.Event.{Event}
+use Rattle.flux_model.specs.declared.journals.Event.TheVariants.{Take, Wait, Enter, Choose, Call, Exit, Drop, End}
 use Rattle.flux_model.specs.declared.journals.Item.{Item}
+use Rattle.flux_model.specs.declared.programs.NodeNo.{NodeNo}
+use Rattle.flux_model.specs.declared.programs.Hold.{Hold}
+use Rattle.flux_model.specs.Exclusion.{Excludes, IsDeclared, declared_on}
+use Rattle.flux_model.specs.Waits.{WaitsFor, IsFreeOfCycles}
 use Rattle.flux_model.specs.declared.journals.Journal.{Journal}
 use Rattle.flux_model.specs.Walk.{ended_by, flow_events, IsFinished}
 use Rattle.flux_model.specs.Serial.{entries_of, AreWalks}
-use Rattle.flux_model.specs.Events.{events_by, IsWhole}
+use Rattle.flux_model.specs.Events.{events_by, own_events, own_answers, IsWhole}
 use Rattle.flux_model.specs.Answers.{IsRight, AreAnswersRight}
 use Rattle.flux_model.specs.Declarations.{Declaration}
 use Rattle.flux_model.specs.ProgramOfText.{library_name, names_of, place_of, node_of, nodes_of, program_of}
@@ -42,6 +47,21 @@ all_at : (P : Item → Type 0) (items : List Item) (i : ℕ) (item : Item) → s
 all_at P [] i item at all = absurd cc
 all_at P (first ∷ items) zero item at all = subst P (let h : first ≡ item = cc in h) all.0
 all_at P (first ∷ items) (suc i) item at all = all_at P items i item at all.1
+
+inside_all : {X : Type 0} (P : X → Type 0) (before : List X) (x : X) (after : List X) → AllByRecursion P (before ++ x ∷ after) → P x
+inside_all P [] x after all = all.0
+inside_all P (first ∷ before) x after all = inside_all P before x after all.1
+
+-- an event that takes no lock
+abbrev IsNoTake : Event → Type 0
+IsNoTake (Take key mode) = ⊥
+IsNoTake (Wait key mode) = Unit {0}
+IsNoTake (Enter node) = Unit {0}
+IsNoTake (Choose place) = Unit {0}
+IsNoTake (Call made) = Unit {0}
+IsNoTake (Exit node outcome) = Unit {0}
+IsNoTake (Drop key) = Unit {0}
+IsNoTake (End outcome) = Unit {0}
 
 outcome_is : (r : CallResult) (left : List Answer) → (ended_by r left).outcome ≡ outcome_of r
 outcome_is (results.Good values) left = refl
@@ -120,11 +140,52 @@ module _ (names : List (List ℕ)) (join : Join) (target : List ℕ)
     flows = rw is (flows_within join (length items) 0 items (omega arith));
   }
 
+  -- the walks take no locks
+  takes_none : (kinds : List Kind) (item : Item) (answers : List Answer) → IsItem kinds item → AllByRecursion IsNoTake (flow_events program item answers)
+  takes_none kinds item [] is =
+      let first : item.source.0 ≡ 0 = ap (λ s. s.0) is.source in
+      let depth = next_of (length (nodes_of names)) (omega (arith, slice_get_within (nodes_of names) join.target.0 (node_of target) node)) in
+      rw (first, depth.1, node) (tt, tt)
+  takes_none kinds item (answer ∷ answers) is =
+      let first : item.source.0 ≡ 0 = ap (λ s. s.0) is.source in
+      let depth = next_of (length (nodes_of names)) (omega (arith, slice_get_within (nodes_of names) join.target.0 (node_of target) node)) in
+      rw (first, depth.1, node) (tt, (tt, (tt, (tt, tt))))
+
+  flows_take_none : (n : ℕ) (items : List Item) → AllByRecursion (λ (entry : Entry). IsNoTake entry.event) (flows_of join n items)
+  flows_take_none n [] = tt
+  flows_take_none n (item ∷ items) = (tt, (tt, (tt, (tt, flows_take_none (suc n) items))))
+
+  nothing_declared : (number : NodeNo) (hold : Hold) → IsDeclared program number hold → ⊥
+  nothing_declared number hold is = unlocked names number.0 is.0 hold is.1
+    where
+      unlocked : (names : List (List ℕ)) (k place : ℕ) (hold : Hold) → slice_get (declared_on (slice_get (nodes_of names) k)) place ≡ Some hold → ⊥
+      unlocked [] k place hold e = absurd cc
+      unlocked (name ∷ names) zero place hold e = absurd cc
+      unlocked (name ∷ names) (suc k) place hold e = unlocked names k place hold e
+
+  excludes : (items : List Item) (entries : List Entry) → entries ≡ flows_of join 0 items → Excludes program items entries
+  excludes items entries is = record {
+    takes = λ before flow key mode stands other apart. absurd (inside_all (λ (entry : Entry). IsNoTake entry.event) before _ stands.0 (subst (AllByRecursion (λ (entry : Entry). IsNoTake entry.event)) stands.1 (rw is (flows_take_none 0 items))));
+    sections = λ before flow number stands other apart place inside at own their declared. absurd (nothing_declared number own declared);
+  }
+
+  never_waits : (kinds : List Kind) (items : List Item) (entries : List Entry) (flow other : ℕ) → AllByRecursion (IsItem kinds) items → WaitsFor program items entries flow other → ⊥
+  never_waits kinds items entries flow other all w =
+      let one = all_at (IsItem kinds) items flow w.item w.is_item all in
+      let journal : Journal = record { entries = entries } in
+      inside_all IsNoTake (own_events journal flow) (Take w.key w.mode) w.next.0 (subst (AllByRecursion IsNoTake) w.next.1 (takes_none kinds w.item (own_answers journal flow) one))
+
+  free_of_cycles : (kinds : List Kind) (items : List Item) (entries : List Entry) → AllByRecursion (IsItem kinds) items → IsFreeOfCycles program items entries
+  free_of_cycles kinds items entries all before after split flow [] chain = never_waits kinds items before flow flow all chain
+  free_of_cycles kinds items entries all before after split flow (next ∷ flows) chain = never_waits kinds items before flow next all chain.0
+
 -- all that a journal of the flows is, in the program of the declarations
 pub record AreFlows (kinds : List Kind) (items : List Item) (p : Program) (journal : Journal) : Type 0 where
   pub walks : AreWalks p 0 items journal.entries
   pub whole : IsWhole p items journal
   pub right : AreAnswersRight answering p journal
+  pub excludes : Excludes p items journal.entries
+  pub waits : IsFreeOfCycles p items journal.entries
 
 pub are_flows : (kinds : List Kind) (ds : List Declaration) (join : Join) (items : List Item) (p : Program) (journal : Journal)
     → p ≡ program_of ds → IsJoin (names_of ds) (lines_of ds) join → AllByRecursion (IsItem kinds) items → journal.entries ≡ flows_of join 0 items → AreFlows kinds items p journal
@@ -137,4 +198,6 @@ are_flows kinds ds join items p journal is j all made =
       walks = rw made (are_walks names join target node library kinds 0 items all);
       whole = whole names join target node library kinds items journal all made;
       right = rw made (are_right names join target node library 0 items);
+      excludes = excludes names join target node library items journal.entries made;
+      waits = free_of_cycles names join target node library kinds items journal.entries all;
     })

@@ -10,6 +10,8 @@ use Rattle.flux_model.specs.declared.journals.Journal.{Journal}
 use Rattle.flux_model.specs.Serial.{AreWalks}
 use Rattle.flux_model.specs.Events.{IsWhole}
 use Rattle.flux_model.specs.Answers.{AreAnswersRight}
+use Rattle.flux_model.specs.Exclusion.{Excludes}
+use Rattle.flux_model.specs.Waits.{IsFreeOfCycles}
 use Rattle.flux_model.specs.Texts.{printed_journal}
 use Rattle.flux_driver.specs.declared.statuses.Status.{Status}
 use Rattle.flux_driver.specs.declared.statuses.Status.TheVariants as statuses
@@ -60,11 +62,14 @@ pub record HasItems (words : List (List ℕ)) (told : Files) : Type 0 where
   pub text : List ℕ
   pub gives : Gives told source.has.run.items 16777216 (Found text)
 
--- the journal of the items' flows: their walks one after the other, each flow whole, each call with its node's answer
+-- the journal of the items' flows: their walks one after the other, each flow whole, each call with its node's answer;
+-- conflicting sections never overlap, and no waits form a cycle
 pub record IsRunOf (p : Program) (items : List Item) (journal : Journal) : Type 0 where
   pub walks : AreWalks p 0 items journal.entries
   pub whole : IsWhole p items journal
   pub right : AreAnswersRight answering p journal
+  pub excludes : Excludes p items journal.entries
+  pub waits : IsFreeOfCycles p items journal.entries
 
 -- the lines of the statuses
 abbrev pub usage_line : List ℕ

@@ -6,3 +6,5 @@ pub mod Events
 pub mod Answers
 pub mod Serial
 pub mod Texts
+pub mod Exclusion
+pub mod Waits
