@@ -1,0 +1,5 @@
+pub mod Closing
+pub mod Seen
+pub mod Turns
+pub mod Only
+pub mod Ends

@@ -1,0 +1,67 @@
+-- Which bytes a token's kind spells.
+use Rattle.std.specs.Prelude.{ℕ, ◌==◌, ◌&&◌, ◌||◌, nat_le, Bool, false, if◌then◌else◌, List, [], ◌∷◌, Option, Some, None, codes}
+use Rattle.std.specs.List.{list_all}
+use Rattle.std.specs.Str.{bytes_eq}
+use Rattle.flux_lexer.specs.declared.kinds.TokenKind.{TokenKind}
+use Rattle.flux_lexer.specs.declared.kinds.TokenKind.TheVariants.{Identifier, Source, Typedef, Handle, Error, Atomic, Session, Wildcard, OpenParen, CloseParen, OpenBracket, CloseBracket, OpenBrace, CloseBrace, Comma, Semicolon, Colon, Equals, Star, Question, Bang, ThinArrow, Arrow}
+
+abbrev pub is_letter : ℕ → Bool
+is_letter b = (nat_le 65 b && nat_le b 90) || (nat_le 97 b && nat_le b 122)
+
+-- a word begins with a letter or `_`, and goes on with these and digits
+abbrev pub is_word_start : ℕ → Bool
+is_word_start b = is_letter b || b == 95
+
+abbrev pub is_word_byte : ℕ → Bool
+is_word_byte b = is_word_start b || (nat_le 48 b && nat_le b 57)
+
+abbrev pub is_word : List ℕ → Bool
+is_word [] = false
+is_word (b ∷ bytes) = is_word_start b && list_all is_word_byte bytes
+
+-- the kind of a word: a reserved word's own, the wildcard, or an identifier
+abbrev pub word_kind : List ℕ → TokenKind
+word_kind word =
+    if bytes_eq word (codes "source") then Source else
+    if bytes_eq word (codes "typedef") then Typedef else
+    if bytes_eq word (codes "handle") then Handle else
+    if bytes_eq word (codes "error") then Error else
+    if bytes_eq word (codes "atomic") then Atomic else
+    if bytes_eq word (codes "session") then Session else
+    if bytes_eq word (codes "_") then Wildcard else Identifier
+
+-- the kind of one byte that is no letter
+abbrev pub single : ℕ → Option TokenKind
+single b =
+    if b == 40 then Some OpenParen else
+    if b == 41 then Some CloseParen else
+    if b == 91 then Some OpenBracket else
+    if b == 93 then Some CloseBracket else
+    if b == 123 then Some OpenBrace else
+    if b == 125 then Some CloseBrace else
+    if b == 44 then Some Comma else
+    if b == 59 then Some Semicolon else
+    if b == 58 then Some Colon else
+    if b == 61 then Some Equals else
+    if b == 42 then Some Star else
+    if b == 63 then Some Question else
+    if b == 33 then Some Bang else
+    None
+
+-- the kind of two bytes that are no word
+abbrev pub double : List ℕ → Option TokenKind
+double bytes = if bytes_eq bytes (codes "->") then Some ThinArrow else if bytes_eq bytes (codes "=>") then Some Arrow else None
+
+-- one after the other
+abbrev pub or_else : Option TokenKind → Option TokenKind → Option TokenKind
+or_else (Some kind) other = Some kind
+or_else None other = other
+
+abbrev pub mark_kind : List ℕ → Option TokenKind
+mark_kind [] = None
+mark_kind (b ∷ []) = single b
+mark_kind (b ∷ c ∷ bytes) = double (b ∷ c ∷ bytes)
+
+-- the kind that bytes spell, if they do
+abbrev pub kind_of : List ℕ → Option TokenKind
+kind_of bytes = if is_word bytes then Some (word_kind bytes) else mark_kind bytes

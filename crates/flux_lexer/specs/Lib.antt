@@ -1,0 +1,5 @@
+pub mod Kinds
+pub mod Pieces
+pub mod Fronts
+pub mod Texts
+pub mod Lexing

@@ -1,0 +1,14 @@
+//! The tokens of a program's text.
+//!
+//! Tokens are the longest at their places, and blanks and comments stand between them. A text is too long, has a
+//! byte that begins no token, or has a comment that nothing closes, or `tokens` gives its tokens.
+#![tactic(auto)]
+
+mod fronts;
+mod kinds;
+mod reading;
+#[cfg(test)]
+mod tests;
+
+pub use kinds::{Token, TokenKind};
+pub use reading::tokens;
