@@ -1,9 +1,10 @@
 -- Bytes written piece by piece.
-use Rattle.std.proofs.Common.{◌≡◌, ℕ, ◌≤◌, List, [], ◌++◌, length, take, drop, Option, Some, None, refl, sym, ap, ◌∙◌, arith, append_assoc}
+use Rattle.std.proofs.Common.{◌≡◌, ℕ, ◌≤◌, List, [], ◌++◌, length, take, drop, Option, Some, None, refl, sym, ap, ◌∙◌, arith, append_assoc, Result, Ok, Err, inl, inr}
+use Rattle.std.specs.Prelude.{OnOk, OnErr}
 use Rattle.std.specs.Option.{option_map}
 use Rattle.std.proofs.lemmas.List.{append-nil, take-append-drop, nil_from_length}
 use Rattle.flux_outside.specs.Causes.{Rose}
-use Rattle.flux_driver.specs.Writing.{Gained, GainedPart}
+use Rattle.flux_driver.specs.Writing.{Gained, GainedPart, GainedOrFailed}
 
 -- a front of the bytes has been written, and the rest is left
 pub record SoFar (before after : Option (List ℕ)) (count later : ℕ) (bytes rest : List ℕ) : Type 0 where
@@ -46,3 +47,9 @@ so_far_part before mid after count m bytes rest s none = record {
 
 pub rose_later : (before mid after : ℕ) → before ≤ mid → Rose mid after → Rose before after
 rose_later before mid after le rose = omega (arith, le, rose)
+
+-- all of the bytes were written, or a front of them and the count rose
+pub all_or_part : {X Y : Type 0} (before after : Option (List ℕ)) (count later : ℕ) (bytes : List ℕ) (result : Result X Y)
+    → OnOk result (Gained before after bytes) → OnErr result (GainedPart before after bytes) → OnErr result (Rose count later) → GainedOrFailed before after count later bytes
+all_or_part before after count later bytes (Ok x) all part rose = inl all
+all_or_part before after count later bytes (Err y) all part rose = inr (part, rose)

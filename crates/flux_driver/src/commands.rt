@@ -1,6 +1,6 @@
 //! The command line: the words, and what they do.
 
-ghost use Rattle.std.specs.Prelude.{◌≡◌, ◌≤◌, ◌↔◌, ◌⊎◌, [], List, ℕ, IfOk, IfErr, IfSome, IfNone, Some};
+ghost use Rattle.std.specs.Prelude.{◌≡◌, ◌≤◌, ◌↔◌, ◌⊎◌, [], List, ℕ, IsTrue, IfOk, IfErr, IfSome, IfNone, Some};
 ghost use Rattle.flux_model.specs.declared.journals.Item.{Item};
 ghost use Rattle.flux_outside.specs.Causes.{Rose};
 ghost use Rattle.flux_outside.specs.declared.stores.File.TheVariants as files;
@@ -33,7 +33,7 @@ const ITEMS_FILE_LIMIT: usize = 16_777_216;
 
 /// Whether a word can be a file's name: it isn't empty, and no option.
 fn is_name(word: &[u8]) -> bool
-    ensures { (result ≡ Rattle.std.specs.Prelude.true) ↔ IsName word.now }
+    ensures { IsTrue result ↔ IsName word.now }
 {
     match word {
         [] => false,
@@ -42,7 +42,7 @@ fn is_name(word: &[u8]) -> bool
 }
 
 /// The names of the program's file and of the items file.
-fn names_of(words: &[Bytes]) -> Option<(&[u8], &[u8])>
+fn file_names(words: &[Bytes]) -> Option<(&[u8], &[u8])>
     ensures found { IfSome result (λ names. AreNames words.now names.0.now names.1.now) }
     ensures none { IfNone result (IsRun words.now → ⊥) }
 {
@@ -110,7 +110,7 @@ pub fn prepare<'a, S: Store>(
     ensures complete { IfSome (S.files store.old) (λ told. (due : Status) (text line : List ℕ) → IsDue words.now (Some told) due text line
         → Settles (prepared_status result) due (S.faults store.old) (S.faults store.new)) }
 {
-    let Some((file, items)) = names_of(words) else {
+    let Some((file, items)) = file_names(words) else {
         return Err(Refusal::Usage);
     };
     let text = load(alloc, store, file, PROGRAM_FILE_LIMIT)?;
@@ -121,17 +121,25 @@ pub fn prepare<'a, S: Store>(
     carry_out(alloc, &ready, items_text.as_bytes())
 }
 
-/// Writes the line about a refusal. A fault of the sink changes nothing.
+/// Writes a line. A fault of the sink changes nothing else.
+fn say<E: Sink>(err: &mut E, line: &[u8])
+    ensures later { E.faults err.old ≤ E.faults err.new }
+    ensures said { GainedOrFailed (E.written err.old) (E.written err.new) (E.faults err.old) (E.faults err.new) line.now }
+{
+    let _ = write_all(err, line);
+}
+
+/// Writes the line about a refusal.
 pub fn refuse<E: Sink>(alloc: Global, err: &mut E, refusal: Refusal) -> Status
     ensures later { E.faults err.old ≤ E.faults err.new }
     ensures said { ((result ≡ status_of refusal.entry) × GainedOrFailed (E.written err.old) (E.written err.new) (E.faults err.old) (E.faults err.new) (line_of refusal.entry))
         ⊎ ((result ≡ Status.Memory) × Gained (E.written err.old) (E.written err.new) []) }
 {
     match refusal.line(alloc) {
-        Ok(line) => match write_all(err, line.as_bytes()) {
-            Ok(()) => refusal.status(),
-            Err(_) => refusal.status(),
-        },
+        Ok(line) => {
+            say(err, line.as_bytes());
+            refusal.status()
+        }
         Err(_) => Status::Memory,
     }
 }
@@ -145,9 +153,9 @@ pub fn print<O: Sink, E: Sink>(out: &mut O, err: &mut E, text: &[u8]) -> Status
 {
     match write_all(out, text) {
         Ok(()) => Status::Done,
-        Err(_) => match write_all(err, b"flux: write failed\n") {
-            Ok(()) => Status::Write,
-            Err(_) => Status::Write,
-        },
+        Err(_) => {
+            say(err, b"flux: write failed\n");
+            Status::Write
+        }
     }
 }

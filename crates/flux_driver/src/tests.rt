@@ -1,4 +1,4 @@
-//! The worked rows of the command line, over a world in memory.
+//! Command lines with their answers, over a world in memory.
 
 ghost use Rattle.std.specs.Prelude.{◌<◌};
 
@@ -114,7 +114,7 @@ fn assert_case(rt: &impl Abort, case: &Case, status: Status, out: &[u8], err: &[
 }
 
 #[test]
-fn commands_answer_as_their_rows(rt: HostRuntime) -> Result<(), Fail> {
+fn commands_answer_as_the_table_says(rt: HostRuntime) -> Result<(), Fail> {
     let alloc = rt.alloc();
     let not_built = "1:1: fault 0 NotBuilt\n";
     let cases = [
@@ -293,7 +293,7 @@ fn a_file_past_its_limit_is_too_long(rt: HostRuntime) -> Result<(), Fail> {
     Ok(())
 }
 
-/// Runs the first row with these sinks, where a call of the store fails.
+/// Runs the first example with these sinks, where a call of the store fails.
 fn echo_to(
     alloc: Global,
     out: MemorySink,

@@ -1,4 +1,4 @@
-//! Places and lines as the worked rows give them.
+//! Texts with the places and lines of faults in them.
 
 use crate::{FaultKind, Place, StaticFault, fault_line, place};
 use flux_values::{List, TextBytes};

@@ -7,6 +7,7 @@ ghost use Rattle.flux_lexer.specs.Pieces.{is_blank, close_of, line_length};
 ghost use Rattle.flux_lexer.specs.Fronts.{word_front, slash_front, arrow_front, front_of};
 
 use crate::kinds::{TokenKind, single, word_kind};
+use flux_values::TEXT_LIMIT;
 
 /// What begins a text, with its length in bytes.
 #[derive(Clone, Copy, Debug)]
@@ -18,9 +19,6 @@ pub enum Front {
     Token(TokenKind, usize),
     Bad,
 }
-
-/// A token has at most so many bytes.
-const TOKEN_LIMIT: usize = 65_536;
 
 fn is_blank(byte: u8) -> bool
     ensures { result ≡ is_blank byte }
@@ -74,7 +72,7 @@ fn word_front(text: &[u8]) -> Front
     ensures { result ≡ word_front text.now (prefix_len is_word_byte text.now) }
 {
     let length = word_length(text);
-    if length > TOKEN_LIMIT {
+    if length > TEXT_LIMIT {
         Front::Bad
     } else {
         Front::Token(word_kind(&text[..length]), length)

@@ -13,8 +13,8 @@ use flux_faults::{CheckFault, FaultKind, StaticFault};
 use flux_values::{List, Memory};
 use std::alloc::Global;
 
-/// A text has at most so many bytes.
-const TEXT_LIMIT: usize = 1_048_576;
+/// A program's text has at most so many bytes.
+const PROGRAM_LIMIT: usize = 1_048_576;
 
 /// What has been read: the tokens, the first comment that nothing closes, and how many bytes.
 #[derive(Debug, Drop)]
@@ -77,7 +77,7 @@ pub fn tokens(alloc: Global, text: &[u8]) -> Result<List<Token>, CheckFault>
     ensures tokens { (tokens : List Token) → AreTokensOf tokens text.now → IsTokensOrMemory tokens result }
     ensures stands { (kind : FaultKind) (at : ℕ) → Stands kind at text.now → IsFaultOrMemory kind at result }
 {
-    if text.len() > TEXT_LIMIT {
+    if text.len() > PROGRAM_LIMIT {
         return refuse(alloc, FaultKind::TooLong, 0);
     }
     let mut lexed = Lexed {

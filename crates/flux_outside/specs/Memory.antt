@@ -1,5 +1,6 @@
 -- What the forms in memory hold.
-use Rattle.std.specs.Prelude.{◌≡◌, ℕ, ◌+◌, ◌≤◌, if◌then◌else◌, List, [], ◌∷◌, length, Option, Some, None}
+use Rattle.std.specs.Prelude.{◌≡◌, ℕ, ◌+◌, ◌-◌, ◌^◌, ◌≤◌, ◌==◌, min, true, if◌then◌else◌, List, [], ◌∷◌, length, Option, Some, None}
+use Rattle.std.specs.List.{list_any}
 use Rattle.std.specs.Str.{bytes_eq}
 use Rattle.flux_outside.specs.declared.memory.FileBytes.{FileBytes}
 use Rattle.flux_outside.specs.declared.memory.MemorySink.{MemorySink}
@@ -31,3 +32,37 @@ store_faults store = store.faults
 -- no call is to fail
 abbrev pub NeverFails : MemoryStore → Type 0
 NeverFails store = store.fails ≡ []
+
+-- the number of a call behind so many, from 1; the count stops at its type's end
+abbrev pub next_call : ℕ → ℕ
+next_call calls = min (calls + 1) (2 ^ 64 - 1)
+
+-- a call's number stands among those that are to fail
+abbrev pub IsListed : ℕ → List ℕ → Type 0
+IsListed call fails = list_any (λ n. n == call) fails ≡ true
+
+-- how many bytes a sink in memory takes a call
+abbrev pub sink_piece : MemorySink → ℕ
+sink_piece sink = sink.piece
+
+-- a new sink has these pieces and failing calls, and was not called yet
+abbrev pub IsAsked : MemorySink → ℕ → List ℕ → Type 0
+IsAsked sink piece fails = (sink.piece ≡ piece) × (sink.fails ≡ fails) × (sink.calls ≡ 0)
+
+-- the same pieces and failing calls, one call on
+abbrev pub IsAskedOn : MemorySink → MemorySink → Type 0
+IsAskedOn before after = (after.piece ≡ before.piece) × (after.fails ≡ before.fails) × (after.calls ≡ next_call before.calls)
+
+-- the sink's next call is to fail
+abbrev pub SinkIsToFail : MemorySink → Type 0
+SinkIsToFail sink = IsListed (next_call sink.calls) sink.fails
+
+-- the same of a store
+abbrev pub IsStoreAsked : MemoryStore → List ℕ → Type 0
+IsStoreAsked store fails = (store.fails ≡ fails) × (store.calls ≡ 0)
+
+abbrev pub IsStoreAskedOn : MemoryStore → MemoryStore → Type 0
+IsStoreAskedOn before after = (after.fails ≡ before.fails) × (after.calls ≡ next_call before.calls)
+
+abbrev pub StoreIsToFail : MemoryStore → Type 0
+StoreIsToFail store = IsListed (next_call store.calls) store.fails

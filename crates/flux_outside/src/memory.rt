@@ -30,7 +30,7 @@ pub struct MemorySink {
 }
 
 impl MemorySink {
-    ghost use Rattle.flux_outside.specs.Memory.{sink_bytes, sink_faults, HasRoomFor};
+    ghost use Rattle.flux_outside.specs.Memory.{sink_bytes, sink_faults, HasRoomFor, IsAsked};
 
     /// A sink that takes at most `piece` bytes a call and `room` bytes in all, for which it reserves memory.
     /// The calls whose numbers stand in `fails`, counted from 1, fail; so does a call that would pass the room.
@@ -44,6 +44,7 @@ impl MemorySink {
         ensures empty { IfOk result (λ sink. sink_bytes sink ≡ []) }
         ensures faultless { IfOk result (λ sink. sink_faults sink ≡ 0) }
         ensures room { fails ≡ [] → IfOk result (λ sink. HasRoomFor sink room) }
+        ensures asked { IfOk result (λ sink. IsAsked sink piece fails) }
     {
         let written = Vec::with_capacity(alloc, room)?;
         Ok(MemorySink {
@@ -65,10 +66,10 @@ impl MemorySink {
 }
 
 impl Sink for MemorySink {
-    ghost use Rattle.std.specs.Prelude.{Some, length};
+    ghost use Rattle.std.specs.Prelude.{Some, IfOk, IsErr, length, min};
     ghost use Rattle.flux_outside.specs.Causes.{HasCause};
     ghost use Rattle.flux_outside.specs.Sinks.{TakesSome, gained};
-    ghost use Rattle.flux_outside.specs.Memory.{sink_bytes, sink_faults, HasRoomFor};
+    ghost use Rattle.flux_outside.specs.Memory.{sink_bytes, sink_faults, sink_piece, HasRoomFor, SinkIsToFail, IsAskedOn};
 
     ghost written = { λ sink. Some (sink_bytes sink) };
 
@@ -78,6 +79,10 @@ impl Sink for MemorySink {
         ensures bound { TakesSome result bytes.now }
         ensures bytes { Some (sink_bytes self.new) ≡ gained (Some (sink_bytes self.old)) result bytes.now }
         ensures cause { HasCause (sink_faults self.old) (sink_faults self.new) result }
+        // It takes as many bytes as a piece has, and a call that is to fail does.
+        ensures piece { IfOk result (λ count. count ≡ min (length bytes.now) (sink_piece self.old)) }
+        ensures fails { SinkIsToFail self.old → IsErr result }
+        ensures asked { IsAskedOn self.old self.new }
         // With room and no call that is to fail, it doesn't fail.
         ensures steady { HasRoomFor self.old (length bytes.now) → sink_faults self.new ≡ sink_faults self.old }
     {
@@ -108,13 +113,14 @@ pub struct MemoryStore {
 }
 
 impl MemoryStore {
-    ghost use Rattle.flux_outside.specs.Memory.{first_of, store_files, store_faults, NeverFails};
+    ghost use Rattle.flux_outside.specs.Memory.{first_of, store_files, store_faults, NeverFails, IsStoreAsked};
 
     /// A store of these files. The calls whose numbers stand in `fails`, counted from 1, fail.
     pub fn new(files: List<FileBytes>, fails: List<u64>) -> MemoryStore
         ensures files { store_files result ≡ first_of files }
         ensures faultless { store_faults result ≡ 0 }
         ensures steady { fails ≡ [] → NeverFails result }
+        ensures asked { IsStoreAsked result fails }
     {
         MemoryStore {
             files,
@@ -138,10 +144,10 @@ impl MemoryStore {
 }
 
 impl Store for MemoryStore {
-    ghost use Rattle.std.specs.Prelude.{Some, IfOk};
+    ghost use Rattle.std.specs.Prelude.{Some, IfOk, IsErr};
     ghost use Rattle.flux_outside.specs.Causes.{HasStoreCause};
     ghost use Rattle.flux_outside.specs.Stores.{FitsIn, file_of};
-    ghost use Rattle.flux_outside.specs.Memory.{store_files, store_faults, NeverFails};
+    ghost use Rattle.flux_outside.specs.Memory.{store_files, store_faults, NeverFails, StoreIsToFail, IsStoreAskedOn};
 
     ghost files = { λ store. Some (store_files store) };
 
@@ -152,6 +158,9 @@ impl Store for MemoryStore {
         ensures limit { IfOk result (FitsIn max) }
         ensures told { IfSome (Some (store_files self.old)) (λ files. IfOk result (λ file. file ≡ file_of (files name.now) max)) }
         ensures cause { HasStoreCause (store_faults self.old) (store_faults self.new) result }
+        // A call that is to fail does.
+        ensures fails { StoreIsToFail self.old → IsErr result }
+        ensures asked { IsStoreAskedOn self.old self.new }
         // Where no call is to fail, none does.
         ensures steady { NeverFails self.old → store_faults self.new ≡ store_faults self.old }
     {

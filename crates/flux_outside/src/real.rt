@@ -20,7 +20,9 @@ pub struct RealSink<W> {
 }
 
 impl<W> RealSink<W> {
-    pub fn new(stream: W) -> RealSink<W> {
+    pub fn new(stream: W) -> RealSink<W>
+        ensures { result ≡ record { stream = stream; faults = 0 } }
+    {
         RealSink { stream, faults: 0 }
     }
 }
@@ -51,7 +53,9 @@ pub struct RealStore<R> {
 }
 
 impl<R> RealStore<R> {
-    pub fn new(runtime: R) -> RealStore<R> {
+    pub fn new(runtime: R) -> RealStore<R>
+        ensures { result ≡ record { runtime = runtime; faults = 0 } }
+    {
         RealStore { runtime, faults: 0 }
     }
 }
