@@ -1,5 +1,5 @@
 -- What a text is laid out in: blanks, comments and tokens.
-use Rattle.std.specs.Prelude.{◌≡◌, ℕ, suc, ◌+◌, ◌<◌, ◌≤◌, ◌==◌, ◌||◌, ◌&&◌, not, Bool, false, if◌then◌else◌, List, [], ◌∷◌, ◌++◌, length, take, drop, Option, Some, None}
+use Rattle.std.specs.Prelude.{◌≡◌, ℕ, suc, ◌+◌, ◌<◌, ◌≤◌, ◌==◌, ◌||◌, ◌&&◌, not, Bool, true, false, if◌then◌else◌, List, [], ◌∷◌, length, take, Option, Some, None}
 use Rattle.std.specs.Option.{option_map}
 use Rattle.std.specs.List.{prefix_len}
 use Rattle.flux_lexer.specs.declared.kinds.TokenKind.{TokenKind}
@@ -40,7 +40,7 @@ pub record IsToken (kind : TokenKind) (n : ℕ) (text : List ℕ) : Type 0 where
 
 -- a piece of so many bytes begins the text
 abbrev pub Begins : Piece → ℕ → List ℕ → Type 0
-Begins blank n text = (b : ℕ) × (rest : List ℕ) × (text ≡ b ∷ rest) × (is_blank b ≡ Rattle.std.specs.Prelude.true) × (n ≡ 1)
+Begins blank n text = (b : ℕ) × (rest : List ℕ) × (text ≡ b ∷ rest) × (is_blank b ≡ true) × (n ≡ 1)
 Begins remark n text = (rest : List ℕ) × (text ≡ 47 ∷ 47 ∷ rest) × (n ≡ line_length rest + 2)
 Begins comment n text = (rest : List ℕ) × (text ≡ 47 ∷ 42 ∷ rest) × (k : ℕ) × (close_of rest ≡ Some k) × (n ≡ k + 4)
 Begins opener n text = (rest : List ℕ) × (text ≡ 47 ∷ 42 ∷ rest) × (close_of rest ≡ None) × (n ≡ 2)
