@@ -1,0 +1,116 @@
+-- The formatted text has the same declarations, and is the formatted text of its own.
+use Rattle.std.proofs.Common.{◌≡◌, ◌≤◌, ◌+◌, ◌-◌, ℕ, Bool, true, false, List, [], ◌∷◌, ◌++◌, length, length-take, drop, map, codes, Option, Some, None, refl, sym, ap, subst, ◌∙◌, arith}
+use Rattle.std.specs.List.{flat_map}
+use Rattle.std.specs.Option.{option_map}
+use Rattle.std.proofs.lemmas.List.{drop-drop}
+use Rattle.flux_lexer.specs.declared.kinds.Token.{Token}
+use Rattle.flux_lexer.specs.declared.kinds.TokenKind.{TokenKind}
+use Rattle.flux_lexer.specs.declared.kinds.TokenKind.TheVariants.{Identifier}
+use Rattle.flux_lexer.specs.Pieces.{Piece, blank, remark, comment, opener, token, IsToken}
+use Rattle.flux_lexer.specs.Texts.{Part, Laid, tokens_of, token_of}
+use Rattle.flux_syntax.specs.declared.declarations.Word.{Word}
+use Rattle.flux_syntax.specs.declared.declarations.Decl.{Decl}
+use Rattle.flux_syntax.specs.declared.declarations.Decl.TheVariants as decl
+use Rattle.flux_syntax.specs.Symbols.{Symbol, is, symbol_of}
+use Rattle.flux_syntax.specs.Grammar.{IsProgram}
+use Rattle.flux_syntax.specs.Formatted.{joined, param_text, pattern_text, patterns_text, word_text, constraint_text, line_of, formatted}
+use Rattle.flux_syntax.specs.Again.{bare, bare_param, bare_constraint, bare_decl, AreOfText, Gives}
+use Rattle.flux_syntax.proofs.Told.{same_kind}
+use Rattle.flux_syntax.proofs.Printed.{seen, seen_at}
+use Rattle.flux_syntax.proofs.Backs.{IsGood, Good, back_all}
+
+-- ---- the names of a text are names
+
+same_length : (at n : ℕ) → (at + n) - at ≡ n
+same_length at n = omega arith
+
+good_token : (text : List ℕ) (at n : ℕ) (kind : TokenKind) → IsToken kind n (drop at text) → IsGood (symbol_of text (record { kind = kind; start = at; end = at + n }))
+good_token text at n kind t = one (is Identifier kind) refl
+  where
+    one : (b : Bool) → is Identifier kind ≡ b → IsGood (symbol_of text (record { kind = kind; start = at; end = at + n }))
+    one true e = let own = same_kind Identifier kind e in rw (e, same_length at n) (record { kind = t.spelled ∙ ap Some (sym own); short = omega (arith, t.short, length-take n (drop at text)) })
+    one false e = rw e tt
+
+good_part : (text : List ℕ) (at : ℕ) (piece : Piece) (n : ℕ) (parts : List Part) → Laid (record { piece = piece; length = n } ∷ parts) [] (drop at text) → Good (map (symbol_of text) (tokens_of (at + n) parts))
+    → Good (map (symbol_of text) (tokens_of at (record { piece = piece; length = n } ∷ parts)))
+good_part text at blank n parts laid more = more
+good_part text at remark n parts laid more = more
+good_part text at comment n parts laid more = more
+good_part text at opener n parts laid more = more
+good_part text at (token kind) n parts laid more = (good_token text at n kind laid.0, more)
+
+good_parts : (text : List ℕ) (at : ℕ) (parts : List Part) → Laid parts [] (drop at text) → Good (map (symbol_of text) (tokens_of at parts))
+good_parts text at [] laid = tt
+good_parts text at (part ∷ parts) laid =
+    good_part text at part.piece part.length parts laid (good_parts text (at + part.length) parts (subst (Laid parts []) (drop-drop part.length at text ∙ ap (λ (i : ℕ). drop i text) (omega arith)) laid.1))
+
+-- ---- what is seen are the symbols of the tokens
+
+seen_token : (text : List ℕ) (at n : ℕ) (piece : Piece) → map (symbol_of text) (token_of piece at n) ≡ seen_at piece at n (drop at text)
+seen_token text at n blank = refl
+seen_token text at n remark = refl
+seen_token text at n comment = refl
+seen_token text at n opener = refl
+seen_token text at n (token kind) = rw (same_length at n) refl
+
+map_append : (f : Token → Symbol) (a b : List Token) → map f (a ++ b) ≡ map f a ++ map f b
+map_append f [] b = refl
+map_append f (x ∷ a) b = ap (λ (l : List Symbol). f x ∷ l) (map_append f a b)
+
+seen_all : (text : List ℕ) (at : ℕ) (parts : List Part) → map (symbol_of text) (tokens_of at parts) ≡ seen at parts (drop at text)
+seen_all text at [] = refl
+seen_all text at (part ∷ parts) =
+    map_append (symbol_of text) (token_of part.piece at part.length) (tokens_of (at + part.length) parts)
+    ∙ ap (λ (l : List Symbol). l ++ map (symbol_of text) (tokens_of (at + part.length) parts)) (seen_token text at part.length part.piece)
+    ∙ ap (λ (l : List Symbol). seen_at part.piece at part.length (drop at text) ++ l) (seen_all text (at + part.length) parts ∙ ap (seen (at + part.length) parts) (sym (drop-drop part.length at text ∙ ap (λ (i : ℕ). drop i text) (omega arith))))
+
+-- ---- places don't matter to the text
+
+joined_bare : {A : Type 0} (between : List ℕ) (text : A → List ℕ) (plain : A → A) → ((x : A) → text (plain x) ≡ text x) → (xs : List A) → joined between text (map plain xs) ≡ joined between text xs
+joined_bare between text plain same [] = refl
+joined_bare {A} between text plain same (x ∷ xs) = rw (same x, others xs) refl
+  where
+    others : (xs : List A) → flat_map (λ y. between ++ text y) (map plain xs) ≡ flat_map (λ y. between ++ text y) xs
+    others [] = refl
+    others (y ∷ ys) = rw (same y, others ys) refl
+
+pattern_bare : (p : Option Word) → pattern_text (option_map bare p) ≡ pattern_text p
+pattern_bare None = refl
+pattern_bare (Some word) = refl
+
+patterns_bare : (patterns : Option (List (Option Word))) → patterns_text (option_map (map (option_map bare)) patterns) ≡ patterns_text patterns
+patterns_bare None = refl
+patterns_bare (Some patterns) = rw (joined_bare (codes ", ") pattern_text (option_map bare) pattern_bare patterns) refl
+
+line_bare : (d : Decl) → line_of (bare_decl d) ≡ line_of d
+line_bare (decl.Signature called ins outs) = rw (joined_bare (codes ", ") param_text bare_param (λ p. refl) ins, joined_bare (codes ", ") param_text bare_param (λ p. refl) outs) refl
+line_bare (decl.Flow called patterns members) = rw (patterns_bare patterns, joined_bare (codes " -> ") word_text bare (λ w. refl) members) refl
+line_bare (decl.Source called target) = refl
+line_bare (decl.Typedef called function) = refl
+line_bare (decl.Handler node handler) = refl
+line_bare (decl.Atomic node constraints) = rw (joined_bare (codes ", ") constraint_text bare_constraint (λ c. refl) constraints) refl
+line_bare (decl.Session source function) = refl
+
+formatted_bare : (decls : List Decl) → formatted (map bare_decl decls) ≡ formatted decls
+formatted_bare [] = refl
+formatted_bare (d ∷ decls) = rw (line_bare d, formatted_bare decls) refl
+
+pub same_text : (decls others : List Decl) → map bare_decl others ≡ map bare_decl decls → formatted others ≡ formatted decls
+same_text decls others alike = sym (formatted_bare others) ∙ ap formatted alike ∙ formatted_bare decls
+
+-- ---- the formatted text
+
+pub gives : (decls : List Decl) → AreOfText decls → length (formatted decls) ≤ 1048576 → Gives decls (formatted decls)
+gives decls of few =
+    let good = subst (λ (l : List Token). Good (map (symbol_of of.text) l)) (sym of.declared.are.are) (good_parts of.text 0 of.declared.are.parts of.declared.are.laid) in
+    let (s, (others, alike, program), lexes) = back_all decls (map (symbol_of of.text) of.declared.tokens) of.declared.spelled good 0 in
+    record {
+      others = others;
+      declared = record {
+        tokens = tokens_of 0 lexes.parts;
+        are = record { few = few; parts = lexes.parts; laid = lexes.laid; closed = lexes.closed; are = refl };
+        spelled = subst (IsProgram others) (sym (seen_all (formatted decls) 0 lexes.parts ∙ lexes.seen)) program;
+      };
+      alike = alike;
+      again = same_text decls others alike;
+    }

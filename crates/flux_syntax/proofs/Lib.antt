@@ -1,0 +1,12 @@
+pub mod Onward
+pub mod Told
+pub mod Separated
+pub mod Lines
+pub mod Whole
+pub mod Programs
+pub mod Fitting
+pub mod Refused
+pub mod Texts
+pub mod Printed
+pub mod Backs
+pub mod Formats

@@ -1,0 +1,61 @@
+-- Fault 4: where tokens stop being those of a program. And the faults 1 to 4 of a text.
+use Rattle.std.specs.Prelude.{◌≡◌, ◌≤◌, ◌<◌, ◌⊎◌, ℕ, List, [], ◌∷◌, ◌++◌, length, map, Result, Ok, Err}
+use Rattle.flux_faults.specs.declared.faults.FaultKind.{FaultKind}
+use Rattle.flux_faults.specs.declared.faults.FaultKind.TheVariants.{Unexpected}
+use Rattle.flux_faults.specs.declared.faults.CheckFault.{CheckFault}
+use Rattle.flux_faults.specs.declared.faults.CheckFault.TheVariants.{Static, Memory}
+use Rattle.flux_lexer.specs.declared.kinds.Token.{Token}
+use Rattle.flux_lexer.specs.Texts.{AreTokensOf, Stands}
+use Rattle.flux_syntax.specs.declared.declarations.Decl.{Decl}
+use Rattle.flux_syntax.specs.Symbols.{Symbol, symbol_of}
+use Rattle.flux_syntax.specs.Grammar.{IsProgram}
+use Rattle.flux_syntax.specs.Declares.{Spell}
+
+-- some program begins with the tokens
+abbrev pub CanBegin : List ℕ → List Token → Type 0
+CanBegin text tokens = (decls : List Decl) × (more : List Symbol) × IsProgram decls (map (symbol_of text) tokens ++ more)
+
+-- no program begins with these tokens and the next one; or they are all, and no program
+abbrev pub StopsAt : ℕ → List ℕ → List Token → List Token → Type 0
+StopsAt at text before [] = (at ≡ length text) × ((decls : List Decl) → Spell text before decls → ⊥)
+StopsAt at text before (token ∷ rest) = (at ≡ token.start) × (CanBegin text (before ++ token ∷ []) → ⊥)
+
+-- the first token such that no program begins with those up to it stands here; or the text ends, and it is no program
+pub record IsUnexpected (at : ℕ) (text : List ℕ) (tokens : List Token) : Type 0 where
+  pub before : List Token
+  pub rest : List Token
+  pub split : tokens ≡ before ++ rest
+  pub begun : CanBegin text before
+  pub stops : StopsAt at text before rest
+
+-- what a refusal says of the tokens
+abbrev pub IsFaultOf : List ℕ → List Token → CheckFault → Type 0
+IsFaultOf text tokens (Static fault) = (fault.kind ≡ Unexpected) × (fault.path ≡ []) × IsUnexpected fault.at text tokens
+IsFaultOf text tokens Memory = Unit {0}
+
+-- the declarations are answered, or memory was short
+abbrev pub AreDeclsOrMemory : List Decl → Result (List Decl) CheckFault → Type 0
+AreDeclsOrMemory decls (Ok answered) = answered ≡ decls
+AreDeclsOrMemory decls (Err Memory) = Unit {0}
+AreDeclsOrMemory decls (Err (Static fault)) = ⊥
+
+-- the fault is answered at this place, or memory was short
+abbrev pub IsFaultOrMemory : ℕ → Result (List Decl) CheckFault → Type 0
+IsFaultOrMemory at (Ok answered) = ⊥
+IsFaultOrMemory at (Err Memory) = Unit {0}
+IsFaultOrMemory at (Err (Static fault)) = fault.at ≡ at
+
+-- one of the faults 1 to 4 stands at a place of the text
+abbrev pub IsFaulty : FaultKind → ℕ → List ℕ → Type 0
+IsFaulty kind at text = Stands kind at text ⊎ ((kind ≡ Unexpected) × (tokens : List Token) × AreTokensOf tokens text × IsUnexpected at text tokens)
+
+-- what a refusal says of the text: a fault that stands, at a byte of the text or at its end
+abbrev pub IsRefusalOf : List ℕ → CheckFault → Type 0
+IsRefusalOf text (Static fault) = (fault.path ≡ []) × IsFaulty fault.kind fault.at text × (fault.at ≤ length text) × (fault.at < 4294967295)
+IsRefusalOf text Memory = Unit {0}
+
+-- the refusal is this fault, or memory was short
+abbrev pub IsThatOrMemory : FaultKind → ℕ → Result (List Decl) CheckFault → Type 0
+IsThatOrMemory kind at (Ok answered) = ⊥
+IsThatOrMemory kind at (Err Memory) = Unit {0}
+IsThatOrMemory kind at (Err (Static fault)) = (fault.kind ≡ kind) × (fault.at ≡ at)

@@ -1,0 +1,68 @@
+//! What a text declares.
+
+use flux_values::{List, Mode, TextBytes};
+
+/// A name, and the place of its first byte in the text, from 0.
+#[derive(Debug, Drop)]
+pub struct Word {
+    pub text: TextBytes,
+    pub at: u32,
+}
+
+/// A parameter: its type is a word with so many stars.
+#[derive(Debug, Drop)]
+pub struct Param {
+    pub ty: Word,
+    pub stars: u32,
+    pub name: Word,
+}
+
+/// A name that a node holds as reader or writer, in the whole program or in its session.
+#[derive(Debug, Drop)]
+pub struct Constraint {
+    pub name: Word,
+    pub mode: Mode,
+    pub session: bool,
+}
+
+/// A declaration.
+#[derive(Debug, Drop)]
+pub enum Decl {
+    /// `Name (int a) => (int b);`
+    Signature {
+        name: Word,
+        ins: List<Param>,
+        outs: List<Param>,
+    },
+    /// `Name = First -> Second;`, or with patterns `Name:[_, some] = First;`, where None is `_`.
+    Flow {
+        name: Word,
+        patterns: Option<List<Option<Word>>>,
+        members: List<Word>,
+    },
+    /// `source Name => Target;`
+    Source {
+        name: Word,
+        target: Word,
+    },
+    /// `typedef some Function;`
+    Typedef {
+        name: Word,
+        function: Word,
+    },
+    /// `handle error Node => Handler;`
+    Handler {
+        node: Word,
+        handler: Word,
+    },
+    /// `atomic Node:{name, other?(session)};`
+    Atomic {
+        node: Word,
+        constraints: List<Constraint>,
+    },
+    /// `session Source => Function;`
+    Session {
+        source: Word,
+        function: Word,
+    },
+}

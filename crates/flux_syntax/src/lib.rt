@@ -1,0 +1,19 @@
+//! The declarations of a program, from its tokens and back to text.
+//!
+//! `parse` gives the declarations that the tokens spell by the grammar, or the first token that no program has
+//! there. `format` gives their one formatted text, which is parsed to the same declarations.
+#![tactic(auto)]
+
+mod cursors;
+mod declarations;
+mod formatting;
+mod lists;
+mod parsing;
+mod reading;
+#[cfg(test)]
+mod tests;
+
+pub use declarations::{Constraint, Decl, Param, Word};
+pub use formatting::format;
+pub use parsing::parse;
+pub use reading::read;
