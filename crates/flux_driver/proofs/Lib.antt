@@ -1,7 +1,4 @@
-pub mod Turns
 pub mod Steps
-pub mod Grammar
-pub mod Spelled
 pub mod FormsRead
 pub mod KindsTold
 pub mod Strips
@@ -10,5 +7,6 @@ pub mod ItemLines
 pub mod Flows
 pub mod Walks
 pub mod Writes
+pub mod Once
 pub mod Prepared
 pub mod Answered

@@ -24,8 +24,8 @@ use Rattle.flux_model.specs.Walk.{ended_by, flow_events, IsFinished}
 use Rattle.flux_model.specs.Serial.{entries_of, AreWalks}
 use Rattle.flux_model.specs.Events.{events_by, own_events, own_answers, IsWhole}
 use Rattle.flux_model.specs.Answers.{IsRight, AreAnswersRight}
-use Rattle.flux_model.specs.Declarations.{Declaration}
-use Rattle.flux_model.specs.ProgramOfText.{library_name, names_of, place_of, node_of, nodes_of, program_of}
+use Rattle.flux_syntax.specs.declared.declarations.Decl.{Decl}
+use Rattle.flux_driver.specs.ProgramOfText.{library_name, names_of, place_of, node_of, nodes_of, program_of}
 use Rattle.flux_driver.specs.declared.forms.Join.{Join}
 use Rattle.flux_driver.specs.FirstForm.{has_name, lines_of}
 use Rattle.flux_driver.specs.Joins.{IsJoin}
@@ -187,7 +187,7 @@ pub record AreFlows (kinds : List Kind) (items : List Item) (p : Program) (journ
   pub excludes : Excludes p items journal.entries
   pub waits : IsFreeOfCycles p items journal.entries
 
-pub are_flows : (kinds : List Kind) (ds : List Declaration) (join : Join) (items : List Item) (p : Program) (journal : Journal)
+pub are_flows : (kinds : List Kind) (ds : List Decl) (join : Join) (items : List Item) (p : Program) (journal : Journal)
     → p ≡ program_of ds → IsJoin (names_of ds) (lines_of ds) join → AllByRecursion (IsItem kinds) items → journal.entries ≡ flows_of join 0 items → AreFlows kinds items p journal
 are_flows kinds ds join items p journal is j all made =
     let names = names_of ds in

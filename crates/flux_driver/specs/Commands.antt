@@ -4,6 +4,13 @@ use Rattle.std.specs.Fmt.{decimal}
 use Rattle.flux_outside.specs.Stores.{file_of, FitsIn}
 use Rattle.flux_outside.specs.declared.stores.File.{File}
 use Rattle.flux_outside.specs.declared.stores.File.TheVariants.{Found, Missing, Longer}
+use Rattle.flux_faults.specs.declared.faults.FaultKind.{FaultKind}
+use Rattle.flux_faults.specs.declared.faults.FaultKind.TheVariants.{NotBuilt}
+use Rattle.flux_faults.specs.Faults.{printed_fault}
+use Rattle.flux_syntax.specs.declared.declarations.Decl.{Decl}
+use Rattle.flux_syntax.specs.Declares.{Declares}
+use Rattle.flux_syntax.specs.Unexpected.{IsFaulty}
+use Rattle.flux_syntax.specs.Formatted.{formatted}
 use Rattle.flux_model.specs.declared.programs.Program.{Program}
 use Rattle.flux_model.specs.declared.journals.Item.{Item}
 use Rattle.flux_model.specs.declared.journals.Journal.{Journal}
@@ -15,21 +22,38 @@ use Rattle.flux_model.specs.Waits.{IsFreeOfCycles}
 use Rattle.flux_model.specs.Texts.{printed_journal}
 use Rattle.flux_driver.specs.declared.statuses.Status.{Status}
 use Rattle.flux_driver.specs.declared.statuses.Status.TheVariants as statuses
-use Rattle.flux_driver.specs.FirstForm.{IsNotBuilt, IsProgramOf}
+use Rattle.flux_driver.specs.ProgramOfText.{program_of}
+use Rattle.flux_driver.specs.FirstForm.{IsFirstForm}
 use Rattle.flux_driver.specs.Library.{outs_of, answering}
 use Rattle.flux_driver.specs.Items.{AreItemsOf, IsItemFault}
+
+-- ---- words
 
 -- a name in the words: neither empty nor an option
 abbrev pub IsName : List ℕ → Type 0
 IsName [] = ⊥
 IsName (b ∷ name) = b ≡ 45 → ⊥
 
--- the words are `run FILE ITEMS`
-pub record IsRun (words : List (List ℕ)) : Type 0 where
-  pub file : List ℕ
-  pub items : List ℕ
-  pub are : words ≡ codes "run" ∷ file ∷ items ∷ []
-  pub names : IsName file × IsName items
+-- `run FILE ITEMS` and `format FILE`
+pub data Command : Type 0 where
+  run : List ℕ → List ℕ → Command
+  format : List ℕ → Command
+
+-- the words are this command
+abbrev pub Asks : List (List ℕ) → Command → Type 0
+Asks words (run file items) = (words ≡ codes "run" ∷ file ∷ items ∷ []) × IsName file × IsName items
+Asks words (format file) = (words ≡ codes "format" ∷ file ∷ []) × IsName file
+
+-- the words are no command
+abbrev pub AsksNothing : List (List ℕ) → Type 0
+AsksNothing words = (command : Command) → Asks words command → ⊥
+
+-- the program's file
+abbrev pub program_file : Command → List ℕ
+program_file (run file items) = file
+program_file (format file) = file
+
+-- ---- files
 
 -- the contents of files by their names, where they are told
 abbrev pub Files : Type 0
@@ -44,23 +68,27 @@ pub record Gives (told : Files) (name : List ℕ) (max : ℕ) (file : File) : Ty
 abbrev pub IsLost : Files → List ℕ → ℕ → Type 0
 IsLost told name max = Gives told name max Missing ⊎ Gives told name max Longer
 
--- the program's text is there
-pub record HasText (words : List (List ℕ)) (told : Files) (text : List ℕ) : Type 0 where
-  pub run : IsRun words
-  pub gives : Gives told run.file 2097152 (Found text)
-
--- and it is of the first form
-pub record HasProgram (words : List (List ℕ)) (told : Files) : Type 0 where
+-- the program's file is there, of at most 2,097,152 bytes, and declares these
+pub record HasDecls (told : Files) (file : List ℕ) (decls : List Decl) : Type 0 where
   pub text : List ℕ
-  pub has : HasText words told text
+  pub gives : Gives told file 2097152 (Found text)
+  pub declared : Declares decls text
+
+-- and is of the first form, with this program
+pub record HasProgram (told : Files) (file : List ℕ) (p : Program) : Type 0 where
+  pub decls : List Decl
+  pub has : HasDecls told file decls
+  pub form : IsFirstForm decls
+  pub is : p ≡ program_of decls
+
+-- and the items file is there too, of at most 16,777,216 bytes
+pub record HasItems (told : Files) (file items : List ℕ) : Type 0 where
   pub program : Program
-  pub is : IsProgramOf text program
-
--- and the items text is there too
-pub record HasItems (words : List (List ℕ)) (told : Files) : Type 0 where
-  pub source : HasProgram words told
+  pub source : HasProgram told file program
   pub text : List ℕ
-  pub gives : Gives told source.has.run.items 16777216 (Found text)
+  pub gives : Gives told items 16777216 (Found text)
+
+-- ---- what is printed
 
 -- the journal of the items' flows: their walks one after the other, each flow whole, each call with its node's answer;
 -- conflicting sections never overlap, and no waits form a cycle
@@ -71,12 +99,27 @@ pub record IsRunOf (p : Program) (items : List Item) (journal : Journal) : Type 
   pub excludes : Excludes p items journal.entries
   pub waits : IsFreeOfCycles p items journal.entries
 
--- the lines of the statuses
+-- the text is the printed journal of the items of the items file
+pub record IsJournalText (told : Files) (file items text : List ℕ) : Type 0 where
+  pub has : HasItems told file items
+  pub items_are : List Item
+  pub are_items : AreItemsOf has.program (outs_of has.source.form.from) items_are has.text
+  pub journal : Journal
+  pub is_run : IsRunOf has.program items_are journal
+  pub printed : text ≡ printed_journal has.program journal
+
+-- `run` prints a journal, and `format` the formatted text of the declarations
+abbrev pub IsPrinted : Command → Files → List ℕ → Type 0
+IsPrinted (run file items) told text = IsJournalText told file items text
+IsPrinted (format file) told text = (decls : List Decl) × HasDecls told file decls × (text ≡ formatted decls)
+
+-- ---- lines of the other statuses
+
 abbrev pub usage_line : List ℕ
 usage_line = codes "flux: bad command line, try flux --help\n"
 
-abbrev pub not_built_line : List ℕ
-not_built_line = codes "1:1: fault 0 NotBuilt\n"
+abbrev pub fault_text : List ℕ → FaultKind → ℕ → List ℕ
+fault_text text kind at = printed_fault text (record { kind = kind; at = at; path = [] }) ++ codes "\n"
 
 abbrev pub item_fault_line : ℕ → List ℕ
 item_fault_line n = codes "line " ++ decimal n ++ codes ": item fault 0 NotBuilt\n"
@@ -90,70 +133,84 @@ write_line = codes "flux: write failed\n"
 abbrev pub lost_line : List ℕ → List ℕ
 lost_line name = codes "flux: missing or too long: " ++ name ++ codes "\n"
 
--- the journal is printed, and there is no line
-pub record IsDone (words : List (List ℕ)) (told : Files) (text line : List ℕ) : Type 0 where
-  pub has : HasItems words told
-  pub items : List Item
-  pub are_items : AreItemsOf has.source.program (outs_of has.source.is.form.from) items has.text
-  pub journal : Journal
-  pub is_run : IsRunOf has.source.program items journal
-  pub printed : text ≡ printed_journal has.source.program journal
-  pub none : line ≡ []
+-- ---- their causes
 
--- the words are no `run`
-pub record IsUsage (words : List (List ℕ)) (text line : List ℕ) : Type 0 where
-  pub no : IsRun words → ⊥
-  pub none : text ≡ []
-  pub said : line ≡ usage_line
+-- `run` wants declarations of the first form: others are not built
+abbrev pub IsNotBuilt : Command → List ℕ → FaultKind → ℕ → Type 0
+IsNotBuilt (run file items) text kind at = (kind ≡ NotBuilt) × (at ≡ 0) × (decls : List Decl) × Declares decls text × (IsFirstForm decls → ⊥)
+IsNotBuilt (format file) text kind at = ⊥
 
--- the text is of another form
-pub record IsStatic (words : List (List ℕ)) (told : Files) (text line : List ℕ) : Type 0 where
-  pub program : List ℕ
-  pub has : HasText words told program
-  pub other : IsNotBuilt program
-  pub none : text ≡ []
-  pub said : line ≡ not_built_line
+-- the program's text has a fault: one of 1 to 4, or it is not built
+pub record IsStatic (command : Command) (told : Files) (line : List ℕ) : Type 0 where
+  pub text : List ℕ
+  pub gives : Gives told (program_file command) 2097152 (Found text)
+  pub kind : FaultKind
+  pub at : ℕ
+  pub fault : IsFaulty kind at text ⊎ IsNotBuilt command text kind at
+  pub said : line ≡ fault_text text kind at
 
 -- the items text has a fault
-pub record IsItems (words : List (List ℕ)) (told : Files) (text line : List ℕ) : Type 0 where
-  pub has : HasItems words told
+pub record IsItemsText (told : Files) (file items line : List ℕ) : Type 0 where
+  pub has : HasItems told file items
   pub place : ℕ
-  pub fault : IsItemFault has.source.program (outs_of has.source.is.form.from) place has.text
-  pub none : text ≡ []
+  pub fault : IsItemFault has.program (outs_of has.source.form.from) place has.text
   pub said : line ≡ item_fault_line place
 
--- the file of the program isn't there, or the file of the items of a program that can be run
-pub record IsMissing (words : List (List ℕ)) (told : Files) (text line : List ℕ) : Type 0 where
+abbrev pub IsItems : Command → Files → List ℕ → Type 0
+IsItems (run file items) told line = IsItemsText told file items line
+IsItems (format file) told line = ⊥
+
+-- the items file of a program that can be run isn't there
+abbrev pub AreItemsLost : Command → Files → List ℕ → Type 0
+AreItemsLost (run file items) told name = (name ≡ items) × IsLost told items 16777216 × (p : Program) × HasProgram told file p
+AreItemsLost (format file) told name = ⊥
+
+-- the program's file isn't there, or the items file of a program that can be run
+pub record IsMissing (command : Command) (told : Files) (line : List ℕ) : Type 0 where
   pub name : List ℕ
-  pub lost : ((run : IsRun words) × (name ≡ run.file) × IsLost told name 2097152)
-      ⊎ ((source : HasProgram words told) × (name ≡ source.has.run.items) × IsLost told name 16777216)
-  pub none : text ≡ []
+  pub lost : ((name ≡ program_file command) × IsLost told (program_file command) 2097152) ⊎ AreItemsLost command told name
   pub said : line ≡ lost_line name
 
--- the statuses that words and files decide, with what is printed on `out` and on `err`
-abbrev pub IsDue : List (List ℕ) → Files → Status → List ℕ → List ℕ → Type 0
-IsDue words told statuses.Done text line = IsDone words told text line
-IsDue words told statuses.Usage text line = IsUsage words text line
-IsDue words told statuses.Static text line = IsStatic words told text line
-IsDue words told statuses.Items text line = IsItems words told text line
-IsDue words told statuses.Missing text line = IsMissing words told text line
-IsDue words told statuses.Read text line = ⊥
-IsDue words told statuses.Write text line = ⊥
-IsDue words told statuses.Door text line = ⊥
-IsDue words told statuses.No text line = ⊥
-IsDue words told statuses.NotServed text line = ⊥
-IsDue words told statuses.Memory text line = ⊥
+-- ---- statuses
 
--- every status with its text and its line; where a write failed, the text is the one that was to be printed
+-- what a command and the files decide: the status, what is printed on `out`, and the line on `err`
+abbrev pub Decided : Command → Files → Status → List ℕ → List ℕ → Type 0
+Decided command told statuses.Done text line = IsPrinted command told text × (line ≡ [])
+Decided command told statuses.Static text line = IsStatic command told line × (text ≡ [])
+Decided command told statuses.Items text line = IsItems command told line × (text ≡ [])
+Decided command told statuses.Missing text line = IsMissing command told line × (text ≡ [])
+Decided command told statuses.Usage text line = ⊥
+Decided command told statuses.Read text line = ⊥
+Decided command told statuses.Write text line = ⊥
+Decided command told statuses.Door text line = ⊥
+Decided command told statuses.No text line = ⊥
+Decided command told statuses.NotServed text line = ⊥
+Decided command told statuses.Memory text line = ⊥
+
+-- words that are no command
+abbrev pub IsUsage : List (List ℕ) → Status → List ℕ → List ℕ → Type 0
+IsUsage words status text line = AsksNothing words × (status ≡ statuses.Usage) × (text ≡ []) × (line ≡ usage_line)
+
+-- what words and files decide
+abbrev pub IsDue : List (List ℕ) → Files → Status → List ℕ → List ℕ → Type 0
+IsDue words told status text line = IsUsage words status text line ⊎ ((command : Command) × Asks words command × Decided command told status text line)
+
+-- what else a command can come to: reading failed, writing failed (the text is the one that was to be printed)
+abbrev pub Happened : Command → Files → Status → List ℕ → List ℕ → Type 0
+Happened command told statuses.Read text line = (text ≡ []) × (line ≡ read_line)
+Happened command told statuses.Write text line = IsPrinted command told text × (line ≡ write_line)
+Happened command told statuses.Done text line = ⊥
+Happened command told statuses.Static text line = ⊥
+Happened command told statuses.Items text line = ⊥
+Happened command told statuses.Missing text line = ⊥
+Happened command told statuses.Usage text line = ⊥
+Happened command told statuses.Door text line = ⊥
+Happened command told statuses.No text line = ⊥
+Happened command told statuses.NotServed text line = ⊥
+Happened command told statuses.Memory text line = ⊥
+
+-- every status with its text and its line: what is due, what else happened, or there was no memory
 abbrev pub IsAnswer : List (List ℕ) → Files → Status → List ℕ → List ℕ → Type 0
-IsAnswer words told statuses.Read text line = IsRun words × (text ≡ []) × (line ≡ read_line)
-IsAnswer words told statuses.Write text line = IsDone words told text [] × (line ≡ write_line)
-IsAnswer words told statuses.Memory text line = (text ≡ []) × (line ≡ [])
-IsAnswer words told statuses.Done text line = IsDone words told text line
-IsAnswer words told statuses.Usage text line = IsUsage words text line
-IsAnswer words told statuses.Static text line = IsStatic words told text line
-IsAnswer words told statuses.Items text line = IsItems words told text line
-IsAnswer words told statuses.Missing text line = IsMissing words told text line
-IsAnswer words told statuses.Door text line = ⊥
-IsAnswer words told statuses.No text line = ⊥
-IsAnswer words told statuses.NotServed text line = ⊥
+IsAnswer words told status text line = IsDue words told status text line
+    ⊎ (((command : Command) × Asks words command × Happened command told status text line)
+    ⊎ ((status ≡ statuses.Memory) × (text ≡ []) × (line ≡ [])))

@@ -1,14 +1,15 @@
--- The texts that are run for now: signatures of the library's nodes, and one source line.
-use Rattle.std.specs.Prelude.{◌≡◌, ℕ, ◌≤◌, Bool, true, false, List, [], ◌∷◌, ◌++◌, length, map, Option, Some, None, codes}
-use Rattle.std.specs.List.{AllByRecursion, list_any}
+-- The declarations that are run for now: signatures of the library's nodes, and one source line.
+use Rattle.std.specs.Prelude.{◌≡◌, ℕ, ◌==◌, ◌&&◌, Bool, true, false, List, [], ◌∷◌, ◌++◌, Option, Some, None, codes}
+use Rattle.std.specs.List.{list_all, list_any}
 use Rattle.std.specs.Str.{bytes_eq}
 use Rattle.flux_values.specs.declared.values.Kind.{Kind}
 use Rattle.flux_values.specs.declared.values.Kind.TheVariants.{Int, Bool as Truth, Text}
-use Rattle.flux_model.specs.declared.programs.Program.{Program}
-use Rattle.flux_model.specs.Declarations.{Declaration, Param, signature, source, AreDeclarationsOf}
-use Rattle.flux_model.specs.ProgramOfText.{library_name, names_of, program_of}
+use Rattle.flux_syntax.specs.declared.declarations.Param.{Param}
+use Rattle.flux_syntax.specs.declared.declarations.Decl.{Decl}
+use Rattle.flux_syntax.specs.declared.declarations.Decl.TheVariants.{Signature, Source}
 use Rattle.flux_driver.specs.declared.library.LibraryNode.{LibraryNode}
 use Rattle.flux_driver.specs.declared.declarations.Line.{Line}
+use Rattle.flux_driver.specs.ProgramOfText.{library_name, names_of}
 use Rattle.flux_driver.specs.Library.{library_node, ins_of, outs_of, is_source}
 
 -- how a kind is spelled
@@ -17,24 +18,31 @@ kind_word Int = codes "int"
 kind_word Truth = codes "bool"
 kind_word Text = codes "text"
 
--- the parameters have these kinds
-abbrev pub HaveKinds : List Param → List Kind → Type 0
-HaveKinds params kinds = map (λ p. p.ty) params ≡ map kind_word kinds
+-- a parameter's type is a kind's word, without stars
+abbrev pub has_kind : Param → Kind → Bool
+has_kind param kind = bytes_eq param.ty.text (kind_word kind) && (param.stars == 0)
+
+abbrev pub have_kinds : List Param → List Kind → Bool
+have_kinds [] [] = true
+have_kinds (param ∷ params) (kind ∷ kinds) = has_kind param kind && have_kinds params kinds
+have_kinds params kinds = false
 
 -- a signature is that of its library node
-abbrev pub IsSignatureOf : Option LibraryNode → List Param → List Param → Type 0
-IsSignatureOf None ins outs = ⊥
-IsSignatureOf (Some node) ins outs = HaveKinds ins (ins_of node) × HaveKinds outs (outs_of node)
+abbrev pub is_signature : Option LibraryNode → List Param → List Param → Bool
+is_signature None ins outs = false
+is_signature (Some node) ins outs = have_kinds ins (ins_of node) && have_kinds outs (outs_of node)
 
-abbrev pub IsFromLibrary : Declaration → Type 0
-IsFromLibrary (signature name ins outs) = IsSignatureOf (library_node (library_name name)) ins outs
-IsFromLibrary (source name target) = Unit {0}
+-- a signature of the library, or a source line
+abbrev pub is_simple : Decl → Bool
+is_simple (Signature name ins outs) = is_signature (library_node (library_name name.text)) ins outs
+is_simple (Source name target) = true
+is_simple other = false
 
 -- the source lines, as pairs of names
-abbrev pub lines_of : List Declaration → List Line
+abbrev pub lines_of : List Decl → List Line
 lines_of [] = []
-lines_of (signature name ins outs ∷ declarations) = lines_of declarations
-lines_of (source name target ∷ declarations) = record { source = name; target = target } ∷ lines_of declarations
+lines_of (Source name target ∷ decls) = record { source = name.text; target = target.text } ∷ lines_of decls
+lines_of (other ∷ decls) = lines_of decls
 
 -- whether a name is among names
 abbrev pub has_name : List ℕ → List (List ℕ) → Bool
@@ -62,22 +70,10 @@ pub record IsJoined (names : List (List ℕ)) (lines : List Line) (from to : Lib
   pub roles : (is_source from ≡ true) × (is_source to ≡ false)
   pub fits : outs_of from ≡ ins_of to
 
--- the text is of the first form
-pub record IsFirstForm (text : List ℕ) (declarations : List Declaration) : Type 0 where
-  pub short : length text ≤ 16384
-  pub declared : AreDeclarationsOf declarations text
-  pub library : AllByRecursion IsFromLibrary declarations
-  pub distinct : AreDistinct (names_of declarations)
+-- the declarations are of the first form
+pub record IsFirstForm (decls : List Decl) : Type 0 where
+  pub simple : list_all is_simple decls ≡ true
+  pub distinct : AreDistinct (names_of decls)
   pub from : LibraryNode
   pub to : LibraryNode
-  pub joined : IsJoined (names_of declarations) (lines_of declarations) from to
-
--- a text of another form
-abbrev pub IsNotBuilt : List ℕ → Type 0
-IsNotBuilt text = (declarations : List Declaration) → IsFirstForm text declarations → ⊥
-
--- the program of a text of the first form
-pub record IsProgramOf (text : List ℕ) (p : Program) : Type 0 where
-  pub declarations : List Declaration
-  pub form : IsFirstForm text declarations
-  pub is : p ≡ program_of declarations
+  pub joined : IsJoined (names_of decls) (lines_of decls) from to

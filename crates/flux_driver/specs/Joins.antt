@@ -1,11 +1,11 @@
--- What reading a text of the first form gives.
+-- What the declarations of the first form give.
 use Rattle.std.specs.Prelude.{◌≡◌, ℕ, List}
-use Rattle.flux_model.specs.Declarations.{Declaration}
-use Rattle.flux_model.specs.ProgramOfText.{names_of, place_of, program_of}
+use Rattle.flux_syntax.specs.declared.declarations.Decl.{Decl}
 use Rattle.flux_driver.specs.declared.library.LibraryNode.{LibraryNode}
 use Rattle.flux_driver.specs.declared.declarations.Line.{Line}
 use Rattle.flux_driver.specs.declared.forms.Join.{Join}
 use Rattle.flux_driver.specs.declared.forms.Ready.{Ready}
+use Rattle.flux_driver.specs.ProgramOfText.{names_of, place_of, program_of}
 use Rattle.flux_driver.specs.FirstForm.{lines_of, IsJoined, IsFirstForm}
 
 -- the nodes that a source line joins, with their numbers
@@ -18,9 +18,8 @@ pub record IsJoin (names : List (List ℕ)) (lines : List Line) (join : Join) : 
 abbrev pub JoinsNone : List (List ℕ) → List Line → Type 0
 JoinsNone names lines = (from to : LibraryNode) → IsJoined names lines from to → ⊥
 
--- the program of a text of the first form, and what its one source line joins
-pub record IsReady (text : List ℕ) (ready : Ready) : Type 0 where
-  pub declarations : List Declaration
-  pub form : IsFirstForm text declarations
-  pub is : ready.program ≡ program_of declarations
-  pub join : IsJoin (names_of declarations) (lines_of declarations) ready.join
+-- the program of the declarations, and what its one source line joins
+pub record IsReady (decls : List Decl) (ready : Ready) : Type 0 where
+  pub form : IsFirstForm decls
+  pub is : ready.program ≡ program_of decls
+  pub join : IsJoin (names_of decls) (lines_of decls) ready.join

@@ -1,4 +1,5 @@
 pub mod Library
+pub mod ProgramOfText
 pub mod FirstForm
 pub mod Reading
 pub mod Runs

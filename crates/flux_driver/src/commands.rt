@@ -1,17 +1,19 @@
 //! The command line: the words, and what they do.
 
-ghost use Rattle.std.specs.Prelude.{◌≡◌, ◌≤◌, ◌↔◌, ◌⊎◌, [], List, ℕ, IsTrue, IfOk, IfErr, IfSome, IfNone, Some};
+ghost use Rattle.std.specs.Prelude.{◌≡◌, ◌≤◌, ◌<◌, ◌↔◌, ◌⊎◌, ◌++◌, [], ◌∷◌, List, ℕ, IsTrue, IfOk, IfErr, IfSome, IfNone, Some, length, codes};
+ghost use Rattle.flux_faults.specs.Faults.{printed_fault};
+ghost use Rattle.flux_faults.specs.declared.faults.FaultKind.TheVariants as kinds;
+ghost use Rattle.flux_syntax.specs.Declares.{Declares};
 ghost use Rattle.flux_model.specs.declared.journals.Item.{Item};
 ghost use Rattle.flux_outside.specs.Causes.{Rose};
 ghost use Rattle.flux_outside.specs.declared.stores.File.TheVariants as files;
-ghost use Rattle.flux_driver.specs.declared.statuses.Status.{Status};
 ghost use Rattle.flux_driver.specs.declared.statuses.Status.TheVariants as statuses;
 ghost use Rattle.flux_driver.specs.declared.refusals.Refusal.TheVariants as refusals;
 ghost use Rattle.flux_driver.specs.Library.{ins_of, outs_of};
 ghost use Rattle.flux_driver.specs.Items.{AreItemsOf, IsItemFault};
-ghost use Rattle.flux_driver.specs.Commands.{IsName, IsRun, Gives, IsDone, IsDue, IsAnswer, write_line};
-ghost use Rattle.flux_driver.specs.Refusals.{status_of, line_of, IsUnread};
-ghost use Rattle.flux_driver.specs.Steps.{AreNames, IsPrinted, AreRefused, prepared_status, Settles};
+ghost use Rattle.flux_driver.specs.Commands.{IsName, Command, run, format, Asks, AsksNothing, Gives, IsPrinted, IsDue, IsAnswer, fault_text, write_line};
+ghost use Rattle.flux_driver.specs.Refusals.{status_of, line_of, IsUnread, IsTextRefused, IsLineOrMemory, IsRefused};
+ghost use Rattle.flux_driver.specs.Steps.{asked, IsWritten, AreRefused, prepared_status, IsFirm};
 ghost use Rattle.flux_driver.specs.Writing.{Gained, Failed, GainedOrFailed};
 
 use crate::forms::{Ready, read_program};
@@ -21,8 +23,10 @@ use crate::refusals::Refusal;
 use crate::running::run;
 use crate::statuses::Status;
 use crate::writing::write_all;
+use flux_faults::{CheckFault, FaultKind, StaticFault, fault_line};
 use flux_outside::{File, Sink, Store, StoreFault};
-use flux_values::Bytes;
+use flux_syntax::{Decl, format, read};
+use flux_values::{Bytes, List, Memory};
 use std::alloc::Global;
 
 /// A program file has at most so many bytes.
@@ -30,6 +34,13 @@ const PROGRAM_FILE_LIMIT: usize = 2_097_152;
 
 /// An items file has at most so many bytes.
 const ITEMS_FILE_LIMIT: usize = 16_777_216;
+
+/// What the words ask for, with the names of files.
+#[derive(Clone, Copy, Debug)]
+pub enum Asked<'a> {
+    Run { file: &'a [u8], items: &'a [u8] },
+    Format { file: &'a [u8] },
+}
 
 /// Whether a word can be a file's name: it isn't empty, and no option.
 fn is_name(word: &[u8]) -> bool
@@ -41,19 +52,39 @@ fn is_name(word: &[u8]) -> bool
     }
 }
 
-/// The names of the program's file and of the items file.
-fn file_names(words: &[Bytes]) -> Option<(&[u8], &[u8])>
-    ensures found { IfSome result (λ names. AreNames words.now names.0.now names.1.now) }
-    ensures none { IfNone result (IsRun words.now → ⊥) }
+fn read_run<'a>(command: &[u8], file: &'a [u8], items: &'a [u8]) -> Option<Asked<'a>>
+    ensures found { IfSome result (λ a. Asks (command.now ∷ file.now ∷ items.now ∷ []) (asked a)) }
+    ensures none { IfNone result (AsksNothing (command.now ∷ file.now ∷ items.now ∷ [])) }
 {
-    let [command, file, items] = words else {
-        return None;
-    };
-    let (file, items) = (file.as_bytes(), items.as_bytes());
-    if command.as_bytes() == b"run".as_slice() && is_name(file) && is_name(items) {
-        Some((file, items))
+    if command == b"run".as_slice() && is_name(file) && is_name(items) {
+        Some(Asked::Run { file, items })
     } else {
         None
+    }
+}
+
+fn read_format<'a>(command: &[u8], file: &'a [u8]) -> Option<Asked<'a>>
+    ensures found { IfSome result (λ a. Asks (command.now ∷ file.now ∷ []) (asked a)) }
+    ensures none { IfNone result (AsksNothing (command.now ∷ file.now ∷ [])) }
+{
+    if command == b"format".as_slice() && is_name(file) {
+        Some(Asked::Format { file })
+    } else {
+        None
+    }
+}
+
+/// What the words ask for; None where they are no command.
+fn read_words(words: &[Bytes]) -> Option<Asked>
+    ensures found { IfSome result (λ a. Asks words.now (asked a)) }
+    ensures none { IfNone result (AsksNothing words.now) }
+{
+    match words {
+        [command, file] => read_format(command.as_bytes(), file.as_bytes()),
+        [command, file, items] => {
+            read_run(command.as_bytes(), file.as_bytes(), items.as_bytes())
+        }
+        _ => None,
     }
 }
 
@@ -78,10 +109,56 @@ fn load<'a, S: Store>(
     }
 }
 
+fn static_line(alloc: Global, text: &[u8], fault: &StaticFault) -> Result<Bytes, Memory>
+    requires inside { fault.now.at ≤ length text.now }
+    requires room { fault.now.at < 4294967295 }
+    ensures { IfOk result (λ line. line ≡ printed_fault text.now fault.now ++ codes "\n") }
+{
+    let mut line = fault_line(alloc, text, fault)?;
+    line.append(b"\n")?;
+    Ok(line)
+}
+
+/// The refusal of a text for a fault.
+fn refuse_text<'a>(alloc: Global, text: &[u8], fault: &StaticFault) -> Refusal<'a>
+    requires inside { fault.now.at ≤ length text.now }
+    requires room { fault.now.at < 4294967295 }
+    ensures { IsLineOrMemory (printed_fault text.now fault.now ++ codes "\n") result }
+{
+    match static_line(alloc, text, fault) {
+        Ok(line) => Refusal::Static(line),
+        Err(_) => Refusal::Memory,
+    }
+}
+
+/// The declarations of a text.
+fn read_text<'a>(alloc: Global, text: &[u8]) -> Result<List<Decl>, Refusal<'a>>
+    ensures declared { IfOk result (λ decls. Declares decls text.now) }
+    ensures refused { IfErr result (IsTextRefused text.now) }
+{
+    match read(alloc, text) {
+        Ok(decls) => Ok(decls),
+        Err(CheckFault::Static(fault)) => Err(refuse_text(alloc, text, &fault)),
+        Err(CheckFault::Memory) => Err(Refusal::Memory),
+    }
+}
+
+/// The refusal of a text that isn't of the first form.
+fn not_built<'a>(alloc: Global, text: &[u8]) -> Refusal<'a>
+    ensures { IsLineOrMemory (fault_text text.now kinds.NotBuilt 0) result }
+{
+    let fault = StaticFault {
+        kind: FaultKind::NotBuilt,
+        at: 0,
+        path: List::new(alloc),
+    };
+    refuse_text(alloc, text, &fault)
+}
+
 /// The printed journal of an items text's flows.
 fn carry_out<'a>(alloc: Global, ready: &Ready, text: &[u8]) -> Result<Bytes, Refusal<'a>>
     requires { outs_of ready.now.join.from ≡ ins_of ready.now.join.to }
-    ensures printed { IfOk result (IsPrinted ready.now text.now) }
+    ensures printed { IfOk result (IsWritten ready.now text.now) }
     ensures refused { IfErr result (AreRefused ready.now text.now) }
     ensures items { (items : List Item) → AreItemsOf ready.now.program (outs_of ready.now.join.from) items text.now → IfErr result (λ refusal. refusal ≡ refusals.Memory) }
     ensures fault { (place : ℕ) → IsItemFault ready.now.program (outs_of ready.now.join.from) place text.now → IfOk result (λ _. ⊥) }
@@ -95,6 +172,67 @@ fn carry_out<'a>(alloc: Global, ready: &Ready, text: &[u8]) -> Result<Bytes, Ref
     }
 }
 
+/// The journal that `run` prints.
+fn prepare_run<'a, S: Store>(
+    alloc: Global,
+    file: &'a [u8],
+    items: &'a [u8],
+    store: &mut S,
+) -> Result<Bytes, Refusal<'a>>
+    ensures kept { S.files store.new ≡ S.files store.old }
+    ensures later { S.faults store.old ≤ S.faults store.new }
+    ensures done { IfOk result (IsPrinted (run file.now items.now) (S.files store.old)) }
+    ensures refused { IfErr result (IsRefused (run file.now items.now) (S.files store.old)) }
+    ensures read { IfErr result (λ refusal. status_of refusal ≡ statuses.Read → Rose (S.faults store.old) (S.faults store.new)) }
+    ensures firm { IfSome (S.files store.old) (λ told. IsFirm (run file.now items.now) (Some told) (prepared_status result)) }
+{
+    let text = match load(alloc, store, file, PROGRAM_FILE_LIMIT) {
+        Ok(text) => text,
+        Err(refusal) => return Err(refusal),
+    };
+    let decls = match read_text(alloc, text.as_bytes()) {
+        Ok(decls) => decls,
+        Err(refusal) => return Err(refusal),
+    };
+    let ready = match read_program(alloc, decls.as_slice()) {
+        Ok(Some(ready)) => ready,
+        Ok(None) => return Err(not_built(alloc, text.as_bytes())),
+        Err(_) => return Err(Refusal::Memory),
+    };
+    let items_text = match load(alloc, store, items, ITEMS_FILE_LIMIT) {
+        Ok(text) => text,
+        Err(refusal) => return Err(refusal),
+    };
+    carry_out(alloc, &ready, items_text.as_bytes())
+}
+
+/// The text that `format` prints.
+fn prepare_format<'a, S: Store>(
+    alloc: Global,
+    file: &'a [u8],
+    store: &mut S,
+) -> Result<Bytes, Refusal<'a>>
+    ensures kept { S.files store.new ≡ S.files store.old }
+    ensures later { S.faults store.old ≤ S.faults store.new }
+    ensures done { IfOk result (IsPrinted (format file.now) (S.files store.old)) }
+    ensures refused { IfErr result (IsRefused (format file.now) (S.files store.old)) }
+    ensures read { IfErr result (λ refusal. status_of refusal ≡ statuses.Read → Rose (S.faults store.old) (S.faults store.new)) }
+    ensures firm { IfSome (S.files store.old) (λ told. IsFirm (format file.now) (Some told) (prepared_status result)) }
+{
+    let text = match load(alloc, store, file, PROGRAM_FILE_LIMIT) {
+        Ok(text) => text,
+        Err(refusal) => return Err(refusal),
+    };
+    let decls = match read_text(alloc, text.as_bytes()) {
+        Ok(decls) => decls,
+        Err(refusal) => return Err(refusal),
+    };
+    match format(alloc, &decls) {
+        Ok(formatted) => Ok(formatted),
+        Err(_) => Err(Refusal::Memory),
+    }
+}
+
 /// What is to be printed: all of it is made before any of it is written.
 pub fn prepare<'a, S: Store>(
     alloc: Global,
@@ -103,22 +241,16 @@ pub fn prepare<'a, S: Store>(
 ) -> Result<Bytes, Refusal<'a>>
     ensures kept { S.files store.new ≡ S.files store.old }
     ensures later { S.faults store.old ≤ S.faults store.new }
-    ensures done { IfOk result (λ text. IsDone words.now (S.files store.old) text []) }
+    ensures done { IfOk result (λ text. (command : Command) × Asks words.now command × IsPrinted command (S.files store.old) text) }
     ensures refused { IfErr result (λ refusal. IsAnswer words.now (S.files store.old) (status_of refusal) [] (line_of refusal)) }
     ensures read { IfErr result (λ refusal. status_of refusal ≡ statuses.Read → Rose (S.faults store.old) (S.faults store.new)) }
-    ensures usage { (IsRun words.now → ⊥) → prepared_status result ≡ statuses.Usage }
-    ensures complete { IfSome (S.files store.old) (λ told. (due : Status) (text line : List ℕ) → IsDue words.now (Some told) due text line
-        → Settles (prepared_status result) due (S.faults store.old) (S.faults store.new)) }
+    ensures firm { IfSome (S.files store.old) (λ told. (command : Command) → Asks words.now command → IsFirm command (Some told) (prepared_status result)) }
 {
-    let Some((file, items)) = file_names(words) else {
-        return Err(Refusal::Usage);
-    };
-    let text = load(alloc, store, file, PROGRAM_FILE_LIMIT)?;
-    let Some(ready) = read_program(alloc, text.as_bytes())? else {
-        return Err(Refusal::Static);
-    };
-    let items_text = load(alloc, store, items, ITEMS_FILE_LIMIT)?;
-    carry_out(alloc, &ready, items_text.as_bytes())
+    match read_words(words) {
+        Some(Asked::Run { file, items }) => prepare_run(alloc, file, items, store),
+        Some(Asked::Format { file }) => prepare_format(alloc, file, store),
+        None => Err(Refusal::Usage),
+    }
 }
 
 /// Writes a line. A fault of the sink changes nothing else.

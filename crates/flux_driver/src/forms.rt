@@ -1,20 +1,17 @@
-//! Texts of the first form: their program, and what their source line joins.
+//! Declarations of the first form: their program, and what their source line joins.
 
 ghost use Rattle.std.specs.Prelude.{◌≡◌, ◌≤◌, ◌<◌, ◌^◌, ◌↔◌, IsTrue, true, false, List, [], ◌∷◌, IfOk, IfSome, IfNone, IsSomeAnd, Some, None, length};
-ghost use Rattle.flux_model.specs.Declarations.{Declaration};
-ghost use Rattle.flux_model.specs.ProgramOfText.{names_of, place_of, nodes_of, program_of};
-ghost use Rattle.flux_driver.specs.FirstForm.{has_name, lines_of, IsFirstForm};
+ghost use Rattle.flux_driver.specs.ProgramOfText.{place_of, nodes_of};
+ghost use Rattle.flux_driver.specs.FirstForm.{has_name, IsFirstForm};
 ghost use Rattle.flux_driver.specs.Joins.{IsJoin, JoinsNone, IsReady};
 ghost use Rattle.flux_driver.specs.Library.{is_source, ins_of, outs_of};
 
 use crate::declarations::{Declared, copy_name, has_name, library_name, read_declared};
 use crate::library::LibraryNode;
 use flux_model::{Body, Node, NodeNo, Program, SourceLine};
+use flux_syntax::Decl;
 use flux_values::{Kind, List, Memory, TextBytes};
 use std::alloc::Global;
-
-/// A text of the first form has at most so many bytes.
-const FIRST_FORM_LIMIT: usize = 16_384;
 
 /// What a source line joins: the library's nodes of its source and of its target, and their numbers.
 #[derive(Clone, Copy, Debug)]
@@ -129,15 +126,13 @@ fn program_of(alloc: Global, declared: &Declared, join: Join) -> Result<Program,
     })
 }
 
-/// The program of a text of the first form; None for a text of another form.
-pub fn read_program(alloc: Global, text: &[u8]) -> Result<Option<Ready>, Memory>
-    ensures found { IfOk result (λ ready. IfSome ready (IsReady text.now)) }
-    ensures only { (declarations : List Declaration) → IsFirstForm text.now declarations → IfOk result (λ ready. IsSomeAnd ready (λ r. (r.program ≡ program_of declarations) × IsJoin (names_of declarations) (lines_of declarations) r.join)) }
+/// The program of declarations of the first form; None for others.
+pub fn read_program(alloc: Global, decls: &[Decl]) -> Result<Option<Ready>, Memory>
+    requires { length decls.now < 2 ^ 32 }
+    ensures found { IfOk result (λ ready. IfSome ready (IsReady decls.now)) }
+    ensures none { IfOk result (λ ready. IfNone ready (IsFirstForm decls.now → ⊥)) }
 {
-    if text.len() > FIRST_FORM_LIMIT {
-        return Ok(None);
-    }
-    let Some(declared) = read_declared(alloc, text)? else {
+    let Some(declared) = read_declared(alloc, decls)? else {
         return Ok(None);
     };
     let Some(join) = find_join(&declared) else {

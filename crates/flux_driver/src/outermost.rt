@@ -4,7 +4,7 @@ ghost use Rattle.std.specs.Prelude.{◌≡◌, ◌≤◌, ◌⊎◌, List, ℕ, 
 ghost use Rattle.flux_outside.specs.Causes.{Rose};
 ghost use Rattle.flux_driver.specs.declared.statuses.Status.{Status};
 ghost use Rattle.flux_driver.specs.declared.statuses.Status.TheVariants as statuses;
-ghost use Rattle.flux_driver.specs.Commands.{IsRun, IsDue};
+ghost use Rattle.flux_driver.specs.Commands.{AsksNothing, IsDue};
 ghost use Rattle.flux_driver.specs.Top.{Answers, Decides};
 
 use crate::commands::{prepare, print, refuse};
@@ -25,7 +25,7 @@ pub struct World<S: Store, O: Sink, E: Sink> {
 /// Does what the words say, and answers how it ended.
 ///
 /// The words are those behind the program's own name. `run FILE ITEMS` runs the items of one file through the
-/// program of another and prints the journal of their flows.
+/// program of another and prints the journal of their flows; `format FILE` prints a program's formatted text.
 pub fn top<S: Store, O: Sink, E: Sink>(
     alloc: Global,
     words: &[Bytes],
@@ -42,7 +42,7 @@ pub fn top<S: Store, O: Sink, E: Sink>(
     ensures read { result ≡ statuses.Read → Rose (S.faults world.old.store) (S.faults world.new.store) }
     ensures write { result ≡ statuses.Write → Rose (O.faults world.old.out) (O.faults world.new.out) }
     // Words that are no command are refused, unless memory is short.
-    ensures usage { (IsRun words.now → ⊥) → (result ≡ statuses.Usage) ⊎ (result ≡ statuses.Memory) }
+    ensures usage { AsksNothing words.now → (result ≡ statuses.Usage) ⊎ (result ≡ statuses.Memory) }
     // What words and told files decide is answered, unless memory is short or a count rose.
     ensures complete { IfSome (S.files world.old.store) (λ files. (due : Status) (text line : List ℕ) → IsDue words.now (Some files) due text line
         → Decides result due (S.faults world.old.store) (S.faults world.new.store) (O.faults world.old.out) (O.faults world.new.out)) }

@@ -9,10 +9,11 @@ use flux_values::{Bytes, Memory, append_number};
 use std::alloc::Global;
 
 /// Why a command was not carried out.
-#[derive(Clone, Copy, Debug)]
+#[derive(Debug, Drop)]
 pub enum Refusal<'a> {
     Usage,
-    Static,
+    /// The line about a fault of the program's text.
+    Static(Bytes),
     /// The first line of the items text that is none, from 1.
     Items(u64),
     Read,
@@ -30,12 +31,12 @@ impl<'a> From<Memory> for Refusal<'a> {
 }
 
 impl<'a> Refusal<'a> {
-    pub fn status(self) -> Status
-        ensures { result ≡ status_of self.entry }
+    pub fn status(&self) -> Status
+        ensures { result ≡ status_of self.now }
     {
         match self {
             Refusal::Usage => Status::Usage,
-            Refusal::Static => Status::Static,
+            Refusal::Static(_) => Status::Static,
             Refusal::Items(_) => Status::Items,
             Refusal::Read => Status::Read,
             Refusal::Missing(_) => Status::Missing,
@@ -44,16 +45,16 @@ impl<'a> Refusal<'a> {
     }
 
     /// The line that is written about it.
-    pub fn line(self, alloc: Global) -> Result<Bytes, Memory>
-        ensures { IfOk result (λ line. line ≡ line_of self.entry) }
+    pub fn line(&self, alloc: Global) -> Result<Bytes, Memory>
+        ensures { IfOk result (λ line. line ≡ line_of self.now) }
     {
         let mut line = Bytes::new(alloc);
         match self {
             Refusal::Usage => line.append(b"flux: bad command line, try flux --help\n")?,
-            Refusal::Static => line.append(b"1:1: fault 0 NotBuilt\n")?,
+            Refusal::Static(text) => line.append(text.as_bytes())?,
             Refusal::Items(place) => {
                 line.append(b"line ")?;
-                append_number(alloc, &mut line, place)?;
+                append_number(alloc, &mut line, *place)?;
                 line.append(b": item fault 0 NotBuilt\n")?;
             }
             Refusal::Read => line.append(b"flux: read failed\n")?,

@@ -17,6 +17,9 @@ const TICK: &str = "Tick () => (int n);\nPass (int n) => (int n);\nsource Tick =
 const ECHOED: &str =
     "0 enter Echo\n0 call Echo (1, \"hi\") ok () emits \"hi\"\n0 exit Echo ok\n0 end done\n";
 
+const FORMATTED: &str =
+    "Read (int socket, char* line) => (int socket, bool close);\nPage = Read -> Write;\nPage_two:[_, hit] = ;\nsource Listen => Page;\ntypedef hit TestInCache;\nhandle error Read => FourOhFour;\natomic Write:{cache, users?(session)};\nsession Listen => ByConn;\n";
+
 const USAGE: &str = "flux: bad command line, try flux --help\n";
 
 /// How many bytes the sinks have room for.
@@ -46,6 +49,17 @@ fn run_of(
         words: &["run", "program", "items"],
         program,
         items,
+        status,
+        out,
+        err,
+    }
+}
+
+fn format_of(program: &'static str, status: Status, out: &'static str, err: &'static str) -> Case {
+    Case {
+        words: &["format", "program"],
+        program,
+        items: "",
         status,
         out,
         err,
@@ -168,6 +182,74 @@ fn commands_answer_as_the_table_says(rt: HostRuntime) -> Result<(), Fail> {
             "",
             "line 2: item fault 0 NotBuilt\n",
         ),
+        run_of(
+            "Listen () => (int* l, text w);\nEcho (int l, text w) => ();\nsource Listen => Echo;",
+            "",
+            Status::Static,
+            "",
+            not_built,
+        ),
+        run_of(
+            "A = B $ C;",
+            "",
+            Status::Static,
+            "",
+            "1:7: fault 2 BadByte\n",
+        ),
+        run_of(
+            "\n\n  /*",
+            "",
+            Status::Static,
+            "",
+            "3:3: fault 3 UnclosedComment\n",
+        ),
+        run_of(
+            "source Tick =>",
+            "",
+            Status::Static,
+            "",
+            "1:15: fault 4 Unexpected\n",
+        ),
+        format_of(
+            "atomic  A:{x!,y ?(session)} ; B:[_,hit]=;",
+            Status::Done,
+            "atomic A:{x, y?(session)};\nB:[_, hit] = ;\n",
+            "",
+        ),
+        format_of(FORMATTED, Status::Done, FORMATTED, ""),
+        format_of("", Status::Done, "", ""),
+        format_of("A = B $ C;", Status::Static, "", "1:7: fault 2 BadByte\n"),
+        format_of("/*", Status::Static, "", "1:1: fault 3 UnclosedComment\n"),
+        format_of(
+            "source Tick =>",
+            Status::Static,
+            "",
+            "1:15: fault 4 Unexpected\n",
+        ),
+        Case {
+            words: &["format", "absent"],
+            program: ECHO,
+            items: "",
+            status: Status::Missing,
+            out: "",
+            err: "flux: missing or too long: absent\n",
+        },
+        Case {
+            words: &["format", "program", "items"],
+            program: ECHO,
+            items: "",
+            status: Status::Usage,
+            out: "",
+            err: USAGE,
+        },
+        Case {
+            words: &["format", "-p"],
+            program: ECHO,
+            items: "",
+            status: Status::Usage,
+            out: "",
+            err: USAGE,
+        },
         Case {
             words: &[],
             program: ECHO,
@@ -288,6 +370,91 @@ fn a_file_past_its_limit_is_too_long(rt: HostRuntime) -> Result<(), Fail> {
             wanted,
             "{program} and {}",
             items.len()
+        );
+    }
+    Ok(())
+}
+
+/// The first example behind blanks and comments, in a text of so many bytes.
+fn spread(alloc: Global, length: usize) -> Result<Bytes, Fail> {
+    let start = b"// one\n/* two, and // three */".as_slice();
+    let mut text = Bytes::copy(alloc, start)?;
+    let blanks = vec![in alloc; b' '; 1_048_577]?;
+    let rest = length
+        .saturating_sub(start.len())
+        .saturating_sub(ECHO.len());
+    text.append(blanks.get(..rest).ok_or("blanks")?)?;
+    text.append(ECHO.as_bytes())?;
+    Ok(text)
+}
+
+#[test]
+fn a_text_may_have_comments_and_1_048_576_bytes(rt: HostRuntime) -> Result<(), Fail> {
+    let alloc = rt.alloc();
+    let cases = [
+        (300_000, Status::Done, ""),
+        (1_048_576, Status::Done, ""),
+        (1_048_577, Status::Static, "1:1: fault 1 TooLong\n"),
+    ];
+    for (length, wanted, said) in cases {
+        let text = spread(alloc, length)?;
+        assert_eq!(rt; text.as_bytes().len(), length);
+        let mut world = world_with(alloc, text.as_bytes(), b"Listen (1, \"hi\")\n")?;
+        let words = words_of(alloc, &["run", "program", "items"])?;
+        assert_eq!(rt;
+            top(alloc, words.as_slice(), &mut world),
+            wanted,
+            "{length} bytes"
+        );
+        assert_eq!(rt; world.err.written(), said.as_bytes(), "{length} bytes");
+        if wanted == Status::Done {
+            assert_eq!(rt; world.out.written(), ECHOED.as_bytes(), "{length} bytes");
+        }
+    }
+    Ok(())
+}
+
+/// Formats a text with these failing calls of the store and of `out`, which takes 4 bytes a call.
+fn format_to(
+    alloc: Global,
+    store_fails: u64,
+    out_fails: u64,
+) -> Result<(Status, Memories), Memory> {
+    let mut world = World {
+        store: store_of(alloc, FORMATTED.as_bytes(), b"", store_fails)?,
+        out: sink_of(alloc, 4, out_fails)?,
+        err: sink_of(alloc, ROOM, 0)?,
+    };
+    let words = words_of(alloc, &["format", "program"])?;
+    let status = top(alloc, words.as_slice(), &mut world);
+    Ok((status, world))
+}
+
+#[test]
+fn each_failing_call_of_format_is_answered(rt: HostRuntime) -> Result<(), Fail> {
+    let alloc = rt.alloc();
+    for (call, wanted) in [(1, Status::Read), (2, Status::Done)] {
+        let (status, world) = format_to(alloc, call, 0)?;
+        assert_eq!(rt; status, wanted, "call {call}");
+        assert_eq!(rt;
+            world.out.written().is_empty(),
+            wanted == Status::Read,
+            "call {call}"
+        );
+    }
+    let calls = FORMATTED.len().div_ceil(4);
+    for call in 1..100usize {
+        let (status, world) = format_to(alloc, 0, call as u64)?;
+        let (wanted, front) = if call <= calls {
+            (Status::Write, 4 * (call - 1))
+        } else {
+            (Status::Done, FORMATTED.len())
+        };
+        assert_eq!(rt; status, wanted, "call {call}");
+        assert_eq!(rt;
+            world.out.written(),
+            FORMATTED.as_bytes().get(..front).ok_or("front")?,
+            "call {call}"
         );
     }
     Ok(())

@@ -1,6 +1,3 @@
-pub mod Tokens
-pub mod Declarations
-pub mod ProgramOfText
 pub mod Walk
 pub mod Events
 pub mod Answers

@@ -1,5 +1,5 @@
 -- What the lexer and the parser answer together of a text.
-use Rattle.std.proofs.Common.{◌≡◌, ◌≤◌, ◌<◌, ◌+◌, ℕ, List, [], ◌∷◌, ◌++◌, length, drop, Result, Ok, Err, IfErr, inl, inr, sym, ap, subst, ◌∙◌, arith}
+use Rattle.std.proofs.Common.{◌≡◌, refl, length-append, ◌≤◌, ◌<◌, ◌+◌, ℕ, suc, List, [], ◌∷◌, ◌++◌, length, drop, map, Result, Ok, Err, IfErr, inl, inr, sym, ap, subst, ◌∙◌, arith}
 use Rattle.std.specs.List.{AllByRecursion}
 use Rattle.std.proofs.lemmas.List.{drop-drop, length-drop}
 use Rattle.flux_faults.specs.declared.faults.FaultKind.{FaultKind}
@@ -14,6 +14,11 @@ use Rattle.flux_syntax.specs.declared.declarations.Decl.{Decl}
 use Rattle.flux_syntax.specs.Symbols.{Lies}
 use Rattle.flux_syntax.specs.Declares.{Declares, Spell}
 use Rattle.flux_syntax.specs.Unexpected.{StopsAt, IsUnexpected, IsFaultOf, AreDeclsOrMemory, IsFaultOrMemory, IsFaulty, IsRefusalOf, IsThatOrMemory}
+use Rattle.flux_lexer.proofs.Only.{tokens_only, no_tokens}
+use Rattle.flux_syntax.specs.Symbols.{Symbol, symbol_of}
+use Rattle.flux_syntax.specs.Grammar.{IsDeclaration, IsProgram}
+use Rattle.flux_syntax.proofs.Whole.{some_symbol}
+use Rattle.flux_syntax.proofs.Refused.{no_place, one_reading}
 use Rattle.flux_syntax.proofs.Fitting.{fit}
 
 -- ---- places
@@ -87,3 +92,30 @@ pub stands_without : (text : List ℕ) (fault : CheckFault) → ((others : List 
 stands_without text Memory no_tokens that kind at h = tt
 stands_without text (Static fault) no_tokens that kind at (inl stands) = that kind at stands
 stands_without text (Static fault) no_tokens that kind at (inr (k, others, are, u)) = absurd (no_tokens others are)
+
+-- ---- declarations of a text
+
+-- a text declares one list
+pub one_list : (text : List ℕ) (a b : List Decl) → Declares a text → Declares b text → a ≡ b
+one_list text a b x y = one_reading text x.tokens a b x.spelled (subst (λ (l : List Token). Spell text l b) (tokens_only text x.tokens y.tokens x.are y.are) y.spelled)
+
+-- a text with one of the faults has no declarations
+pub no_decls : (kind : FaultKind) (at : ℕ) (text : List ℕ) (decls : List Decl) → IsFaulty kind at text → Declares decls text → ⊥
+no_decls kind at text decls (inl stands) d = no_tokens text kind at d.tokens stands d.are
+no_decls kind at text decls (inr (k, tokens, are, u)) d = no_place at text d.tokens decls d.spelled (subst (λ (l : List Token). IsUnexpected at text l) (tokens_only text d.tokens tokens d.are are) u)
+
+few_symbols : (decls : List Decl) (s : List Symbol) → IsProgram decls s → length decls ≤ length s
+few_symbols [] s none = omega arith
+few_symbols (d ∷ decls) s (a, b, is, h, more) = let rest = few_symbols decls b more in omega (arith, rest, some a h, length-append a b, ap length is)
+  where
+    some : (a : List Symbol) → IsDeclaration d a → 1 ≤ length a
+    some [] h = absurd (some_symbol d h)
+    some (t ∷ a) h = omega arith
+
+map_length : (f : Token → Symbol) (l : List Token) → length (map f l) ≡ length l
+map_length f [] = refl
+map_length f (t ∷ l) = ap (λ (n : ℕ). suc n) (map_length f l)
+
+-- there are at most 1,048,576
+pub few_decls : (decls : List Decl) (text : List ℕ) → Declares decls text → length decls ≤ 1048576
+few_decls decls text d = let few = few_symbols decls (map (symbol_of text) d.tokens) d.spelled in omega (arith, few, map_length (symbol_of text) d.tokens, (fit text d.tokens d.are).few)

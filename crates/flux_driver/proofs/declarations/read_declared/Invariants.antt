@@ -1,7 +1,11 @@
-use Rattle.std.proofs.Common.{◌≡◌, ◌-◌, [], length}
-use Rattle.flux_driver.specs.Reading.{declared_at}
+use Rattle.std.proofs.Common.{◌≡◌, length}
+use Rattle.flux_driver.specs.Reading.{all_added}
+use Rattle.flux_driver.proofs.FormsRead.{empty}
 use Rattle.flux_driver.proofs.declarations.read_declared.Given as goal
 
--- what is left goes on to all that the text declares
-abbrev pub invariant-loop : goal.invariant-loop
-invariant-loop l = declared_at (length l.text - l.counter) l.declared l.rest ≡ declared_at (length l.text) (record { names = []; lines = [] }) l.text
+-- what is left goes on to all that is declared
+abbrev pub invariant-loop-rest : goal.invariant-loop-rest
+invariant-loop-rest l = all_added l.fn.decls empty ≡ all_added l.rest l.declared
+
+abbrev pub decreases-loop-rest : goal.decreases-loop-rest
+decreases-loop-rest l = length l.rest

@@ -1,5 +1,5 @@
 use Rattle.std.proofs.Common.{◌≡◌, ◌≤◌, ◌<◌, List, [], ◌∷◌, length, get_or, sym, ap, ◌∙◌, refl, arith}
-use Rattle.flux_model.specs.ProgramOfText.{library_name}
+use Rattle.flux_driver.specs.ProgramOfText.{library_name}
 use Rattle.flux_driver.specs.Library.{library_node}
 use Rattle.flux_driver.proofs.forms.find_join.Goals as goal
 

@@ -1,5 +1,5 @@
 use Rattle.std.proofs.Common.{◌≡◌, take}
-use Rattle.flux_model.specs.ProgramOfText.{nodes_of}
+use Rattle.flux_driver.specs.ProgramOfText.{nodes_of}
 use Rattle.flux_driver.proofs.forms.nodes_of.Given as goal
 
 abbrev pub invariant-loop-name : goal.invariant-loop-name

@@ -1,5 +1,5 @@
 use Rattle.std.proofs.Common.{◌≡◌, ◌+◌, drop}
-use Rattle.flux_model.specs.ProgramOfText.{place_of}
+use Rattle.flux_driver.specs.ProgramOfText.{place_of}
 use Rattle.flux_driver.specs.FirstForm.{has_name}
 use Rattle.flux_driver.proofs.forms.place_of.Given as goal
 

@@ -1,7 +1,8 @@
-use Rattle.std.proofs.Common.{[]}
-use Rattle.flux_driver.specs.Commands.{write_line}
-use Rattle.flux_driver.specs.Writing.{Gained, GainedPart, GainedOrFailed}
-use Rattle.flux_driver.proofs.Answered.{printed_answer, refused_answer, printed_decides, refused_decides}
+use Rattle.std.proofs.Common.{◌≡◌, ◌⊎◌, inl, inr, ℕ, Ok, Err, refl}
+use Rattle.flux_outside.specs.Causes.{Rose}
+use Rattle.flux_driver.specs.declared.statuses.Status.{Status}
+use Rattle.flux_driver.specs.declared.statuses.Status.TheVariants as statuses
+use Rattle.flux_driver.proofs.Answered.{printed_answer, refused_answer, complete}
 use Rattle.flux_driver.proofs.outermost.top.Goals as goal
 
 pub returns-in-Ok-clause-answer : goal.returns-in-Ok-clause-answer
@@ -19,18 +20,25 @@ returns-in-Err-clause-answer g c =
     (g.E.Sink.written c.args.world.now.err) (g.E.Sink.written c.refuse.new.err) (g.E.Sink.faults c.args.world.now.err) (g.E.Sink.faults c.refuse.new.err)
     c.in-Err.refusal c.in-Err.ensures.refused c.refuse.ensures.said
 
+-- how a printed text ended
+from_print : (ended : Status) (m n : ℕ) (A B C D : Type 0) → ((ended ≡ statuses.Done) × A × B) ⊎ ((ended ≡ statuses.Write) × (C × Rose m n) × D)
+    → (ended ≡ statuses.Done) ⊎ ((ended ≡ statuses.Memory) ⊎ ((ended ≡ statuses.Write) × (statuses.Done ≡ statuses.Done) × Rose m n))
+from_print ended m n A B C D (inl h) = inl h.0
+from_print ended m n A B C D (inr h) = inr (inr (h.0, refl, h.1.1))
+
+from_refusal : (ended own : Status) (m n : ℕ) (A B : Type 0) → ((ended ≡ own) × A) ⊎ ((ended ≡ statuses.Memory) × B)
+    → (ended ≡ own) ⊎ ((ended ≡ statuses.Memory) ⊎ ((ended ≡ statuses.Write) × (own ≡ statuses.Done) × Rose m n))
+from_refusal ended own m n A B (inl h) = inl h.0
+from_refusal ended own m n A B (inr h) = inr (inl h.0)
+
 pub returns-in-Ok-clause-complete : goal.returns-in-Ok-clause-complete
 returns-in-Ok-clause-complete g c =
-    printed_decides c.args.words.now (g.S.Store.files c.args.world.now.store) c.print.result
+    complete c.args.words.now (g.S.Store.files c.args.world.now.store) (Ok c.in-Ok.text) c.print.result
     (g.S.Store.faults c.args.world.now.store) (g.S.Store.faults c.prepare.new.store) (g.O.Sink.faults c.args.world.now.out) (g.O.Sink.faults c.print.new.out)
-    (Gained (g.O.Sink.written c.args.world.now.out) (g.O.Sink.written c.print.new.out) c.as_bytes.result.now)
-    (Gained (g.E.Sink.written c.args.world.now.err) (g.E.Sink.written c.print.new.err) [])
-    (GainedPart (g.O.Sink.written c.args.world.now.out) (g.O.Sink.written c.print.new.out) c.as_bytes.result.now)
-    (GainedOrFailed (g.E.Sink.written c.args.world.now.err) (g.E.Sink.written c.print.new.err) (g.E.Sink.faults c.args.world.now.err) (g.E.Sink.faults c.print.new.err) write_line)
-    c.print.ensures.printed c.in-Ok.ensures.complete
+    (from_print c.print.result _ _ _ _ _ _ c.print.ensures.printed) c.in-Ok.ensures.done c.in-Ok.ensures.refused c.in-Ok.ensures.read c.in-Ok.ensures.firm
 
 pub returns-in-Err-clause-complete : goal.returns-in-Err-clause-complete
 returns-in-Err-clause-complete g c =
-    refused_decides c.args.words.now (g.S.Store.files c.args.world.now.store) c.refuse.result
+    complete c.args.words.now (g.S.Store.files c.args.world.now.store) (Err c.in-Err.refusal) c.refuse.result
     (g.S.Store.faults c.args.world.now.store) (g.S.Store.faults c.prepare.new.store) (g.O.Sink.faults c.args.world.now.out) (g.O.Sink.faults c.args.world.now.out)
-    c.in-Err.refusal _ _ c.refuse.ensures.said c.in-Err.ensures.complete
+    (from_refusal c.refuse.result _ _ _ _ _ c.refuse.ensures.said) c.in-Err.ensures.done c.in-Err.ensures.refused c.in-Err.ensures.read c.in-Err.ensures.firm
