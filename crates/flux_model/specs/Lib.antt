@@ -5,3 +5,5 @@ pub mod Serial
 pub mod Texts
 pub mod Exclusion
 pub mod Waits
+pub mod Leading
+pub mod Children

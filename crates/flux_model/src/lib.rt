@@ -5,10 +5,12 @@
 #![tactic(auto)]
 
 mod journals;
+mod named;
 mod programs;
 mod signatures;
 
 pub use flux_values::{Answer, CallResult, Cell, Mode, Put};
 pub use journals::{CallMade, Entry, Event, FlowNo, Item, Journal, Key, Outcome};
+pub use named::{Named, Sites};
 pub use programs::{Body, Case, Class, ClassNo, Hold, Node, NodeNo, Program, SourceLine, SourceNo};
 pub use signatures::{NodeSig, Sigs, TypeText};

@@ -1,5 +1,5 @@
 -- What the lexer and the parser answer together of a text.
-use Rattle.std.proofs.Common.{◌≡◌, refl, length-append, ◌≤◌, ◌<◌, ◌+◌, ℕ, suc, List, [], ◌∷◌, ◌++◌, length, drop, map, Result, Ok, Err, IfErr, inl, inr, sym, ap, subst, ◌∙◌, arith}
+use Rattle.std.proofs.Common.{◌≡◌, refl, length-append, ◌≤◌, ◌<◌, ◌+◌, ℕ, suc, List, [], ◌∷◌, ◌++◌, length, drop, map, Result, Ok, Err, IfOk, IfErr, inl, inr, sym, ap, subst, ◌∙◌, arith}
 use Rattle.std.specs.List.{AllByRecursion}
 use Rattle.std.proofs.lemmas.List.{drop-drop, length-drop}
 use Rattle.flux_faults.specs.declared.faults.FaultKind.{FaultKind}
@@ -119,3 +119,7 @@ map_length f (t ∷ l) = ap (λ (n : ℕ). suc n) (map_length f l)
 -- there are at most 1,048,576
 pub few_decls : (decls : List Decl) (text : List ℕ) → Declares decls text → length decls ≤ 1048576
 few_decls decls text d = let few = few_symbols decls (map (symbol_of text) d.tokens) d.spelled in omega (arith, few, map_length (symbol_of text) d.tokens, (fit text d.tokens d.are).few)
+
+pub few_with : (text : List ℕ) (tokens : List Token) (r : Result (List Decl) CheckFault) → AreTokensOf tokens text → IfOk r (Spell text tokens) → IfOk r (λ decls. length decls ≤ 1048576)
+few_with text tokens (Ok decls) are spelled = few_decls decls text (record { tokens = tokens; are = are; spelled = spelled })
+few_with text tokens (Err fault) are spelled = tt

@@ -7,7 +7,7 @@ ghost use Rattle.flux_syntax.specs.Reading.{Reads, begins, kind_at, behind, name
 
 use crate::declarations::Word;
 use flux_lexer::{Token, TokenKind};
-use flux_values::{Memory, TextBytes, TextFault};
+use flux_values::{TextBytes, TextFault};
 use std::alloc::Global;
 use std::marker::Model;
 
@@ -16,12 +16,6 @@ use std::marker::Model;
 pub enum Stop {
     Unexpected,
     Memory,
-}
-
-impl From<Memory> for Stop {
-    fn from(_memory: Memory) -> Stop {
-        Stop::Memory
-    }
 }
 
 /// The tokens of a text that are left, seen as names and marks.

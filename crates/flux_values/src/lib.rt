@@ -9,6 +9,7 @@ mod answers;
 mod cells;
 mod failures;
 mod lists;
+mod meanings;
 mod printing;
 mod reading;
 #[cfg(test)]
@@ -20,6 +21,7 @@ pub use answers::{Answer, CallResult, Mode, Put};
 pub use cells::Cell;
 pub use failures::{Memory, TextFault, ValueFault};
 pub use lists::List;
+pub use meanings::{CellUse, Meaning, Role, Sig};
 pub use printing::{append_number, append_text, append_value, print_value};
 pub use reading::read_value;
 pub use texts::{Bytes, TEXT_LIMIT, TextBytes};

@@ -1,4 +1,4 @@
-use Rattle.flux_syntax.proofs.Texts.{refused_with, decls_with, stands_with, refused_without, decls_without, stands_without}
+use Rattle.flux_syntax.proofs.Texts.{few_with, refused_with, decls_with, stands_with, refused_without, decls_without, stands_without}
 use Rattle.flux_syntax.proofs.reading.read.Goals as goal
 
 pub returns-in-Ok-clause-fault : goal.returns-in-Ok-clause-fault
@@ -18,3 +18,6 @@ returns-in-Err-clause-decls c decls declared = decls_without c.args.text.now c.i
 
 pub returns-in-Err-clause-stands : goal.returns-in-Err-clause-stands
 returns-in-Err-clause-stands c kind at faulty = stands_without c.args.text.now c.in-Err.fault c.in-Err.ensures.tokens c.in-Err.ensures.stands kind at faulty
+
+pub returns-in-Ok-clause-few : goal.returns-in-Ok-clause-few
+returns-in-Ok-clause-few c = few_with c.args.text.now c.in-Ok.tokens c.parse.result c.in-Ok.ensures.read c.parse.ensures.parsed

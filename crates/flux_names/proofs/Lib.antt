@@ -1,0 +1,4 @@
+pub mod Keys
+pub mod Soonest
+pub mod Few
+pub mod Numbers

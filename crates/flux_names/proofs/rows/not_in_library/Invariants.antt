@@ -1,0 +1,9 @@
+use Rattle.std.proofs.Common.{◌≡◌, None, length}
+use Rattle.flux_names.specs.Rows.{not_in_library, soonest}
+use Rattle.flux_names.proofs.rows.not_in_library.Given as goal
+
+abbrev pub invariant-loop-rest : goal.invariant-loop-rest
+invariant-loop-rest g l = soonest None (not_in_library (g.L.Meaning.sig_of l.library) l.fn.decls) ≡ soonest l.place (not_in_library (g.L.Meaning.sig_of l.library) l.rest)
+
+abbrev pub decreases-loop-rest : goal.decreases-loop-rest
+decreases-loop-rest g l = length l.rest

@@ -1,0 +1,55 @@
+//! What a library of nodes means: its types, nodes, predicates and session functions, for contracts alone.
+
+use crate::answers::Mode;
+use crate::lists::List;
+use crate::texts::TextBytes;
+use crate::values::Kind;
+
+/// What a node is to a server: an inner node, or a source of items, some of which read a link's head or line.
+#[derive(Clone, Copy, Debug, PartialEq, Eq)]
+pub enum Role {
+    Plain,
+    Source,
+    HeadSource,
+    LineSource,
+}
+
+/// A cell that a node uses, and how.
+#[derive(Debug, Drop)]
+pub struct CellUse {
+    pub name: TextBytes,
+    pub mode: Mode,
+}
+
+/// What a library says of a node.
+#[derive(Debug, Drop)]
+pub struct Sig {
+    pub ins: List<Kind>,
+    pub outs: List<Kind>,
+    pub cells: List<CellUse>,
+    pub role: Role,
+}
+
+/// What a library means. It has no call: programs over a library say by its members what they promise.
+pub trait Meaning {
+    ghost use Rattle.std.specs.Prelude.{ℕ, Bool, List, Option};
+    ghost use Rattle.flux_values.specs.declared.values.Kind.{Kind};
+    ghost use Rattle.flux_values.specs.declared.values.Value.{Value};
+    ghost use Rattle.flux_values.specs.declared.answers.Answer.{Answer};
+    ghost use Rattle.flux_values.specs.declared.meanings.Sig.{Sig};
+    ghost use Rattle.flux_values.specs.Cells.{CellMap};
+
+    ghost kind_of: { Self → List ℕ → Option Kind };
+
+    ghost sig_of: { Self → List ℕ → Option Sig };
+
+    ghost predicate_of: { Self → List ℕ → Option Kind };
+
+    ghost session_of: { Self → List ℕ → Option (List Kind) };
+
+    ghost call_of: { Self → List ℕ → List Value → List CellMap → Answer };
+
+    ghost test_of: { Self → List ℕ → Value → Bool };
+
+    ghost id_of: { Self → List ℕ → List Value → ℕ };
+}
