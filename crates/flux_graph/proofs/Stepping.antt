@@ -1,0 +1,185 @@
+-- Steps into nodes, and what holds of steps as they come and go.
+use Rattle.std.proofs.Common.{◌≡◌, ℕ, ◌⊎◌, inl, inr, List, [], ◌∷◌, ◌++◌, Option, Some, refl, sym, ap, ◌∙◌, append_assoc}
+use Rattle.std.proofs.lemmas.List.{append-nil}
+use Rattle.std.specs.List.{flat_map}
+use Rattle.flux_model.specs.declared.programs.NodeNo.{NodeNo}
+use Rattle.flux_model.specs.declared.programs.Node.{Node}
+use Rattle.flux_model.specs.declared.programs.Case.{Case}
+use Rattle.flux_model.specs.Children.{IsIn}
+use Rattle.flux_graph.specs.declared.steps.Step.{Step}
+use Rattle.flux_graph.specs.declared.steps.Step.TheVariants.{Enter, Leave}
+use Rattle.flux_graph.specs.Reaching.{leads_in}
+use Rattle.flux_graph.specs.Ordering.{AreDistinct}
+use Rattle.flux_graph.specs.Searching.{enters, leaves_of}
+use Rattle.flux_graph.specs.Search.{HasStep, Covered, AreLed}
+
+-- ---- steps into nodes
+
+pub enters_append : (a b : List NodeNo) → enters (a ++ b) ≡ enters a ++ enters b
+enters_append [] b = refl
+enters_append (n ∷ a) b = ap (λ (s : List Step). Enter n ∷ s) (enters_append a b)
+
+pub enters_both : (s : List Step) (a b : List NodeNo) → (s ++ enters (a ++ b)) ≡ ((s ++ enters a) ++ enters b)
+enters_both s a b = ap (λ (t : List Step). s ++ t) (enters_append a b) ∙ sym (append_assoc s (enters a) (enters b))
+
+abbrev pub with_entered : List Step → List Case → List Step
+with_entered s [] = s
+with_entered s (case ∷ cases) = with_entered (s ++ enters case.members) cases
+
+pub cases_entered : (s : List Step) (cases : List Case) → (s ++ enters (flat_map (λ case. case.members) cases)) ≡ with_entered s cases
+cases_entered s [] = append-nil s
+cases_entered s (case ∷ cases) = enters_both s case.members (flat_map (λ case. case.members) cases) ∙ cases_entered (s ++ enters case.members) cases
+
+-- ---- nodes with a step
+
+pub step_before : (x : ℕ) (a b : List Step) → HasStep x a → HasStep x (a ++ b)
+step_before x [] b h = absurd h
+step_before x (Enter n ∷ a) b (inl e) = inl e
+step_before x (Enter n ∷ a) b (inr h) = inr (step_before x a b h)
+step_before x (Leave n ∷ a) b (inl e) = inl e
+step_before x (Leave n ∷ a) b (inr h) = inr (step_before x a b h)
+
+pub step_behind : (x : ℕ) (a b : List Step) → HasStep x b → HasStep x (a ++ b)
+step_behind x [] b h = h
+step_behind x (Enter n ∷ a) b h = inr (step_behind x a b h)
+step_behind x (Leave n ∷ a) b h = inr (step_behind x a b h)
+
+pub step_either : (x : ℕ) (a b : List Step) → HasStep x (a ++ b) → HasStep x a ⊎ HasStep x b
+step_either x [] b h = inr h
+step_either x (Enter n ∷ a) b (inl e) = inl (inl e)
+step_either x (Enter n ∷ a) b (inr h) = more (step_either x a b h)
+  where
+    more : HasStep x a ⊎ HasStep x b → HasStep x (Enter n ∷ a) ⊎ HasStep x b
+    more (inl h) = inl (inr h)
+    more (inr h) = inr h
+step_either x (Leave n ∷ a) b (inl e) = inl (inl e)
+step_either x (Leave n ∷ a) b (inr h) = more (step_either x a b h)
+  where
+    more : HasStep x a ⊎ HasStep x b → HasStep x (Leave n ∷ a) ⊎ HasStep x b
+    more (inl h) = inl (inr h)
+    more (inr h) = inr h
+
+pub step_into : (x : ℕ) (nodes : List NodeNo) → IsIn x nodes → HasStep x (enters nodes)
+step_into x [] i = absurd i
+step_into x (n ∷ nodes) (inl e) = inl e
+step_into x (n ∷ nodes) (inr i) = inr (step_into x nodes i)
+
+pub into_step : (x : ℕ) (nodes : List NodeNo) → HasStep x (enters nodes) → IsIn x nodes
+into_step x [] h = absurd h
+into_step x (n ∷ nodes) (inl e) = inl e
+into_step x (n ∷ nodes) (inr h) = inr (into_step x nodes h)
+
+-- ---- lists of nodes
+
+pub in_before : (x : ℕ) (a b : List NodeNo) → IsIn x a → IsIn x (a ++ b)
+in_before x [] b i = absurd i
+in_before x (n ∷ a) b (inl e) = inl e
+in_before x (n ∷ a) b (inr i) = inr (in_before x a b i)
+
+pub in_behind : (x : ℕ) (a b : List NodeNo) → IsIn x b → IsIn x (a ++ b)
+in_behind x [] b i = i
+in_behind x (n ∷ a) b i = inr (in_behind x a b i)
+
+pub in_either : (x : ℕ) (a b : List NodeNo) → IsIn x (a ++ b) → IsIn x a ⊎ IsIn x b
+in_either x [] b i = inr i
+in_either x (n ∷ a) b (inl e) = inl (inl e)
+in_either x (n ∷ a) b (inr i) = more (in_either x a b i)
+  where
+    more : IsIn x a ⊎ IsIn x b → IsIn x (n ∷ a) ⊎ IsIn x b
+    more (inl i) = inl (inr i)
+    more (inr i) = inr i
+
+-- ---- what is covered
+
+-- where each node with one of the old last steps is in the order now, or has one of the new last steps
+abbrev pub IsReplaced : List NodeNo → List Step → List Step → Type 0
+IsReplaced order old new = (x : ℕ) → HasStep x old → IsIn x order ⊎ HasStep x new
+
+pub covered_on : (nodes : List Node) (order later : List NodeNo) (s old new : List Step) → ((x : ℕ) → IsIn x order → IsIn x later) → IsReplaced later old new → Covered nodes order (s ++ old) → Covered nodes later new → Covered nodes later (s ++ new)
+covered_on nodes order later [] old new grows replaced c n = n
+covered_on nodes order later (Enter node ∷ s) old new grows replaced c n = covered_on nodes order later s old new grows replaced c n
+covered_on nodes order later (Leave node ∷ s) old new grows replaced (own, c) n = (λ x i. from x (own x i), covered_on nodes order later s old new grows replaced c n)
+  where
+    last : (x : ℕ) → IsIn x later ⊎ HasStep x new → IsIn x later ⊎ HasStep x (s ++ new)
+    last x (inl i) = inl i
+    last x (inr h) = inr (step_behind x s new h)
+
+    either : (x : ℕ) → HasStep x s ⊎ HasStep x old → IsIn x later ⊎ HasStep x (s ++ new)
+    either x (inl h) = inr (step_before x s new h)
+    either x (inr h) = last x (replaced x h)
+
+    from : (x : ℕ) → IsIn x order ⊎ HasStep x (s ++ old) → IsIn x later ⊎ HasStep x (s ++ new)
+    from x (inl i) = inl (grows x i)
+    from x (inr h) = either x (step_either x s old h)
+
+pub covered_last : (nodes : List Node) (order : List NodeNo) (s : List Step) (node : NodeNo) → Covered nodes order (s ++ Leave node ∷ []) → (x : ℕ) → IsIn x (leads_in nodes node.0) → IsIn x order
+covered_last nodes order [] node (own, c) x i = only (own x i)
+  where
+    only : IsIn x order ⊎ HasStep x [] → IsIn x order
+    only (inl i) = i
+    only (inr h) = absurd h
+covered_last nodes order (Enter n ∷ s) node c x i = covered_last nodes order s node c x i
+covered_last nodes order (Leave n ∷ s) node (own, c) x i = covered_last nodes order s node c x i
+
+pub covered_enters : (nodes : List Node) (order into : List NodeNo) → Covered nodes order (enters into)
+covered_enters nodes order [] = tt
+covered_enters nodes order (n ∷ into) = covered_enters nodes order into
+
+-- ---- what leads to what
+
+-- the node that was entered last
+abbrev pub last_of : Option ℕ → List Step → Option ℕ
+last_of from [] = from
+last_of from (Enter node ∷ steps) = last_of from steps
+last_of from (Leave node ∷ steps) = last_of (Some node.0) steps
+
+pub led_front : (nodes : List Node) (from : Option ℕ) (a b : List Step) → AreLed nodes from (a ++ b) → AreLed nodes from a
+led_front nodes from [] b l = tt
+led_front nodes from (Enter n ∷ a) b (own, l) = (own, led_front nodes from a b l)
+led_front nodes from (Leave n ∷ a) b (own, l) = (own, led_front nodes (Some n.0) a b l)
+
+pub led_back : (nodes : List Node) (from : Option ℕ) (a b : List Step) → AreLed nodes from (a ++ b) → AreLed nodes (last_of from a) b
+led_back nodes from [] b l = l
+led_back nodes from (Enter n ∷ a) b (own, l) = led_back nodes from a b l
+led_back nodes from (Leave n ∷ a) b (own, l) = led_back nodes (Some n.0) a b l
+
+pub led_join : (nodes : List Node) (from : Option ℕ) (a b : List Step) → AreLed nodes from a → AreLed nodes (last_of from a) b → AreLed nodes from (a ++ b)
+led_join nodes from [] b l m = m
+led_join nodes from (Enter n ∷ a) b (own, l) m = (own, led_join nodes from a b l m)
+led_join nodes from (Leave n ∷ a) b (own, l) m = (own, led_join nodes (Some n.0) a b l m)
+
+pub led_enters : (nodes : List Node) (node : ℕ) (into : List NodeNo) → ((x : ℕ) → IsIn x into → IsIn x (leads_in nodes node)) → AreLed nodes (Some node) (enters into)
+led_enters nodes node [] all = tt
+led_enters nodes node (n ∷ into) all = (all n.0 (inl refl), led_enters nodes node into (λ x i. all x (inr i)))
+
+-- ---- what was entered and not left
+
+pub leaves_append : (a b : List Step) → leaves_of (a ++ b) ≡ leaves_of a ++ leaves_of b
+leaves_append [] b = refl
+leaves_append (Enter n ∷ a) b = leaves_append a b
+leaves_append (Leave n ∷ a) b = ap (λ (s : List NodeNo). n ∷ s) (leaves_append a b)
+
+pub leaves_enters : (into : List NodeNo) → leaves_of (enters into) ≡ []
+leaves_enters [] = refl
+leaves_enters (n ∷ into) = leaves_enters into
+
+pub distinct_front : (a b : List NodeNo) → AreDistinct (a ++ b) → AreDistinct a
+distinct_front [] b d = tt
+distinct_front (n ∷ a) b (own, d) = (λ i. own (in_before n.0 a b i), distinct_front a b d)
+
+pub distinct_last : (a : List NodeNo) (node : NodeNo) → AreDistinct a → (IsIn node.0 a → ⊥) → AreDistinct (a ++ node ∷ [])
+distinct_last [] node d new = (λ i. i, tt)
+distinct_last (n ∷ a) node (own, d) new = (λ i. from (in_either n.0 a (node ∷ []) i), distinct_last a node d (λ i. new (inr i)))
+  where
+    same : (n.0 ≡ node.0) ⊎ IsIn n.0 [] → ⊥
+    same (inl e) = new (inl (sym e))
+    same (inr i) = i
+
+    from : IsIn n.0 a ⊎ IsIn n.0 (node ∷ []) → ⊥
+    from (inl i) = own i
+    from (inr i) = same i
+
+pub distinct_apart : (a : List NodeNo) (node : NodeNo) → AreDistinct (a ++ node ∷ []) → IsIn node.0 a → ⊥
+distinct_apart [] node d i = i
+distinct_apart (n ∷ a) node (own, d) (inl e) = own (in_behind n.0 a (node ∷ []) (inl (sym e)))
+distinct_apart (n ∷ a) node (own, d) (inr i) = distinct_apart a node d i

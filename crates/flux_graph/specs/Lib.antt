@@ -1,0 +1,7 @@
+pub mod Visits
+pub mod Reaching
+pub mod Searching
+pub mod Ordering
+pub mod Faults
+pub mod Search
+pub mod Below
