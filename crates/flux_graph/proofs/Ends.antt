@@ -49,10 +49,10 @@ led_roots : (nodes : List Node) (into : List NodeNo) → ((x : ℕ) → IsIn x i
 led_roots nodes [] all = tt
 led_roots nodes (n ∷ into) all = (all n.0 (inl refl), led_roots nodes into (λ x i. all x (inr i)))
 
-none_known : (x : ℕ) → IsKnown x [] → ⊥
+pub none_known : (x : ℕ) → IsKnown x [] → ⊥
 none_known x k = absurd cc
 
-none_twice : IsDistinct eqb []
+pub none_twice : IsDistinct eqb []
 unfolding IsDistinct
 none_twice = tt
 
@@ -113,7 +113,7 @@ no_way nodes before (n ∷ order) closed (lt, new, led, a) from (inl e) mid back
     ends [] (j, r) = led back.0 (subst (λ (z : ℕ). IsIn back.0 (leads_in nodes z)) e j)
     ends (m ∷ mid) (j, r) = stays nodes before m.0 mid back closed (led m.0 (subst (λ (z : ℕ). IsIn m.0 (leads_in nodes z)) e j)) r
 
-leads_within : (nodes : List Node) (from x : ℕ) → IsIn x (leads_in nodes from) → from < length nodes
+pub leads_within : (nodes : List Node) (from x : ℕ) → IsIn x (leads_in nodes from) → from < length nodes
 leads_within [] from x i = absurd i
 leads_within (node ∷ nodes) zero x i = omega arith
 leads_within (node ∷ nodes) (suc from) x i = omega (arith, leads_within nodes from x i)

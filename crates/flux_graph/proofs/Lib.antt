@@ -5,3 +5,4 @@ pub mod Moves
 pub mod Circles
 pub mod Ends
 pub mod Descending
+pub mod Back

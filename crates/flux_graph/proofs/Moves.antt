@@ -127,7 +127,7 @@ leads_below count (node ∷ nodes) zero x (own, all) i = among (leads_to node) o
     among (n ∷ led) (lt, b) (inr i) = among led b i
 leads_below count (node ∷ nodes) (suc from) x (own, all) i = leads_below count nodes from x all i
 
-follows_below : (nodes : List Node) (from : Option ℕ) (x : ℕ) → AllByRecursion (λ node. AreBelow (length nodes) (leads_to node)) nodes → FollowsOn nodes from x → x < length nodes
+pub follows_below : (nodes : List Node) (from : Option ℕ) (x : ℕ) → AllByRecursion (λ node. AreBelow (length nodes) (leads_to node)) nodes → FollowsOn nodes from x → x < length nodes
 follows_below nodes None x all f = f
 follows_below nodes (Some from) x all f = leads_below (length nodes) nodes from x all f
 
@@ -145,7 +145,7 @@ distinct_snoc (m ∷ v) n (own, d) e = parts (eqb n m) (list_any (eqb n) v) refl
     parts false true i j o more = absurd cc
     parts false false i j o more = let turned : eqb m n ≡ false = grind (arith, nat_tests, i) in (unlike_more v m n own turned, more j)
 
-distinct_more : (v : List ℕ) (n : ℕ) → IsDistinct eqb v → IsDistinct eqb (with_number v n)
+pub distinct_more : (v : List ℕ) (n : ℕ) → IsDistinct eqb v → IsDistinct eqb (with_number v n)
 distinct_more v n d = one (list_any (eqb n) v) refl
   where
     one : (t : Bool) → list_any (eqb n) v ≡ t → IsDistinct eqb (with_number v n)

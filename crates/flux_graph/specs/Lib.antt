@@ -5,3 +5,4 @@ pub mod Ordering
 pub mod Faults
 pub mod Search
 pub mod Below
+pub mod Returning

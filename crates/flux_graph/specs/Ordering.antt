@@ -1,5 +1,5 @@
 -- Orders of nodes, and circles of what leads to what.
-use Rattle.std.specs.Prelude.{◌≡◌, ℕ, ◌<◌, List, [], ◌∷◌, ◌++◌, length, ⊤}
+use Rattle.std.specs.Prelude.{◌≡◌, ℕ, ◌<◌, ◌≤◌, List, [], ◌∷◌, ◌++◌, length, ⊤}
 use Rattle.flux_model.specs.declared.programs.NodeNo.{NodeNo}
 use Rattle.flux_model.specs.declared.programs.Node.{Node}
 use Rattle.flux_model.specs.Children.{IsIn}
@@ -41,3 +41,8 @@ pub record HasCycle (nodes : List Node) : Type 0 where
   pub back : NodeNo
   pub is_from : back.0 ≡ from
   pub led : IsLed nodes from (between ++ back ∷ [])
+
+-- no node on any cycle has a lower number than the one that the path begins with
+pub record IsLowestCycle (nodes : List Node) (path : List NodeNo) : Type 0 where
+  pub cycle : IsCycle nodes path
+  pub lowest : (other : HasCycle nodes) → cycle.first.0 ≤ other.from

@@ -10,7 +10,7 @@ use Rattle.flux_graph.specs.declared.ordering.Search.{Search}
 use Rattle.flux_graph.specs.Reaching.{leads_in, IsKnown}
 use Rattle.flux_graph.specs.Visits.{with_number}
 use Rattle.flux_graph.specs.Ordering.{ComeAfter, AreDistinct}
-use Rattle.flux_graph.specs.Searching.{enters, leaves_of, numbered, from_first, up_to, lowest_of}
+use Rattle.flux_graph.specs.Searching.{enters, leaves_of, numbered}
 
 -- ---- moves
 
@@ -25,13 +25,6 @@ left s node = record { steps = s.steps; entered = s.entered; done = with_number 
 
 abbrev pub entered : List Node → Search → NodeNo → Search
 entered nodes s node = record { steps = (s.steps ++ Leave node ∷ []) ++ enters (leads_in nodes node.0); entered = with_number s.entered node.0; done = s.done; order = s.order }
-
--- the path round what was entered since a node was
-abbrev pub round : ℕ → List NodeNo → List NodeNo
-round number circle = from_first (lowest_of number circle) circle ++ up_to (lowest_of number circle) circle
-
-abbrev pub closed_by : ℕ → List Step → List NodeNo
-closed_by number steps = round number (from_first number (leaves_of steps))
 
 abbrev pub with_step : Search → Step → Search
 with_step s step = record { steps = s.steps ++ step ∷ []; entered = s.entered; done = s.done; order = s.order }

@@ -3,17 +3,32 @@
 ghost use Rattle.std.specs.Prelude.{◌≡◌, ◌≤◌, OnOk, IfOk, IfErr};
 ghost use Rattle.flux_model.specs.Leading.{IsNumbered};
 ghost use Rattle.flux_graph.specs.Ordering.{IsOrder, HasCycle};
-ghost use Rattle.flux_graph.specs.Faults.{IsFault};
+ghost use Rattle.flux_graph.specs.declared.ordering.Stop.TheVariants as stops;
+ghost use Rattle.flux_graph.specs.Faults.{IsCyclic, IsFault};
 ghost use Rattle.flux_graph.specs.Searching.{enters, numbered};
-ghost use Rattle.flux_graph.specs.Search.{IsBegun, left, entered, closed_by, Holds, IsNext};
+ghost use Rattle.flux_graph.specs.Search.{IsBegun, left, entered, Holds, IsNext};
 
-use crate::cycles::{from, path_round};
 use crate::orders::{GraphFault, Order};
+use crate::returning::lowest_cycle;
 use crate::steps::{Step, add_step, enter_from, leaves};
 use crate::visits::Visits;
 use flux_model::{Node, NodeNo, Program};
 use flux_values::{List, Memory};
 use std::alloc::Global;
+
+/// Why a search gives no order.
+enum Stop {
+    Cycle,
+    Memory,
+}
+
+impl From<Memory> for Stop {
+    ghost from_gives = { λ _ stop. stop ≡ stops.Memory };
+
+    fn from(_memory: Memory) -> Stop {
+        Stop::Memory
+    }
+}
 
 /// How far a search is.
 #[derive(Drop)]
@@ -70,18 +85,10 @@ impl Search {
         enter_from(&mut self.steps, nodes, node)
     }
 
-    /// The cycle that a node closes, which has been entered and not been left.
-    fn cycle(&self, alloc: Global, node: NodeNo) -> Result<List<NodeNo>, Memory>
-        ensures { IfOk result (λ path. path ≡ closed_by node.0 self.now.steps) }
-    {
-        let leaves = leaves(alloc, self.steps.as_slice())?;
-        path_round(alloc, from(leaves.as_slice(), node.0), node.0)
-    }
-
     /// The next node that is to be entered. Nodes with nothing left to enter are left on the way.
-    fn next(&mut self, alloc: Global, nodes: &[Node]) -> Result<Option<NodeNo>, GraphFault>
+    fn next(&mut self, nodes: &[Node]) -> Result<Option<NodeNo>, Stop>
         ensures found { Holds nodes.now self.old → IfOk result (IsNext nodes.now self.old self.new) }
-        ensures cycle { Holds nodes.now self.old → IfErr result (IsFault nodes.now) }
+        ensures cycle { Holds nodes.now self.old → IfErr result (IsCyclic nodes.now) }
     {
         while let Some(step) = self.steps.pop() {
             match step {
@@ -91,9 +98,7 @@ impl Search {
                         return Ok(Some(node));
                     }
                     if !self.done.has(node.0) {
-                        return Err(GraphFault::Cycle {
-                            path: self.cycle(alloc, node)?,
-                        });
+                        return Err(Stop::Cycle);
                     }
                 }
             }
@@ -102,19 +107,36 @@ impl Search {
     }
 }
 
-/// Each node once, after all that it leads to, or a cycle.
+/// Each node once, after all that it leads to, or some cycle.
+fn order_or_cycle(alloc: Global, p: &Program) -> Result<Order, Stop>
+    requires numbered { IsNumbered p.now }
+    ensures ordered { IfOk result (λ order. IsOrder p.now.nodes order.nodes) }
+    ensures no_cycle { IfOk result (λ order. HasCycle p.now.nodes → ⊥) }
+    ensures cycle { IfErr result (IsCyclic p.now.nodes) }
+{
+    let nodes = p.nodes.as_slice();
+    let mut search = Search::begin(alloc, nodes.len())?;
+    while let Some(node) = search.next(nodes)? {
+        search.enter(nodes, node)?;
+    }
+    Ok(Order {
+        nodes: search.order,
+    })
+}
+
+/// Each node once, after all that it leads to, or a cycle. The cycle is one through the lowest-numbered node that is on
+/// any cycle. To find it takes a search from each node with a lower number, where there is a cycle at all.
 pub fn order(alloc: Global, p: &Program) -> Result<Order, GraphFault>
     requires numbered { IsNumbered p.now }
     ensures ordered { IfOk result (λ order. IsOrder p.now.nodes order.nodes) }
     ensures no_cycle { IfOk result (λ order. HasCycle p.now.nodes → ⊥) }
     ensures cycle { IfErr result (IsFault p.now.nodes) }
 {
-    let nodes = p.nodes.as_slice();
-    let mut search = Search::begin(alloc, nodes.len())?;
-    while let Some(node) = search.next(alloc, nodes)? {
-        search.enter(nodes, node)?;
+    match order_or_cycle(alloc, p) {
+        Ok(order) => Ok(order),
+        Err(Stop::Memory) => Err(GraphFault::Memory),
+        Err(Stop::Cycle) => Err(GraphFault::Cycle {
+            path: lowest_cycle(alloc, p.nodes.as_slice())?,
+        }),
     }
-    Ok(Order {
-        nodes: search.order,
-    })
 }

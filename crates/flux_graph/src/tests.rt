@@ -1,8 +1,8 @@
 //! Orders, cycles and what is below, of small programs and of a long chain.
 
-ghost use Rattle.std.specs.Prelude.{IsTrue};
+ghost use Rattle.std.specs.Prelude.{IsTrue, ◌≤◌};
 ghost use Rattle.std.specs.List.{flat_map, AllByRecursion};
-ghost use Rattle.flux_model.specs.Leading.{AreBelow, leads_to, members_of, IsNumbered};
+ghost use Rattle.flux_model.specs.Leading.{AreBelow, leads_to, members_of, parts_of, IsNumbered};
 
 use crate::{GraphFault, below, order};
 use flux_model::{Body, Case, Node, NodeNo, Program};
@@ -71,11 +71,40 @@ fn nodes_below(nodes: &[Node], count: usize) -> bool
     true
 }
 
+fn is_short(body: &Body) -> bool
+    ensures { IsTrue result → parts_of body.now ≤ 1048576 }
+{
+    match body {
+        Body::Concrete(_) => true,
+        Body::Abstract(cases) => match cases.as_slice() {
+            [] => true,
+            [case] => case.members.as_slice().len() < 1_048_576,
+            _ => false,
+        },
+    }
+}
+
+fn are_short(nodes: &[Node]) -> bool
+    ensures { IsTrue result → AllByRecursion (λ node. parts_of node.body ≤ 1048576) nodes.now }
+{
+    let mut rest = nodes;
+    while let [node, others @ ..] = rest {
+        if !is_short(&node.body) {
+            return false;
+        }
+        rest = others;
+    }
+    true
+}
+
 fn is_numbered(p: &Program) -> bool
     ensures { IsTrue result → IsNumbered p.now }
 {
     let nodes = p.nodes.as_slice();
-    nodes.len() <= 1_048_576 && p.sources.as_slice().is_empty() && nodes_below(nodes, nodes.len())
+    nodes.len() <= 1_048_576
+        && p.sources.as_slice().is_empty()
+        && are_short(nodes)
+        && nodes_below(nodes, nodes.len())
 }
 
 /// A node of one case with these members, and with a handler.
@@ -168,6 +197,8 @@ fn a_cycle_is_told_from_its_lowest_number(rt: HostRuntime) -> Result<(), Fail> {
     let itself = small(rt.alloc(), &[(&[0], None)])?;
     assert_cycle(&rt, rt.alloc(), &itself, &[0, 0]);
     assert_below(&rt, rt.alloc(), &itself, 0, &[0]);
+    let behind = small(rt.alloc(), &[(&[1], None), (&[0], None), (&[1], None)])?;
+    assert_cycle(&rt, rt.alloc(), &behind, &[0, 1, 0]);
     let two = small(
         rt.alloc(),
         &[
@@ -178,7 +209,7 @@ fn a_cycle_is_told_from_its_lowest_number(rt: HostRuntime) -> Result<(), Fail> {
             (&[3], None),
         ],
     )?;
-    assert_cycle(&rt, rt.alloc(), &two, &[2, 4, 3, 2]);
+    assert_cycle(&rt, rt.alloc(), &two, &[0, 1, 0]);
     assert_below(&rt, rt.alloc(), &two, 1, &[0, 1]);
     assert_below(&rt, rt.alloc(), &two, 3, &[2, 3, 4]);
     Ok(())

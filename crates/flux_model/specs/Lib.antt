@@ -7,3 +7,4 @@ pub mod Exclusion
 pub mod Waits
 pub mod Leading
 pub mod Children
+pub mod Sizes

@@ -1,5 +1,5 @@
 -- Where no row stands the program is numbered.
-use Rattle.std.proofs.Common.{◌≡◌, ◌≤◌, ◌<◌, ◌+◌, ℕ, Bool, true, false, List, [], ◌∷◌, ◌++◌, length, map, Option, Some, None, refl, sym, subst, ◌∙◌, arith, length-append}
+use Rattle.std.proofs.Common.{◌≡◌, ◌≤◌, ◌<◌, ◌+◌, ℕ, suc, ap, Bool, true, false, List, [], ◌∷◌, ◌++◌, length, map, Option, Some, None, refl, sym, subst, ◌∙◌, arith, length-append}
 use Rattle.std.specs.List.{flat_map, position_or_len, AllByRecursion}
 use Rattle.std.specs.Str.{bytes_eq}
 use Rattle.std.proofs.lemmas.List.{append-nil}
@@ -8,7 +8,10 @@ use Rattle.flux_syntax.specs.declared.declarations.Word.{Word}
 use Rattle.flux_syntax.specs.declared.declarations.Decl.{Decl}
 use Rattle.flux_syntax.specs.declared.declarations.Decl.TheVariants.{Signature, Flow, Source, Typedef, Handler, Atomic, Session}
 use Rattle.flux_model.specs.declared.programs.SourceLine.{SourceLine}
-use Rattle.flux_model.specs.Leading.{leads_to, AreBelow, IsNumbered}
+use Rattle.flux_model.specs.declared.programs.Node.{Node}
+use Rattle.flux_model.specs.Leading.{leads_to, AreBelow, IsNumbered, parts_of}
+use Rattle.flux_syntax.proofs.Counts.{decls_few}
+use Rattle.flux_syntax.specs.Counted.{total, words_in, words_of}
 use Rattle.flux_names.specs.Words.{naming, sourced, inner, and_name, names_after, names_of}
 use Rattle.flux_names.specs.Rows.{Kinds, Nodes, known, listed, among, all_among, again, twice_after, twice_named, unknown_nodes, rows, sooner, soonest, fault_or, first_fault}
 use Rattle.flux_names.specs.ProgramOfText.{number_of, node_of, source_of, program_with}
@@ -113,7 +116,44 @@ count_names all names (Handler node handler ∷ decls) e = count_names all names
 count_names all names (Atomic node constraints ∷ decls) e = count_names all names decls e
 count_names all names (Session source function ∷ decls) e = count_names all names decls e
 
-pub numbered : (kind : Kinds) (node : Nodes) (decls : List Decl) → length decls ≤ 1048576 → first_fault (rows kind node decls) ≡ None → IsNumbered (program_with (names_of decls) decls)
+-- ---- nothing is longer than the declarations
+
+few_lines : (names : List (List ℕ)) (decls : List Decl) → length (flat_map (source_of names) decls) ≤ length decls
+few_lines names [] = omega arith
+few_lines names (Source name target ∷ decls) = let more = few_lines names decls in omega (arith, more)
+few_lines names (Signature name ins outs ∷ decls) = let more = few_lines names decls in omega (arith, more)
+few_lines names (Flow name patterns members ∷ decls) = let more = few_lines names decls in omega (arith, more)
+few_lines names (Typedef name function ∷ decls) = let more = few_lines names decls in omega (arith, more)
+few_lines names (Handler node handler ∷ decls) = let more = few_lines names decls in omega (arith, more)
+few_lines names (Atomic node constraints ∷ decls) = let more = few_lines names decls in omega (arith, more)
+few_lines names (Session source function ∷ decls) = let more = few_lines names decls in omega (arith, more)
+
+one_each : (members : List Word) → total (λ _. 1) members ≡ length members
+one_each [] = refl
+one_each (w ∷ members) = let more = one_each members in omega (arith, more)
+
+length_of : (names : List (List ℕ)) (members : List Word) → length (map (number_of names) members) ≡ length members
+length_of names [] = refl
+length_of names (w ∷ members) = ap (λ (n : ℕ). suc n) (length_of names members)
+
+abbrev HasFewParts : ℕ → Node → Type 0
+HasFewParts most node = parts_of node.body ≤ most
+
+node_few : (names : List (List ℕ)) (most : ℕ) (d : Decl) → words_in d ≤ most → AllByRecursion (HasFewParts most) (node_of names d)
+node_few names most (Signature name ins outs) le = (omega arith, tt)
+node_few names most (Flow name patterns members) le =
+    (omega (arith, le, one_each members, length_of names members, length-append (map (number_of names) members) []), tt)
+node_few names most (Source name target) le = tt
+node_few names most (Typedef name function) le = tt
+node_few names most (Handler node handler) le = tt
+node_few names most (Atomic node constraints) le = tt
+node_few names most (Session source function) le = tt
+
+nodes_few : (names : List (List ℕ)) (most : ℕ) (decls : List Decl) → words_of decls ≤ most → AllByRecursion (HasFewParts most) (flat_map (node_of names) decls)
+nodes_few names most [] le = tt
+nodes_few names most (d ∷ decls) le = all_append (HasFewParts most) (node_of names d) (flat_map (node_of names) decls) (node_few names most d (omega (arith, le))) (nodes_few names most decls (omega (arith, le)))
+
+pub numbered : (kind : Kinds) (node : Nodes) (decls : List Decl) → words_of decls ≤ 1048576 → first_fault (rows kind node decls) ≡ None → IsNumbered (program_with (names_of decls) decls)
 numbered kind node decls few sound =
     let names = names_of decls in
     let first = no_row _ (soonest None (twice_named decls)) _ sound in
@@ -122,7 +162,9 @@ numbered kind node decls few sound =
     let unknown = no_words (unknown_nodes names decls) second.0 in
     let count : length names ≡ length (flat_map (node_of names) decls) = count_names names [] decls twice.0 ∙ omega arith in
     record {
-      few = subst (λ n. n ≤ 1048576) count (few_names decls few);
+      few = subst (λ n. n ≤ 1048576) count (few_names decls (omega (arith, few, decls_few decls)));
+      few_sources = omega (arith, few, decls_few decls, few_lines names decls);
+      parts = nodes_few names 1048576 decls few;
       nodes = subst (λ n. AllByRecursion (λ node. AreBelow n (leads_to node)) (flat_map (node_of names) decls)) count (nodes_below names decls unknown);
       sources = subst (λ n. AllByRecursion (IsLineBelow n) (flat_map (source_of names) decls)) count (lines_below names decls unknown);
     }

@@ -1,6 +1,7 @@
 //! Declarations to a program, or the least fault.
 
 ghost use Rattle.std.specs.Prelude.{◌≡◌, ◌≤◌, IfOk, IfErr, length};
+ghost use Rattle.flux_syntax.specs.Counted.{words_of};
 ghost use Rattle.flux_names.specs.Words.{names_of};
 ghost use Rattle.flux_names.specs.Rows.{rows, fault_or, first_fault};
 ghost use Rattle.flux_names.specs.ProgramOfText.{named_of};
@@ -96,7 +97,7 @@ pub fn resolve<L: Library>(
     decls: &List<Decl>,
     library: &L,
 ) -> Result<Named, CheckFault>
-    requires { length decls.now ≤ 1048576 }
+    requires { words_of decls.now ≤ 1048576 }
     ensures named { IfOk result (IsNamed (L.kind_of library.now) (L.sig_of library.now) decls.now) }
     ensures fault { IfErr result (IsFaultOf (first_fault (rows (L.kind_of library.now) (L.sig_of library.now) decls.now))) }
 {

@@ -6,6 +6,7 @@ pub mod Whole
 pub mod Programs
 pub mod Fitting
 pub mod Refused
+pub mod Counts
 pub mod Texts
 pub mod Printed
 pub mod Backs

@@ -1,5 +1,5 @@
 -- What the lexer and the parser answer together of a text.
-use Rattle.std.proofs.Common.{◌≡◌, refl, length-append, ◌≤◌, ◌<◌, ◌+◌, ℕ, suc, List, [], ◌∷◌, ◌++◌, length, drop, map, Result, Ok, Err, IfOk, IfErr, inl, inr, sym, ap, subst, ◌∙◌, arith}
+use Rattle.std.proofs.Common.{◌≡◌, refl, ◌≤◌, ◌<◌, ◌+◌, ℕ, suc, List, [], ◌∷◌, ◌++◌, length, drop, map, Result, Ok, Err, IfOk, IfErr, inl, inr, sym, ap, subst, ◌∙◌, arith}
 use Rattle.std.specs.List.{AllByRecursion}
 use Rattle.std.proofs.lemmas.List.{drop-drop, length-drop}
 use Rattle.flux_faults.specs.declared.faults.FaultKind.{FaultKind}
@@ -13,11 +13,11 @@ use Rattle.flux_lexer.specs.Texts.{Part, Laid, opened_at, openers_of, AreTokensO
 use Rattle.flux_syntax.specs.declared.declarations.Decl.{Decl}
 use Rattle.flux_syntax.specs.Symbols.{Lies}
 use Rattle.flux_syntax.specs.Declares.{Declares, Spell}
+use Rattle.flux_syntax.specs.Counted.{words_of}
+use Rattle.flux_syntax.proofs.Counts.{words_few, decls_few}
 use Rattle.flux_syntax.specs.Unexpected.{StopsAt, IsUnexpected, IsFaultOf, AreDeclsOrMemory, IsFaultOrMemory, IsFaulty, IsRefusalOf, IsThatOrMemory}
 use Rattle.flux_lexer.proofs.Only.{tokens_only, no_tokens}
 use Rattle.flux_syntax.specs.Symbols.{Symbol, symbol_of}
-use Rattle.flux_syntax.specs.Grammar.{IsDeclaration, IsProgram}
-use Rattle.flux_syntax.proofs.Whole.{some_symbol}
 use Rattle.flux_syntax.proofs.Refused.{no_place, one_reading}
 use Rattle.flux_syntax.proofs.Fitting.{fit}
 
@@ -104,22 +104,17 @@ pub no_decls : (kind : FaultKind) (at : ℕ) (text : List ℕ) (decls : List Dec
 no_decls kind at text decls (inl stands) d = no_tokens text kind at d.tokens stands d.are
 no_decls kind at text decls (inr (k, tokens, are, u)) d = no_place at text d.tokens decls d.spelled (subst (λ (l : List Token). IsUnexpected at text l) (tokens_only text d.tokens tokens d.are are) u)
 
-few_symbols : (decls : List Decl) (s : List Symbol) → IsProgram decls s → length decls ≤ length s
-few_symbols [] s none = omega arith
-few_symbols (d ∷ decls) s (a, b, is, h, more) = let rest = few_symbols decls b more in omega (arith, rest, some a h, length-append a b, ap length is)
-  where
-    some : (a : List Symbol) → IsDeclaration d a → 1 ≤ length a
-    some [] h = absurd (some_symbol d h)
-    some (t ∷ a) h = omega arith
-
 map_length : (f : Token → Symbol) (l : List Token) → length (map f l) ≡ length l
 map_length f [] = refl
 map_length f (t ∷ l) = ap (λ (n : ℕ). suc n) (map_length f l)
 
 -- there are at most 1,048,576
-pub few_decls : (decls : List Decl) (text : List ℕ) → Declares decls text → length decls ≤ 1048576
-few_decls decls text d = let few = few_symbols decls (map (symbol_of text) d.tokens) d.spelled in omega (arith, few, map_length (symbol_of text) d.tokens, (fit text d.tokens d.are).few)
+pub few_words : (decls : List Decl) (text : List ℕ) → Declares decls text → words_of decls ≤ 1048576
+few_words decls text d = let few = words_few decls (map (symbol_of text) d.tokens) d.spelled in omega (arith, few, map_length (symbol_of text) d.tokens, (fit text d.tokens d.are).few)
 
-pub few_with : (text : List ℕ) (tokens : List Token) (r : Result (List Decl) CheckFault) → AreTokensOf tokens text → IfOk r (Spell text tokens) → IfOk r (λ decls. length decls ≤ 1048576)
-few_with text tokens (Ok decls) are spelled = few_decls decls text (record { tokens = tokens; are = are; spelled = spelled })
+pub few_decls : (decls : List Decl) (text : List ℕ) → Declares decls text → length decls ≤ 1048576
+few_decls decls text d = omega (arith, few_words decls text d, decls_few decls)
+
+pub few_with : (text : List ℕ) (tokens : List Token) (r : Result (List Decl) CheckFault) → AreTokensOf tokens text → IfOk r (Spell text tokens) → IfOk r (λ decls. words_of decls ≤ 1048576)
+few_with text tokens (Ok decls) are spelled = few_words decls text (record { tokens = tokens; are = are; spelled = spelled })
 few_with text tokens (Err fault) are spelled = tt

@@ -5,3 +5,4 @@ pub mod Unexpected
 pub mod Formatted
 pub mod Again
 pub mod Reading
+pub mod Counted

@@ -1,13 +1,14 @@
-use Rattle.std.proofs.Common.{sym, ap, subst, ◌∙◌}
+use Rattle.std.proofs.Common.{arith, sym, ap, subst, ◌∙◌}
 use Rattle.flux_names.specs.Rows.{rows, first_fault}
 use Rattle.flux_names.specs.ProgramOfText.{named_of}
 use Rattle.flux_model.specs.Leading.{IsNumbered}
 use Rattle.flux_names.proofs.Few.{few_names}
 use Rattle.flux_names.proofs.Numbers.{numbered}
+use Rattle.flux_syntax.proofs.Counts.{decls_few}
 use Rattle.flux_names.proofs.resolving.resolve.Goals as goal
 
 pub named_of-requires-clause-few : goal.named_of-requires-clause-few
-named_of-requires-clause-few g c = rw (c.in-Ok.ensures, c.as_slice-decls.ensures) (few_names c.args.decls.now c.requires)
+named_of-requires-clause-few g c = rw (c.in-Ok.ensures, c.as_slice-decls.ensures) (few_names c.args.decls.now (omega (arith, c.requires, decls_few c.args.decls.now)))
 
 pub returns-in-Ok-named_of-clause-named : goal.returns-in-Ok-named_of-clause-named
 returns-in-Ok-named_of-clause-named g c =

@@ -1,5 +1,5 @@
 use Rattle.flux_graph.proofs.Ends.{holds_first, entered_next, entered_less, ordered_last, no_cycle}
-use Rattle.flux_graph.proofs.ordering.order.Goals as goal
+use Rattle.flux_graph.proofs.ordering.order_or_cycle.Goals as goal
 
 pub loop-search-init : goal.loop-search-init
 loop-search-init c = (holds_first c.as_slice-nodes.result.now c.in_ok-search.search c.in_ok-search.ensures, c.as_slice-nodes.ensures)

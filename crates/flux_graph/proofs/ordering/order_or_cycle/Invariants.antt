@@ -1,6 +1,6 @@
 use Rattle.std.proofs.Common.{◌≡◌, ◌-◌, length}
 use Rattle.flux_graph.specs.Search.{Holds}
-use Rattle.flux_graph.proofs.ordering.order.Given as goal
+use Rattle.flux_graph.proofs.ordering.order_or_cycle.Given as goal
 
 abbrev pub invariant-loop-search : goal.invariant-loop-search
 invariant-loop-search l = Holds l.nodes l.search × (l.nodes ≡ l.fn.p.nodes)

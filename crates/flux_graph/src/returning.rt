@@ -1,0 +1,106 @@
+//! The way from a node back to it, and the cycle with the lowest number of all.
+
+ghost use Rattle.std.specs.Prelude.{◌≡◌, ◌≤◌, ◌<◌, ◌++◌, ◌∷◌, [], length, OnOk, IfOk};
+ghost use Rattle.std.specs.List.{AllByRecursion};
+ghost use Rattle.flux_model.specs.Leading.{AreBelow, leads_to};
+ghost use Rattle.flux_graph.specs.Searching.{leaves_of};
+ghost use Rattle.flux_graph.specs.Ordering.{HasCycle, IsLowestCycle};
+ghost use Rattle.flux_graph.specs.Returning.{moved, Seeks, IsAfter, IsBack};
+
+use crate::steps::{Step, add_step, enter_from, leaves};
+use crate::visits::Visits;
+use flux_model::{Node, NodeNo};
+use flux_values::{List, Memory};
+use std::alloc::Global;
+
+/// How far a search for a way back is.
+#[derive(Drop)]
+struct Return {
+    steps: List<Step>,
+    entered: Visits,
+}
+
+impl Return {
+    fn begin(alloc: Global, nodes: &[Node], start: NodeNo) -> Result<Return, Memory>
+        requires is_node { start.0 < length nodes.now }
+        ensures { IfOk result (Seeks nodes.now start) }
+    {
+        let mut search = Return {
+            steps: List::new(alloc),
+            entered: Visits::new(alloc),
+        };
+        search.enter(nodes, start)?;
+        Ok(search)
+    }
+
+    fn enter(&mut self, nodes: &[Node], node: NodeNo) -> Result<(), Memory>
+        ensures { OnOk result (self.new ≡ moved nodes.now self.old node) }
+    {
+        self.entered.add(node.0)?;
+        add_step(&mut self.steps, Step::Leave(node))?;
+        enter_from(&mut self.steps, nodes, node)
+    }
+
+    /// The next node that hasn't been entered, or the one that the search began with.
+    fn next(&mut self, nodes: &[Node], start: NodeNo) -> Option<NodeNo>
+        ensures { Seeks nodes.now start self.old → IsAfter nodes.now start self.old self.new result }
+    {
+        while let Some(step) = self.steps.pop() {
+            match step {
+                Step::Leave(_) => {}
+                Step::Enter(node) => {
+                    if node.0 == start.0 {
+                        return Some(node);
+                    }
+                    if !self.entered.has(node.0) {
+                        return Some(node);
+                    }
+                }
+            }
+        }
+        None
+    }
+}
+
+fn path_back(alloc: Global, steps: &[Step], start: NodeNo) -> Result<List<NodeNo>, Memory>
+    ensures { IfOk result (λ path. path ≡ leaves_of steps.now ++ start ∷ []) }
+{
+    let mut path = leaves(alloc, steps)?;
+    match path.push(start) {
+        Ok(()) => Ok(path),
+        Err(_) => Err(Memory),
+    }
+}
+
+/// A way from a node over what nodes lead to, back to the node.
+fn way_back(alloc: Global, nodes: &[Node], start: NodeNo) -> Result<Option<List<NodeNo>>, Memory>
+    requires numbered { AllByRecursion (λ node. AreBelow (length nodes.now) (leads_to node)) nodes.now }
+    requires is_node { start.0 < length nodes.now }
+    ensures { IfOk result (IsBack nodes.now start) }
+{
+    let mut search = Return::begin(alloc, nodes, start)?;
+    while let Some(node) = search.next(nodes, start) {
+        if node.0 == start.0 {
+            return Ok(Some(path_back(alloc, search.steps.as_slice(), start)?));
+        }
+        search.enter(nodes, node)?;
+    }
+    Ok(None)
+}
+
+/// A cycle through the lowest-numbered node that is on any cycle.
+pub fn lowest_cycle(alloc: Global, nodes: &[Node]) -> Result<List<NodeNo>, Memory>
+    requires few { length nodes.now ≤ 1048576 }
+    requires numbered { AllByRecursion (λ node. AreBelow (length nodes.now) (leads_to node)) nodes.now }
+    requires cycle { HasCycle nodes.now }
+    ensures { IfOk result (IsLowestCycle nodes.now) }
+{
+    let mut number = 0;
+    while number < nodes.len() {
+        if let Some(path) = way_back(alloc, nodes, NodeNo(number as u32))? {
+            return Ok(path);
+        }
+        number += 1;
+    }
+    Ok(List::new(alloc))
+}
