@@ -5,7 +5,7 @@ use Rattle.flux_driver.specs.declared.statuses.Status.{Status}
 use Rattle.flux_driver.specs.declared.statuses.Status.TheVariants as statuses
 use Rattle.flux_driver.specs.declared.refusals.Refusal.{Refusal}
 use Rattle.flux_driver.specs.declared.refusals.Refusal.TheVariants as refusals
-use Rattle.flux_driver.specs.Commands.{Command, Asks, AsksNothing, Files, IsPrinted, Happened, IsDue, IsAnswer, write_line}
+use Rattle.flux_driver.specs.Commands.{Command, Asks, Files, IsPrinted, Happened, IsDue, IsAnswer, write_line}
 use Rattle.flux_driver.specs.Refusals.{status_of, line_of}
 use Rattle.flux_driver.specs.Writing.{Gained, Failed, GainedOrFailed}
 use Rattle.flux_driver.specs.Steps.{prepared_status, IsFirm}
@@ -95,10 +95,3 @@ pub complete : (words : List (List ℕ)) (told : Files) (result : Result (List �
 complete words None result ended s t m n from done refused rose firm = tt
 complete words (Some files) result ended s t m n from done refused rose firm = λ due text line d.
     decides ended (prepared_status result) due s t m n from (settles words files result s t done refused rose firm due text line d)
-
--- words that are no command
-pub no_command : (words : List (List ℕ)) (told : Files) (refusal : Refusal) → AsksNothing words → IsAnswer words told (status_of refusal) [] (line_of refusal) → (status_of refusal ≡ statuses.Usage) ⊎ (status_of refusal ≡ statuses.Memory)
-no_command words told refusal none (inl (inl (never, usage, t, l))) = inl usage
-no_command words told refusal none (inl (inr (command, asks, d))) = absurd (none command asks)
-no_command words told refusal none (inr (inl (command, asks, d))) = absurd (none command asks)
-no_command words told refusal none (inr (inr is)) = inr is.0

@@ -1,17 +1,17 @@
 -- Items, read line by line: whatever items begin the text, the reader has them too.
-use Rattle.std.proofs.Common.{◌≡◌, ℕ, ◌+◌, ◌<◌, ◌≤◌, ◌⊎◌, inl, inr, List, [], ◌∷◌, ◌++◌, length, take, drop, slice_get, Option, Some, refl, sym, ap, subst, ◌∙◌, arith, append_assoc, codes}
+use Rattle.std.proofs.Common.{◌≡◌, ℕ, ◌+◌, ◌<◌, ◌≤◌, ◌⊎◌, inl, inr, List, [], ◌∷◌, ◌++◌, length, take, drop, Option, Some, refl, sym, ap, subst, ◌∙◌, arith, append_assoc, codes}
 use Rattle.std.specs.List.{AllByRecursion, flat_map}
 use Rattle.std.proofs.lemmas.List.{append-nil, length-append, append_cancel_left, take-append-drop, take_at, length-take}
 use Rattle.std.proofs.lemmas.Grind.{flat_map-append}
 use Rattle.flux_values.specs.declared.values.Kind.{Kind}
 use Rattle.flux_values.specs.declared.values.Value.{Value}
 use Rattle.flux_model.specs.declared.programs.Program.{Program}
-use Rattle.flux_model.specs.declared.programs.SourceNo.{SourceNo}
+use Rattle.flux_model.specs.Soundness.{NodeKinds}
 use Rattle.flux_model.specs.declared.journals.Item.{Item}
-use Rattle.flux_model.specs.Texts.{printed_values, printed_item, source_name}
+use Rattle.flux_model.specs.Texts.{printed_values, printed_item}
 use Rattle.flux_driver.specs.declared.items.ItemsRead.{ItemsRead}
 use Rattle.flux_driver.specs.declared.items.ItemsRead.TheVariants.{Items}
-use Rattle.flux_driver.specs.Items.{AreValues, IsItem, item_line, AreItemsOf, IsItemFault, BeginsNoItem, line_of, IsLine, closed, IsClosed}
+use Rattle.flux_driver.specs.Items.{IsItemFor, item_line, AreItemsOf, IsItemFault, BeginsNoItem, line_of, IsLine, closed, IsClosed, IsItemLine}
 use Rattle.flux_driver.proofs.Steps.{some_is}
 use Rattle.flux_driver.proofs.ValueLists.{listed}
 
@@ -59,43 +59,36 @@ abbrev pub AreSame : List Item → List ℕ → List Item → List ℕ → Type 
 AreSame items rest others behind = (others ≡ items) × (behind ≡ rest)
 
 -- the first list goes on with an item
-pub record GoesOn (p : Program) (kinds : List Kind) (items : List Item) (rest : List ℕ) (others : List Item) (behind : List ℕ) : Type 0 where
+pub record GoesOn (p : Program) (kinds : ℕ → NodeKinds) (items : List Item) (rest : List ℕ) (others : List Item) (behind : List ℕ) : Type 0 where
   pub next : Item
   pub more : List Item
-  pub is_item : IsItem kinds next
+  pub is_item : IsItemFor p kinds next
   pub list : items ≡ others ++ next ∷ more
   pub text : behind ≡ item_line p next ++ (flat_map (item_line p) more ++ rest)
 
-abbrev pub Compared : Program → List Kind → List Item → List ℕ → List Item → List ℕ → Type 0
+abbrev pub Compared : Program → (ℕ → NodeKinds) → List Item → List ℕ → List Item → List ℕ → Type 0
 Compared p kinds items rest others behind = AreSame items rest others behind ⊎ (GoesOn p kinds items rest others behind ⊎ GoesOn p kinds others behind items rest)
 
-pub record ItemsSoFar (p : Program) (kinds : List Kind) (text : List ℕ) (items : List Item) (rest : List ℕ) (line : ℕ) : Type 0 where
+pub record ItemsSoFar (p : Program) (kinds : ℕ → NodeKinds) (text : List ℕ) (items : List Item) (rest : List ℕ) (line : ℕ) : Type 0 where
   pub lines : text ≡ flat_map (item_line p) items ++ rest
-  pub each : AllByRecursion (IsItem kinds) items
+  pub each : AllByRecursion (IsItemFor p kinds) items
   pub place : length items + 1 ≡ line
-  pub only : (others : List Item) (behind : List ℕ) → AllByRecursion (IsItem kinds) others → text ≡ flat_map (item_line p) others ++ behind → Compared p kinds items rest others behind
+  pub only : (others : List Item) (behind : List ℕ) → AllByRecursion (IsItemFor p kinds) others → text ≡ flat_map (item_line p) others ++ behind → Compared p kinds items rest others behind
 
-pub no_items : (p : Program) (kinds : List Kind) (text : List ℕ) → ItemsSoFar p kinds text [] text 1
+pub no_items : (p : Program) (kinds : ℕ → NodeKinds) (text : List ℕ) → ItemsSoFar p kinds text [] text 1
 no_items p kinds text = record { lines = refl; each = tt; place = refl; only = begin }
   where
-    begin : (others : List Item) (behind : List ℕ) → AllByRecursion (IsItem kinds) others → text ≡ flat_map (item_line p) others ++ behind → Compared p kinds [] text others behind
+    begin : (others : List Item) (behind : List ℕ) → AllByRecursion (IsItemFor p kinds) others → text ≡ flat_map (item_line p) others ++ behind → Compared p kinds [] text others behind
     begin [] behind each is = inl (refl, sym is)
     begin (item ∷ others) behind each is = inr (inr (record { next = item; more = others; is_item = each.0; list = refl; text = is ∙ append_assoc (item_line p item) (flat_map (item_line p) others) behind }))
 
--- an item of the source has the source's name
-item_line_is : (p : Program) (kinds : List Kind) (item : Item) → IsItem kinds item → item_line p item ≡ line_of (source_name p (slice_get p.sources 0)) item.values
-item_line_is p kinds item is = ap (λ (s : SourceNo). source_name p (slice_get p.sources s.0) ++ codes " " ++ printed_values item.values ++ codes "\n") is.source
+each_push : (p : Program) (kinds : ℕ → NodeKinds) (items : List Item) (x : Item) → AllByRecursion (IsItemFor p kinds) items → IsItemFor p kinds x → AllByRecursion (IsItemFor p kinds) (items ++ x ∷ [])
+each_push p kinds [] x all is = (is, tt)
+each_push p kinds (y ∷ items) x all is = (all.0, each_push p kinds items x all.1 is)
 
-item_eq : (a b : Item) → a.source ≡ b.source → a.values ≡ b.values → a ≡ b
-item_eq a b s v = λ i. record { source = s i; values = v i }
-
-each_push : (kinds : List Kind) (items : List Item) (x : Item) → AllByRecursion (IsItem kinds) items → IsItem kinds x → AllByRecursion (IsItem kinds) (items ++ x ∷ [])
-each_push kinds [] x all is = (is, tt)
-each_push kinds (y ∷ items) x all is = (all.0, each_push kinds items x all.1 is)
-
-each_inside : (kinds : List Kind) (items : List Item) (x : Item) (more : List Item) → AllByRecursion (IsItem kinds) (items ++ x ∷ more) → AllByRecursion (IsItem kinds) (x ∷ more)
-each_inside kinds [] x more all = all
-each_inside kinds (y ∷ items) x more all = each_inside kinds items x more all.1
+each_inside : (p : Program) (kinds : ℕ → NodeKinds) (items : List Item) (x : Item) (more : List Item) → AllByRecursion (IsItemFor p kinds) (items ++ x ∷ more) → AllByRecursion (IsItemFor p kinds) (x ∷ more)
+each_inside p kinds [] x more all = all
+each_inside p kinds (y ∷ items) x more all = each_inside p kinds items x more all.1
 
 flat_push : (p : Program) (items : List Item) (x : Item) (rest : List ℕ) → flat_map (item_line p) (items ++ x ∷ []) ++ rest ≡ flat_map (item_line p) items ++ (item_line p x ++ rest)
 flat_push p items x rest =
@@ -104,18 +97,18 @@ flat_push p items x rest =
     ∙ ap (λ (t : List ℕ). flat_map (item_line p) items ++ (t ++ rest)) (append-nil (item_line p x))
 
 -- the reader took one item more: it stands at the rest, and no other item does
-pub line_taken : (p : Program) (kinds : List Kind) (text : List ℕ) (items : List Item) (rest after : List ℕ) (line : ℕ) (x : Item) → ItemsSoFar p kinds text items rest line → IsItem kinds x → rest ≡ item_line p x ++ after
-    → ((w : Item) (t : List ℕ) → IsItem kinds w → rest ≡ item_line p w ++ t → w ≡ x)
+pub line_taken : (p : Program) (kinds : ℕ → NodeKinds) (text : List ℕ) (items : List Item) (rest after : List ℕ) (line : ℕ) (x : Item) → ItemsSoFar p kinds text items rest line → IsItemFor p kinds x → rest ≡ item_line p x ++ after
+    → ((w : Item) (t : List ℕ) → IsItemFor p kinds w → rest ≡ item_line p w ++ t → w ≡ x)
     → ItemsSoFar p kinds text (items ++ x ∷ []) after (line + 1)
 line_taken p kinds text items rest after line x s is front one = record {
   lines = s.lines ∙ ap (λ (t : List ℕ). flat_map (item_line p) items ++ t) front ∙ sym (flat_push p items x after);
-  each = each_push kinds items x s.each is;
+  each = each_push p kinds items x s.each is;
   place = ap (λ (n : ℕ). n + 1) (length-append items (x ∷ [])) ∙ omega (arith, s.place);
   only = λ others behind each lines. step others behind each (s.only others behind each lines);
 }
   where
     -- the item that other items go on with is the one that was read
-    longer : (others : List Item) (behind : List ℕ) → AllByRecursion (IsItem kinds) others → (w : Item) (ws : List Item) → w ≡ x → others ≡ items ++ w ∷ ws → rest ≡ item_line p w ++ (flat_map (item_line p) ws ++ behind) → Compared p kinds (items ++ x ∷ []) after others behind
+    longer : (others : List Item) (behind : List ℕ) → AllByRecursion (IsItemFor p kinds) others → (w : Item) (ws : List Item) → w ≡ x → others ≡ items ++ w ∷ ws → rest ≡ item_line p w ++ (flat_map (item_line p) ws ++ behind) → Compared p kinds (items ++ x ∷ []) after others behind
     longer others behind each w [] same list at_rest = inl (
       list ∙ ap (λ (y : Item). items ++ y ∷ []) same,
       append_cancel_left (item_line p x) behind after (ap (λ (y : Item). item_line p y ++ behind) (sym same) ∙ sym at_rest ∙ front),
@@ -123,12 +116,12 @@ line_taken p kinds text items rest after line x s is front one = record {
     longer others behind each w (v ∷ vs) same list at_rest = inr (inr (record {
       next = v;
       more = vs;
-      is_item = (each_inside kinds items w (v ∷ vs) (subst (AllByRecursion (IsItem kinds)) list each)).1.0;
+      is_item = (each_inside p kinds items w (v ∷ vs) (subst (AllByRecursion (IsItemFor p kinds)) list each)).1.0;
       list = list ∙ ap (λ (y : Item). items ++ y ∷ v ∷ vs) same ∙ sym (append_assoc items (x ∷ []) (v ∷ vs));
       text = append_cancel_left (item_line p x) after (item_line p v ++ (flat_map (item_line p) vs ++ behind)) (sym front ∙ at_rest ∙ ap (λ (y : Item). item_line p y ++ ((item_line p v ++ flat_map (item_line p) vs) ++ behind)) same ∙ ap (λ (t : List ℕ). item_line p x ++ t) (append_assoc (item_line p v) (flat_map (item_line p) vs) behind));
     }))
 
-    step : (others : List Item) (behind : List ℕ) → AllByRecursion (IsItem kinds) others → Compared p kinds items rest others behind → Compared p kinds (items ++ x ∷ []) after others behind
+    step : (others : List Item) (behind : List ℕ) → AllByRecursion (IsItemFor p kinds) others → Compared p kinds items rest others behind → Compared p kinds (items ++ x ∷ []) after others behind
     step others behind each (inl same) = inr (inl (record {
       next = x;
       more = [];
@@ -156,7 +149,7 @@ nothing_left p x t e = let h = ap length e in omega (arith, some_line p x t)
 long_list : (others items : List Item) (w : Item) (ws : List Item) → items ≡ others ++ w ∷ ws → length others < length items
 long_list others items w ws e = rw e (omega (arith, length-append others (w ∷ ws)))
 
-module _ (p : Program) (kinds : List Kind) (text : List ℕ) (items : List Item) (rest : List ℕ) (line : ℕ) (s : ItemsSoFar p kinds text items rest line) (within : line ≤ 65) where
+module _ (p : Program) (kinds : ℕ → NodeKinds) (text : List ℕ) (items : List Item) (rest : List ℕ) (line : ℕ) (s : ItemsSoFar p kinds text items rest line) (within : line ≤ 65) where
   -- items that end where the reader's go on leave no fault there
   no_fault_before : (n : ℕ) (f : IsItemFault p kinds n text) → GoesOn p kinds items rest f.items f.rest → ⊥
   no_fault_before n f g = elim f.cause [
@@ -209,24 +202,9 @@ module _ (p : Program) (kinds : List Kind) (text : List ℕ) (items : List Item)
     | inr (inr g) ↦ absurd (omega (arith, long_list items f.items g.next g.more g.list, f.place, f.limit, s.place))
   ]
 
--- what the reader of a line says of items
-pub no_item : (p : Program) (kinds : List Kind) (name rest : List ℕ) → name ≡ source_name p (slice_get p.sources 0)
-    → ((vs : List Value) (t : List ℕ) → AreValues kinds vs → rest ≡ line_of name vs ++ t → ⊥) → BeginsNoItem p kinds rest
-no_item p kinds name rest same none item t is e = none item.values t is.values (e ∙ ap (λ (l : List ℕ). l ++ t) (item_line_is p kinds item is ∙ ap (λ (n : List ℕ). line_of n item.values) (sym same)))
+-- what the reader of one item says of a line
+pub item_front : (p : Program) (kinds : ℕ → NodeKinds) (rest : List ℕ) (item : Item) (n : ℕ) → IsItemLine p kinds rest (item, n) → rest ≡ item_line p item ++ drop n rest
+item_front p kinds rest item n line = sym (take-append-drop n rest) ∙ ap (λ (l : List ℕ). l ++ drop n rest) line.spelled
 
-abbrev pub item_of : List Value → Item
-item_of vs = record { source = record { 0 = 0 }; values = vs }
-
-pub line_item : (p : Program) (kinds : List Kind) (name rest : List ℕ) (vs : List Value) (n : ℕ) → name ≡ source_name p (slice_get p.sources 0) → IsLine name kinds rest (vs, n) → rest ≡ item_line p (item_of vs) ++ drop n rest
-line_item p kinds name rest vs n same line = sym (take-append-drop n rest) ∙ ap (λ (l : List ℕ). l ++ drop n rest) (line.spelled ∙ ap (λ (m : List ℕ). line_of m vs) same)
-
-pub one_item : (p : Program) (kinds : List Kind) (name rest : List ℕ) (vs : List Value) (n : ℕ) → name ≡ source_name p (slice_get p.sources 0)
-    → ((ws : List Value) (t : List ℕ) → AreValues kinds ws → rest ≡ line_of name ws ++ t → ◌≡◌ {A = Option (List Value × ℕ)} (Some (vs, n)) (Some (ws, length (line_of name ws))))
-    → (w : Item) (t : List ℕ) → IsItem kinds w → rest ≡ item_line p w ++ t → w ≡ item_of vs
-one_item p kinds name rest vs n same only w t is e =
-    let spelled = e ∙ ap (λ (l : List ℕ). l ++ t) (item_line_is p kinds w is ∙ ap (λ (m : List ℕ). line_of m w.values) (sym same)) in
-    let pair : ◌≡◌ {A = List Value × ℕ} (vs, n) (w.values, length (line_of name w.values)) = some_is (vs, n) (w.values, length (line_of name w.values)) (only w.values t is.values spelled) in
-    item_eq w (item_of vs) is.source (sym (ap (λ (q : List Value × ℕ). q.0) pair))
-
-pub is_item : (kinds : List Kind) (vs : List Value) → AreValues kinds vs → IsItem kinds (item_of vs)
-is_item kinds vs are = record { source = refl; values = are }
+pub only_item : (item w : Item) (n m : ℕ) → ◌≡◌ {A = Option (Item × ℕ)} (Some (item, n)) (Some (w, m)) → w ≡ item
+only_item item w n m e = let pair = some_is (item, n) (w, m) e in sym (ap (λ (q : Item × ℕ). q.0) pair)

@@ -1,22 +1,18 @@
 -- Words and files decide one status.
-use Rattle.std.proofs.Common.{◌≡◌, ℕ, inl, inr, ◌⊎◌, List, [], ◌∷◌, Option, Some, refl, sym, ap, subst, ◌∙◌}
+use Rattle.std.proofs.Common.{◌≡◌, ℕ, inl, inr, ◌⊎◌, List, Option, Some, refl, sym, subst, ◌∙◌}
 use Rattle.flux_outside.specs.declared.stores.File.{File}
 use Rattle.flux_outside.specs.declared.stores.File.TheVariants.{Found, Missing, Longer}
+use Rattle.flux_faults.specs.declared.faults.StaticFault.{StaticFault}
 use Rattle.flux_syntax.specs.declared.declarations.Decl.{Decl}
 use Rattle.flux_syntax.specs.Declares.{Declares}
-use Rattle.flux_syntax.specs.Unexpected.{IsFaulty}
 use Rattle.flux_syntax.proofs.Texts.{one_list, no_decls}
-use Rattle.flux_model.specs.declared.programs.Program.{Program}
-use Rattle.flux_driver.specs.declared.declarations.Line.{Line}
-use Rattle.flux_driver.specs.declared.library.LibraryNode.{LibraryNode}
+use Rattle.flux_library.specs.Basics.{basic_kind, basic_sig}
+use Rattle.flux_check.specs.Judgement.{IsTextFault}
+use Rattle.flux_check.proofs.Exclusive.{not_both}
 use Rattle.flux_driver.specs.declared.statuses.Status.{Status}
 use Rattle.flux_driver.specs.declared.statuses.Status.TheVariants as statuses
-use Rattle.flux_driver.specs.ProgramOfText.{library_name}
-use Rattle.flux_driver.specs.Library.{library_node}
-use Rattle.flux_driver.specs.FirstForm.{IsJoined, IsFirstForm}
-use Rattle.flux_driver.specs.Commands.{Command, run, format, Asks, Files, Gives, IsLost, HasDecls, HasProgram, HasItems, IsPrinted, IsNotBuilt, IsStatic, IsItems, AreItemsLost, IsMissing, Decided, IsDue}
+use Rattle.flux_driver.specs.Commands.{Command, check, run, format, Asks, program_file, Files, Gives, IsLost, HasDecls, HasProgram, HasItems, IsPrinted, IsStaticOf, IsStatic, IsItems, AreItemsLost, IsMissing, Decided, IsDue}
 use Rattle.flux_driver.specs.Steps.{IsFirm}
-use Rattle.flux_driver.proofs.Steps.{some_is}
 
 -- ---- one text, one list of declarations, one program
 
@@ -36,70 +32,64 @@ not_lost files name max text x (inr y) = let e = found_is files name max (Found 
 pub decls_is : (files : Told) (file : List ℕ) (a b : List Decl) → HasDecls (Some files) file a → HasDecls (Some files) file b → a ≡ b
 decls_is files file a b x y = one_list x.text a b x.declared (subst (Declares b) (text_is files file 2097152 y.text x.text y.gives x.gives) y.declared)
 
-line_is : (lines : List Line) (a b : Line) → lines ≡ a ∷ [] → lines ≡ b ∷ [] → a ≡ b
-line_is lines a b first second = let e = sym first ∙ second in cc
-
-pub from_is : (names : List (List ℕ)) (lines : List Line) (a b c d : LibraryNode) → IsJoined names lines a b → IsJoined names lines c d → a ≡ c
-from_is names lines a b c d x y =
-    some_is a c (sym x.start.library ∙ ap (λ (l : Line). library_node (library_name l.source)) (line_is lines x.line y.line x.one y.one) ∙ y.start.library)
-
 -- ---- what excludes what
 
 no_static_decls : (files : Told) (file line : List ℕ) (decls : List Decl) → HasDecls (Some files) file decls → IsStatic (format file) (Some files) line → ⊥
-no_static_decls files file line decls h s = one s.fault
-  where
-    one : IsFaulty s.kind s.at s.text ⊎ IsNotBuilt (format file) s.text s.kind s.at → ⊥
-    one (inl f) = no_decls s.kind s.at s.text decls f (subst (Declares decls) (text_is files file 2097152 h.text s.text h.gives s.gives) h.declared)
-    one (inr f) = f
+no_static_decls files file line decls h s =
+    no_decls (let f = s.fault in f.kind) (let f = s.fault in f.at) s.text decls s.stands.0 (subst (Declares decls) (text_is files file 2097152 h.text s.text h.gives s.gives) h.declared)
 
-no_static_program : (files : Told) (file items line : List ℕ) (p : Program) → HasProgram (Some files) file p → IsStatic (run file items) (Some files) line → ⊥
-no_static_program files file items line p h s = one s.fault
-  where
-    declared : Declares h.decls s.text
-    declared = subst (Declares h.decls) (text_is files file 2097152 h.has.text s.text h.has.gives s.gives) h.has.declared
-
-    one : IsFaulty s.kind s.at s.text ⊎ IsNotBuilt (run file items) s.text s.kind s.at → ⊥
-    one (inl f) = no_decls s.kind s.at s.text h.decls f declared
-    one (inr (kind, at, decls, d, other)) = other (subst IsFirstForm (one_list s.text h.decls decls declared d) h.form)
+-- a sound program has no fault
+not_faulty : (files : Told) (file text : List ℕ) (fault : StaticFault) (decls : List Decl) → HasProgram (Some files) file decls → Gives (Some files) file 2097152 (Found text) → IsTextFault basic_kind basic_sig text fault → ⊥
+not_faulty files file text fault decls h gives stands =
+    let has = h.has in
+    not_both basic_kind basic_sig text fault (record { decls = decls; declared = subst (Declares decls) (text_is files file 2097152 has.text text has.gives gives) has.declared; sound = h.sound }) stands
 
 printed_static : (command : Command) (files : Told) (text line : List ℕ) → IsPrinted command (Some files) text → IsStatic command (Some files) line → ⊥
-printed_static (run file items) files text line p s = no_static_program files file items line p.has.program p.has.source s
+printed_static (check file) files text line (decls, h, is) s = not_faulty files file s.text s.fault decls h s.gives s.stands
+printed_static (run file items) files text line p s = let has = p.has in not_faulty files file s.text s.fault has.decls has.source s.gives s.stands
 printed_static (format file) files text line (decls, h, is) s = no_static_decls files file line decls h s
 
 items_static : (command : Command) (files : Told) (said line : List ℕ) → IsItems command (Some files) said → IsStatic command (Some files) line → ⊥
-items_static (run file items) files said line i s = no_static_program files file items line i.has.program i.has.source s
+items_static (check file) files said line i s = i
+items_static (run file items) files said line i s = let has = i.has in not_faulty files file s.text s.fault has.decls has.source s.gives s.stands
 items_static (format file) files said line i s = i
+
+file_there : (files : Told) (file : List ℕ) (decls : List Decl) → HasDecls (Some files) file decls → IsLost (Some files) file 2097152 → ⊥
+file_there files file decls h lost = not_lost files file 2097152 h.text h.gives lost
 
 items_there : (files : Told) (file items line : List ℕ) → HasItems (Some files) file items → IsMissing (run file items) (Some files) line → ⊥
 items_there files file items line h m = one m.lost
   where
     one : ((m.name ≡ file) × IsLost (Some files) file 2097152) ⊎ AreItemsLost (run file items) (Some files) m.name → ⊥
-    one (inl (name, lost)) = not_lost files file 2097152 h.source.has.text h.source.has.gives lost
-    one (inr (name, lost, p, source)) = not_lost files items 16777216 h.text h.gives lost
+    one (inl (name, lost)) = let source = h.source in file_there files file h.decls source.has lost
+    one (inr (name, lost, decls, source)) = not_lost files items 16777216 h.text h.gives lost
 
 printed_missing : (command : Command) (files : Told) (text line : List ℕ) → IsPrinted command (Some files) text → IsMissing command (Some files) line → ⊥
+printed_missing (check file) files text line (decls, h, is) m = one m.lost
+  where
+    one : ((m.name ≡ file) × IsLost (Some files) file 2097152) ⊎ AreItemsLost (check file) (Some files) m.name → ⊥
+    one (inl (name, lost)) = file_there files file decls h.has lost
+    one (inr none) = none
 printed_missing (run file items) files text line p m = items_there files file items line p.has m
 printed_missing (format file) files text line (decls, h, is) m = one m.lost
   where
     one : ((m.name ≡ file) × IsLost (Some files) file 2097152) ⊎ AreItemsLost (format file) (Some files) m.name → ⊥
-    one (inl (name, lost)) = not_lost files file 2097152 h.text h.gives lost
+    one (inl (name, lost)) = file_there files file decls h lost
     one (inr none) = none
 
 items_missing : (command : Command) (files : Told) (said line : List ℕ) → IsItems command (Some files) said → IsMissing command (Some files) line → ⊥
+items_missing (check file) files said line i m = i
 items_missing (run file items) files said line i m = items_there files file items line i.has m
 items_missing (format file) files said line i m = i
 
 static_missing : (command : Command) (files : Told) (said line : List ℕ) → IsStatic command (Some files) said → IsMissing command (Some files) line → ⊥
-static_missing (run file items) files said line s m = one m.lost
+static_missing command files said line s m = one command s.gives s.stands m.lost
   where
-    one : ((m.name ≡ file) × IsLost (Some files) file 2097152) ⊎ AreItemsLost (run file items) (Some files) m.name → ⊥
-    one (inl (name, lost)) = not_lost files file 2097152 s.text s.gives lost
-    one (inr (name, lost, p, source)) = no_static_program files file items said p source s
-static_missing (format file) files said line s m = one m.lost
-  where
-    one : ((m.name ≡ file) × IsLost (Some files) file 2097152) ⊎ AreItemsLost (format file) (Some files) m.name → ⊥
-    one (inl (name, lost)) = not_lost files file 2097152 s.text s.gives lost
-    one (inr none) = none
+    one : (command : Command) → Gives (Some files) (program_file command) 2097152 (Found s.text) → IsStaticOf command s.text s.fault → ((m.name ≡ program_file command) × IsLost (Some files) (program_file command) 2097152) ⊎ AreItemsLost command (Some files) m.name → ⊥
+    one command gives stands (inl (name, lost)) = not_lost files (program_file command) 2097152 s.text gives lost
+    one (check file) gives stands (inr none) = none
+    one (run file items) gives stands (inr (name, lost, decls, source)) = not_faulty files file s.text s.fault decls source gives stands
+    one (format file) gives stands (inr none) = none
 
 -- ---- one status
 
@@ -140,8 +130,13 @@ same_view command files s r t l u m firm (inr (inr (inr (a, p)))) (inr (inr (inl
 same_view command files s r t l u m firm (inr (inr (inr (a, p)))) (inr (inr (inr (b, q)))) = a ∙ sym b
 
 one_command : (words : List (List ℕ)) (a b : Command) → Asks words a → Asks words b → a ≡ b
+one_command words (check file) (check other) (is, name) (same, more) = let e = sym is ∙ same in cc
+one_command words (check file) (run other others) (is, name) (same, more, others_) = let e = sym is ∙ same in absurd cc
+one_command words (check file) (format other) (is, name) (same, more) = let e = sym is ∙ same in absurd cc
+one_command words (run file items) (check other) (is, name, names) (same, more) = let e = sym is ∙ same in absurd cc
 one_command words (run file items) (run other others) (is, name, names) (same, more, others_) = let e = sym is ∙ same in cc
 one_command words (run file items) (format other) (is, name, names) (same, more) = let e = sym is ∙ same in absurd cc
+one_command words (format file) (check other) (is, name) (same, more) = let e = sym is ∙ same in absurd cc
 one_command words (format file) (run other others) (is, names) (same, more, others_) = let e = sym is ∙ same in absurd cc
 one_command words (format file) (format other) (is, name) (same, more) = let e = sym is ∙ same in cc
 

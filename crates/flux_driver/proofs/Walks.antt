@@ -1,203 +1,158 @@
--- The flows that are run are the walks of the program, whole and with the nodes' answers.
-use Rattle.std.proofs.Common.{◌≡◌, ℕ, zero, suc, ◌+◌, ◌<◌, ◌≤◌, true, false, cond, eqb, List, [], ◌∷◌, ◌++◌, length, Some, refl, sym, ap, subst, ◌∙◌, arith}
-use Rattle.std.specs.List.{AllByRecursion, slice_get}
-use Rattle.std.specs.Str.{bytes_eq}
+-- The flows that are run are whole, answer right, exclude one another and are free of cycles.
+use Rattle.std.proofs.Common.{◌≡◌, ℕ, zero, suc, ◌+◌, ◌<◌, ◌≤◌, true, eqb, List, [], ◌∷◌, ◌++◌, length, Option, Some, None, refl, sym, ap, subst, ◌∙◌, arith}
+use Rattle.std.specs.List.{AllByRecursion, slice_get, flat_map}
 use Rattle.std.proofs.lemmas.Bool.{ne_eqb}
 use Rattle.std.proofs.lemmas.Bool.Decides.{nat_tests}
-use Rattle.std.proofs.lemmas.Option.{slice_get_within}
-use Rattle.std.proofs.lemmas.Slice.Eq.{bytes_eq-Decides}
-use Rattle.flux_values.specs.declared.values.Kind.{Kind}
-use Rattle.flux_values.specs.declared.answers.Answer.{Answer}
-use Rattle.flux_values.specs.declared.answers.CallResult.{CallResult}
-use Rattle.flux_values.specs.declared.answers.CallResult.TheVariants as results
+use Rattle.std.proofs.lemmas.List.{append-nil}
 use Rattle.flux_model.specs.declared.programs.Program.{Program}
+use Rattle.flux_model.specs.declared.programs.Node.{Node}
+use Rattle.flux_model.specs.declared.programs.NodeNo.{NodeNo}
+use Rattle.flux_model.specs.declared.programs.Hold.{Hold}
 use Rattle.flux_model.specs.declared.journals.Entry.{Entry}
 use Rattle.flux_model.specs.declared.journals.Event.{Event}
 use Rattle.flux_model.specs.declared.journals.Event.TheVariants.{Take, Wait, Enter, Choose, Call, Exit, Drop, End}
 use Rattle.flux_model.specs.declared.journals.Item.{Item}
-use Rattle.flux_model.specs.declared.programs.NodeNo.{NodeNo}
-use Rattle.flux_model.specs.declared.programs.Hold.{Hold}
+use Rattle.flux_model.specs.declared.journals.Journal.{Journal}
 use Rattle.flux_model.specs.Exclusion.{Excludes, IsDeclared, declared_on}
 use Rattle.flux_model.specs.Waits.{WaitsFor, IsFreeOfCycles}
-use Rattle.flux_model.specs.declared.journals.Journal.{Journal}
-use Rattle.flux_model.specs.Walk.{ended_by, flow_events, IsFinished}
+use Rattle.flux_model.specs.Walk.{flow_events, IsFinished}
 use Rattle.flux_model.specs.Serial.{entries_of, AreWalks}
-use Rattle.flux_model.specs.Events.{events_by, own_events, own_answers, IsWhole}
+use Rattle.flux_model.specs.Events.{unless_wait, answer_in, events_by, own_events, own_answers, IsWholePath, IsWhole}
 use Rattle.flux_model.specs.Answers.{IsRight, AreAnswersRight}
-use Rattle.flux_syntax.specs.declared.declarations.Decl.{Decl}
-use Rattle.flux_driver.specs.ProgramOfText.{library_name, names_of, place_of, node_of, nodes_of, program_of}
-use Rattle.flux_driver.specs.declared.forms.Join.{Join}
-use Rattle.flux_driver.specs.FirstForm.{has_name, lines_of}
-use Rattle.flux_driver.specs.Joins.{IsJoin}
-use Rattle.flux_driver.specs.Items.{IsItem}
-use Rattle.flux_driver.specs.Library.{library_node, answer_of, answering}
-use Rattle.flux_driver.specs.Runs.{outcome_of, path, item_path, flows_of}
-use Rattle.flux_driver.proofs.FormsRead.{built, built_is}
-
--- a name's node stands at its place
-named_place : (name : List ℕ) (names : List (List ℕ)) → has_name name names ≡ true → slice_get (nodes_of names) (place_of name names) ≡ Some (node_of name)
-named_place name [] has = absurd cc
-named_place name (n ∷ names) has =
-    elim (bytes_eq n name) as (λ t. bytes_eq n name ≡ t → slice_get (nodes_of (n ∷ names)) (cond t 0 (suc (place_of name names))) ≡ Some (node_of name)) [
-      | true ↦ λ e. ap (λ (l : List ℕ). Some (node_of l)) ((bytes_eq-Decides n name).0 e)
-      | false ↦ λ e. named_place name names (let h : has_name name names ≡ true = rw e at has in h)
-    ] refl
-
-all_at : (P : Item → Type 0) (items : List Item) (i : ℕ) (item : Item) → slice_get items i ≡ Some item → AllByRecursion P items → P item
-all_at P [] i item at all = absurd cc
-all_at P (first ∷ items) zero item at all = subst P (let h : first ≡ item = cc in h) all.0
-all_at P (first ∷ items) (suc i) item at all = all_at P items i item at all.1
+use Rattle.flux_driver.specs.Runs.{answering}
+use Rattle.flux_driver.specs.Running.{IsFlow, HaveRun}
+use Rattle.flux_driver.proofs.Quiet.{IsQuiet, AreQuiet, quiet_flow}
 
 inside_all : {X : Type 0} (P : X → Type 0) (before : List X) (x : X) (after : List X) → AllByRecursion P (before ++ x ∷ after) → P x
 inside_all P [] x after all = all.0
 inside_all P (first ∷ before) x after all = inside_all P before x after all.1
 
--- an event that takes no lock
-abbrev IsNoTake : Event → Type 0
-IsNoTake (Take key mode) = ⊥
-IsNoTake (Wait key mode) = Unit {0}
-IsNoTake (Enter node) = Unit {0}
-IsNoTake (Choose place) = Unit {0}
-IsNoTake (Call made) = Unit {0}
-IsNoTake (Exit node outcome) = Unit {0}
-IsNoTake (Drop key) = Unit {0}
-IsNoTake (End outcome) = Unit {0}
+all_both : {A : Type 0} (P : A → Type 0) (a b : List A) → AllByRecursion P a → AllByRecursion P b → AllByRecursion P (a ++ b)
+all_both P [] b x y = y
+all_both P (t ∷ a) b x y = (x.0, all_both P a b x.1 y)
 
-outcome_is : (r : CallResult) (left : List Answer) → (ended_by r left).outcome ≡ outcome_of r
-outcome_is (results.Good values) left = refl
-outcome_is (results.Bad code) left = refl
+-- ---- events of one flow
 
-next_of : (n : ℕ) → 0 < n → (k : ℕ) × (n ≡ suc k)
-next_of zero lt = absurd (omega arith)
-next_of (suc k) lt = (k, refl)
+by_own : (flow : ℕ) (events : List Event) (rest : List Entry) → events_by flow (entries_of flow events ++ rest) ≡ events ++ events_by flow rest
+by_own flow [] rest = refl
+by_own flow (e ∷ events) rest = let own : eqb flow flow ≡ true = grind (arith, nat_tests) in rw own (ap (λ (l : List Event). e ∷ l) (by_own flow events rest))
 
--- ---- in which flows the events are
+by_other : (flow other : ℕ) (events : List Event) (rest : List Entry) → (other ≡ flow → ⊥) → events_by flow (entries_of other events ++ rest) ≡ events_by flow rest
+by_other flow other [] rest apart = refl
+by_other flow other (e ∷ events) rest apart = rw (ne_eqb other flow apart) (by_other flow other events rest apart)
 
-events_before : (join : Join) (f n : ℕ) (items : List Item) → f < n → events_by f (flows_of join n items) ≡ []
-events_before join f n [] lt = refl
-events_before join f n (item ∷ items) lt = rw (ne_eqb n f (λ (e : n ≡ f). omega (arith, e))) (events_before join f (suc n) items (omega arith))
+module _ (p : Program) (free : AllByRecursion (λ node. node.declared ≡ []) p.nodes) where
+  events_before : (f n : ℕ) (items : List Item) (entries : List Entry) → f < n → HaveRun p n items entries → events_by f entries ≡ []
+  events_before f n [] entries lt run = ap (events_by f) run
+  events_before f n (item ∷ items) entries lt (events, rest, is_flow, split, run) =
+      ap (events_by f) split ∙ by_other f n events rest (λ (e : n ≡ f). omega (arith, e, lt)) ∙ events_before f (suc n) items rest (omega (arith, lt)) run
 
-events_at : (join : Join) (f n i : ℕ) (items : List Item) (item : Item) → slice_get items i ≡ Some item → f ≡ n + i → events_by f (flows_of join n items) ≡ item_path join item
-events_at join f n i [] item at is = absurd cc
-events_at join f n zero (first ∷ items) item at is =
-    let one : first ≡ item = cc in
-    let own : eqb n f ≡ true = grind (arith, nat_tests) in
-    rw (own, events_before join f (suc n) items (omega (arith, is))) (ap (item_path join) one)
-events_at join f n (suc i) (first ∷ items) item at is =
-    let other : eqb n f ≡ false = ne_eqb n f (λ (e : n ≡ f). omega (arith, e, is)) in
-    rw other (events_at join f (suc n) i items item at (omega (arith, is)))
+  -- an item's flow has its events
+  record Has (f : ℕ) (item : Item) (entries : List Entry) : Type 0 where
+    events : List Event
+    is_flow : IsFlow p item events
+    are : events_by f entries ≡ events
 
-flows_within : (join : Join) (bound n : ℕ) (items : List Item) → n + length items ≤ bound → AllByRecursion (λ (entry : Entry). entry.flow.0 < bound) (flows_of join n items)
-flows_within join bound n [] le = tt
-flows_within join bound n (item ∷ items) le =
-    let lt : n < bound = omega arith in
-    (lt, (lt, (lt, (lt, flows_within join bound (suc n) items (omega arith)))))
+  events_at : (f n i : ℕ) (items : List Item) (entries : List Entry) (item : Item) → slice_get items i ≡ Some item → f ≡ n + i → HaveRun p n items entries → Has f item entries
+  events_at f n i [] entries item at is run = absurd cc
+  events_at f n zero (first ∷ items) entries item at is (events, rest, is_flow, split, run) =
+      let one : first ≡ item = cc in
+      let same : n ≡ f = omega (arith, is) in
+      record {
+        events = events;
+        is_flow = subst (λ (x : Item). IsFlow p x events) one is_flow;
+        are = ap (events_by f) (split ∙ ap (λ (m : ℕ). entries_of m events ++ rest) same) ∙ by_own f events rest
+            ∙ ap (λ (l : List Event). events ++ l) (events_before f (suc n) items rest (omega (arith, same)) run) ∙ append-nil events;
+      }
+  events_at f n (suc i) (first ∷ items) entries item at is (events, rest, is_flow, split, run) =
+      let h = events_at f (suc n) i items rest item at (omega (arith, is)) run in
+      record { events = h.events; is_flow = h.is_flow; are = ap (events_by f) split ∙ by_other f n events rest (λ (e : n ≡ f). omega (arith, e, is)) ∙ h.are }
 
--- ---- what the flows are
+  -- ---- all entries
 
-module _ (names : List (List ℕ)) (join : Join) (target : List ℕ)
-    (node : slice_get (nodes_of names) join.target.0 ≡ Some (node_of target)) (library : library_node (library_name target) ≡ Some join.to) where
-  abbrev program : Program
-  program = built names join
+  of_flow : (P : Event → Type 0) (flow : ℕ) (events : List Event) → AllByRecursion P events → AllByRecursion (λ (entry : Entry). P entry.event) (entries_of flow events)
+  of_flow P flow [] all = tt
+  of_flow P flow (e ∷ events) all = (all.0, of_flow P flow events all.1)
 
-  walked : (kinds : List Kind) (item : Item) (answer : Answer) → IsItem kinds item → flow_events program item (answer ∷ []) ≡ path join.target item.values answer
-  walked kinds item answer is =
-      let first : item.source.0 ≡ 0 = ap (λ s. s.0) is.source in
-      let depth = next_of (length (nodes_of names)) (omega (arith, slice_get_within (nodes_of names) join.target.0 (node_of target) node)) in
-      rw (first, depth.1, node, outcome_is answer.result []) refl
-
-  finished : (kinds : List Kind) (item : Item) (answer : Answer) → IsItem kinds item → IsFinished program item (answer ∷ [])
-  finished kinds item answer is =
-      let first : item.source.0 ≡ 0 = ap (λ s. s.0) is.source in
-      let depth = next_of (length (nodes_of names)) (omega (arith, slice_get_within (nodes_of names) join.target.0 (node_of target) node)) in
-      rw (first, depth.1, node) tt
-
-  are_walks : (kinds : List Kind) (n : ℕ) (items : List Item) → AllByRecursion (IsItem kinds) items → AreWalks program n items (flows_of join n items)
-  are_walks kinds n [] all = refl
-  are_walks kinds n (item ∷ items) all =
-      let answer = answer_of join.to item.values in (
-        answer ∷ [],
-        flows_of join (suc n) items,
-        finished kinds item answer all.0,
-        ap (λ (es : List Event). entries_of n es ++ flows_of join (suc n) items) (sym (walked kinds item answer all.0)),
-        are_walks kinds (suc n) items all.1,
-      )
-
-  are_right : (n : ℕ) (items : List Item) → AllByRecursion (λ (entry : Entry). IsRight answering program entry.event) (flows_of join n items)
-  are_right n [] = tt
-  are_right n (item ∷ items) = (tt, (rw (node, library) refl, (tt, (tt, are_right (suc n) items))))
-
-  whole : (kinds : List Kind) (items : List Item) (journal : Journal) → AllByRecursion (IsItem kinds) items → journal.entries ≡ flows_of join 0 items → IsWhole program items journal
-  whole kinds items journal all is = record {
-    paths = λ flow item at.
-        let events : events_by flow journal.entries ≡ item_path join item = ap (events_by flow) is ∙ events_at join flow 0 flow items item at (omega arith) in
-        let one = all_at (IsItem kinds) items flow item at all in
-        let answer = answer_of join.to item.values in
-        record {
-          finished = rw events (finished kinds item answer one);
-          all = rw events (sym (walked kinds item answer one));
-        };
-    flows = rw is (flows_within join (length items) 0 items (omega arith));
-  }
-
-  -- the walks take no locks
-  takes_none : (kinds : List Kind) (item : Item) (answers : List Answer) → IsItem kinds item → AllByRecursion IsNoTake (flow_events program item answers)
-  takes_none kinds item [] is =
-      let first : item.source.0 ≡ 0 = ap (λ s. s.0) is.source in
-      let depth = next_of (length (nodes_of names)) (omega (arith, slice_get_within (nodes_of names) join.target.0 (node_of target) node)) in
-      rw (first, depth.1, node) (tt, tt)
-  takes_none kinds item (answer ∷ answers) is =
-      let first : item.source.0 ≡ 0 = ap (λ s. s.0) is.source in
-      let depth = next_of (length (nodes_of names)) (omega (arith, slice_get_within (nodes_of names) join.target.0 (node_of target) node)) in
-      rw (first, depth.1, node) (tt, (tt, (tt, (tt, tt))))
-
-  flows_take_none : (n : ℕ) (items : List Item) → AllByRecursion (λ (entry : Entry). IsNoTake entry.event) (flows_of join n items)
-  flows_take_none n [] = tt
-  flows_take_none n (item ∷ items) = (tt, (tt, (tt, (tt, flows_take_none (suc n) items))))
-
-  nothing_declared : (number : NodeNo) (hold : Hold) → IsDeclared program number hold → ⊥
-  nothing_declared number hold is = unlocked names number.0 is.0 hold is.1
+  flows_within : (bound n : ℕ) (items : List Item) (entries : List Entry) → n + length items ≤ bound → HaveRun p n items entries → AllByRecursion (λ (entry : Entry). entry.flow.0 < bound) entries
+  flows_within bound n [] entries le run = rw run tt
+  flows_within bound n (item ∷ items) entries le (events, rest, is_flow, split, run) =
+      rw split (all_both (λ (entry : Entry). entry.flow.0 < bound) (entries_of n events) rest (each events) (flows_within bound (suc n) items rest (omega (arith, le)) run))
     where
-      unlocked : (names : List (List ℕ)) (k place : ℕ) (hold : Hold) → slice_get (declared_on (slice_get (nodes_of names) k)) place ≡ Some hold → ⊥
-      unlocked [] k place hold e = absurd cc
-      unlocked (name ∷ names) zero place hold e = absurd cc
-      unlocked (name ∷ names) (suc k) place hold e = unlocked names k place hold e
+      each : (es : List Event) → AllByRecursion (λ (entry : Entry). entry.flow.0 < bound) (entries_of n es)
+      each [] = tt
+      each (e ∷ es) = (omega (arith, le), each es)
 
-  excludes : (items : List Item) (entries : List Entry) → entries ≡ flows_of join 0 items → Excludes program items entries
-  excludes items entries is = record {
-    takes = λ before flow key mode stands other apart. absurd (inside_all (λ (entry : Entry). IsNoTake entry.event) before _ stands.0 (subst (AllByRecursion (λ (entry : Entry). IsNoTake entry.event)) stands.1 (rw is (flows_take_none 0 items))));
+  all_right : (n : ℕ) (items : List Item) (entries : List Entry) → HaveRun p n items entries → AllByRecursion (λ (entry : Entry). IsRight answering p entry.event) entries
+  all_right n [] entries run = rw run tt
+  all_right n (item ∷ items) entries (events, rest, is_flow, split, run) =
+      rw split (all_both (λ (entry : Entry). IsRight answering p entry.event) (entries_of n events) rest (of_flow (IsRight answering p) n events is_flow.right) (all_right (suc n) items rest run))
+
+  flow_quiet : (item : Item) (events : List Event) → IsFlow p item events → AreQuiet events
+  flow_quiet item events f = let w = f.walk in subst AreQuiet (sym w.all) (quiet_flow p free item (flat_map answer_in events))
+
+  all_quiet : (n : ℕ) (items : List Item) (entries : List Entry) → HaveRun p n items entries → AllByRecursion (λ (entry : Entry). IsQuiet entry.event) entries
+  all_quiet n [] entries run = rw run tt
+  all_quiet n (item ∷ items) entries (events, rest, is_flow, split, run) =
+      rw split (all_both (λ (entry : Entry). IsQuiet entry.event) (entries_of n events) rest (of_flow IsQuiet n events (flow_quiet item events is_flow)) (all_quiet (suc n) items rest run))
+
+  -- ---- what the journal is
+
+  pub walks : (n : ℕ) (items : List Item) (entries : List Entry) → HaveRun p n items entries → AreWalks p n items entries
+  walks n [] entries run = run
+  walks n (item ∷ items) entries (events, rest, is_flow, split, run) = (events, rest, is_flow.walk, split, walks (suc n) items rest run)
+
+  no_waits : (events : List Event) → AreQuiet events → flat_map unless_wait events ≡ events
+  no_waits [] q = refl
+  no_waits (Take key mode ∷ events) q = absurd q.0
+  no_waits (Wait key mode ∷ events) q = absurd q.0
+  no_waits (Enter node ∷ events) q = ap (λ (l : List Event). Enter node ∷ l) (no_waits events q.1)
+  no_waits (Choose place ∷ events) q = ap (λ (l : List Event). Choose place ∷ l) (no_waits events q.1)
+  no_waits (Call made ∷ events) q = ap (λ (l : List Event). Call made ∷ l) (no_waits events q.1)
+  no_waits (Exit node outcome ∷ events) q = ap (λ (l : List Event). Exit node outcome ∷ l) (no_waits events q.1)
+  no_waits (Drop key ∷ events) q = ap (λ (l : List Event). Drop key ∷ l) (no_waits events q.1)
+  no_waits (End outcome ∷ events) q = ap (λ (l : List Event). End outcome ∷ l) (no_waits events q.1)
+
+  pub whole : (items : List Item) (journal : Journal) → HaveRun p 0 items journal.entries → IsWhole p items journal
+  whole items journal run = record {
+    paths = λ flow item at. path flow item (events_at flow 0 flow items journal.entries item at (omega arith) run);
+    flows = flows_within (length items) 0 items journal.entries (omega arith) run;
+  }
+    where
+      path : (flow : ℕ) (item : Item) → Has flow item journal.entries → IsWholePath p item journal flow
+      path flow item h =
+          let w = h.is_flow.walk in
+          let told : own_answers journal flow ≡ flat_map answer_in h.events = ap (flat_map answer_in) h.are in
+          record {
+            finished = subst (IsFinished p item) (sym told) w.finished;
+            all = ap (flat_map unless_wait) h.are ∙ no_waits h.events (flow_quiet item h.events h.is_flow) ∙ w.all ∙ ap (flow_events p item) (sym told);
+          }
+
+  pub right : (items : List Item) (journal : Journal) → HaveRun p 0 items journal.entries → AreAnswersRight answering p journal
+  right items journal run = all_right 0 items journal.entries run
+
+  nothing_declared : (number : NodeNo) (hold : Hold) → IsDeclared p number hold → ⊥
+  nothing_declared number hold is = unlocked p.nodes free number.0 is.0 is.1
+    where
+      none : (node : Node) (place : ℕ) → node.declared ≡ [] → slice_get node.declared place ≡ Some hold → ⊥
+      none node place is at = let h : ◌≡◌ {A = Option Hold} None (Some hold) = sym (ap (λ (l : List Hold). slice_get l place) is) ∙ at in absurd cc
+
+      unlocked : (nodes : List Node) → AllByRecursion (λ node. node.declared ≡ []) nodes → (k place : ℕ) → slice_get (declared_on (slice_get nodes k)) place ≡ Some hold → ⊥
+      unlocked [] all k place e = absurd cc
+      unlocked (node ∷ nodes) all zero place e = none node place all.0 e
+      unlocked (node ∷ nodes) all (suc k) place e = unlocked nodes all.1 k place e
+
+  pub excludes : (items : List Item) (entries : List Entry) → HaveRun p 0 items entries → Excludes p items entries
+  excludes items entries run = record {
+    takes = λ before flow key mode stands other apart. absurd (inside_all (λ (entry : Entry). IsQuiet entry.event) before _ stands.0 (subst (AllByRecursion (λ (entry : Entry). IsQuiet entry.event)) stands.1 (all_quiet 0 items entries run)));
     sections = λ before flow number stands other apart place inside at own their declared. absurd (nothing_declared number own declared);
   }
 
-  never_waits : (kinds : List Kind) (items : List Item) (entries : List Entry) (flow other : ℕ) → AllByRecursion (IsItem kinds) items → WaitsFor program items entries flow other → ⊥
-  never_waits kinds items entries flow other all w =
-      let one = all_at (IsItem kinds) items flow w.item w.is_item all in
+  never_waits : (items : List Item) (entries : List Entry) (flow other : ℕ) → WaitsFor p items entries flow other → ⊥
+  never_waits items entries flow other w =
       let journal : Journal = record { entries = entries } in
-      inside_all IsNoTake (own_events journal flow) (Take w.key w.mode) w.next.0 (subst (AllByRecursion IsNoTake) w.next.1 (takes_none kinds w.item (own_answers journal flow) one))
+      inside_all IsQuiet (own_events journal flow) (Take w.key w.mode) w.next.0 (subst AreQuiet w.next.1 (quiet_flow p free w.item (own_answers journal flow)))
 
-  free_of_cycles : (kinds : List Kind) (items : List Item) (entries : List Entry) → AllByRecursion (IsItem kinds) items → IsFreeOfCycles program items entries
-  free_of_cycles kinds items entries all before after split flow [] chain = never_waits kinds items before flow flow all chain
-  free_of_cycles kinds items entries all before after split flow (next ∷ flows) chain = never_waits kinds items before flow next all chain.0
-
--- all that a journal of the flows is, in the program of the declarations
-pub record AreFlows (kinds : List Kind) (items : List Item) (p : Program) (journal : Journal) : Type 0 where
-  pub walks : AreWalks p 0 items journal.entries
-  pub whole : IsWhole p items journal
-  pub right : AreAnswersRight answering p journal
-  pub excludes : Excludes p items journal.entries
-  pub waits : IsFreeOfCycles p items journal.entries
-
-pub are_flows : (kinds : List Kind) (ds : List Decl) (join : Join) (items : List Item) (p : Program) (journal : Journal)
-    → p ≡ program_of ds → IsJoin (names_of ds) (lines_of ds) join → AllByRecursion (IsItem kinds) items → journal.entries ≡ flows_of join 0 items → AreFlows kinds items p journal
-are_flows kinds ds join items p journal is j all made =
-    let names = names_of ds in
-    let target = j.joined.line.target in
-    let node : slice_get (nodes_of names) join.target.0 ≡ Some (node_of target) = ap (slice_get (nodes_of names)) j.target ∙ named_place target names j.joined.target.named in
-    let library = j.joined.target.library in
-    subst (λ (q : Program). AreFlows kinds items q journal) (built_is ds join j ∙ sym is) (record {
-      walks = rw made (are_walks names join target node library kinds 0 items all);
-      whole = whole names join target node library kinds items journal all made;
-      right = rw made (are_right names join target node library 0 items);
-      excludes = excludes names join target node library items journal.entries made;
-      waits = free_of_cycles names join target node library kinds items journal.entries all;
-    })
+  pub free_of_cycles : (items : List Item) (entries : List Entry) → IsFreeOfCycles p items entries
+  free_of_cycles items entries before after split flow [] chain = never_waits items before flow flow chain
+  free_of_cycles items entries before after split flow (next ∷ flows) chain = never_waits items before flow next chain.0

@@ -37,17 +37,6 @@ so_far_all before after count later bytes rest s none =
     let all : bytes ≡ s.done = s.split ∙ ap (λ (l : List ℕ). s.done ++ l) (nil_from_length rest none) ∙ append-nil s.done in
     rw all s.gains
 
-pub so_far_part : (before mid after : Option (List ℕ)) (count m : ℕ) (bytes rest : List ℕ) → SoFar before mid count m bytes rest → Gained mid after [] → GainedPart before after bytes
-so_far_part before mid after count m bytes rest s none = record {
-  front = s.done ++ [];
-  rest = rest;
-  is = rw (append-nil s.done) s.split;
-  gained = gained_twice before mid after s.done [] s.gains none;
-}
-
-pub rose_later : (before mid after : ℕ) → before ≤ mid → Rose mid after → Rose before after
-rose_later before mid after le rose = omega (arith, le, rose)
-
 -- all of the bytes were written, or a front of them and the count rose
 pub all_or_part : {X Y : Type 0} (before after : Option (List ℕ)) (count later : ℕ) (bytes : List ℕ) (result : Result X Y)
     → OnOk result (Gained before after bytes) → OnErr result (GainedPart before after bytes) → OnErr result (Rose count later) → GainedOrFailed before after count later bytes

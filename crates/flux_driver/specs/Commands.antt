@@ -4,9 +4,9 @@ use Rattle.std.specs.Fmt.{decimal}
 use Rattle.flux_outside.specs.Stores.{file_of, FitsIn}
 use Rattle.flux_outside.specs.declared.stores.File.{File}
 use Rattle.flux_outside.specs.declared.stores.File.TheVariants.{Found, Missing, Longer}
-use Rattle.flux_faults.specs.declared.faults.FaultKind.{FaultKind}
-use Rattle.flux_faults.specs.declared.faults.FaultKind.TheVariants.{NotBuilt}
+use Rattle.flux_faults.specs.declared.faults.StaticFault.{StaticFault}
 use Rattle.flux_faults.specs.Faults.{printed_fault}
+use Rattle.flux_library.specs.Basics.{basic_kind, basic_sig}
 use Rattle.flux_syntax.specs.declared.declarations.Decl.{Decl}
 use Rattle.flux_syntax.specs.Declares.{Declares}
 use Rattle.flux_syntax.specs.Unexpected.{IsFaulty}
@@ -22,9 +22,10 @@ use Rattle.flux_model.specs.Waits.{IsFreeOfCycles}
 use Rattle.flux_model.specs.Texts.{printed_journal}
 use Rattle.flux_driver.specs.declared.statuses.Status.{Status}
 use Rattle.flux_driver.specs.declared.statuses.Status.TheVariants as statuses
-use Rattle.flux_driver.specs.ProgramOfText.{program_of}
-use Rattle.flux_driver.specs.FirstForm.{IsFirstForm}
-use Rattle.flux_driver.specs.Library.{outs_of, answering}
+use Rattle.flux_model.specs.Soundness.{NodeKinds, node_kinds}
+use Rattle.flux_types.specs.Signatures.{sig_of}
+use Rattle.flux_check.specs.Judgement.{program_of, AreSound, IsTextFault}
+use Rattle.flux_driver.specs.Runs.{answering}
 use Rattle.flux_driver.specs.Items.{AreItemsOf, IsItemFault}
 
 -- ---- words
@@ -34,13 +35,15 @@ abbrev pub IsName : List ℕ → Type 0
 IsName [] = ⊥
 IsName (b ∷ name) = b ≡ 45 → ⊥
 
--- `run FILE ITEMS` and `format FILE`
+-- `check FILE`, `run FILE ITEMS` and `format FILE`
 pub data Command : Type 0 where
+  check : List ℕ → Command
   run : List ℕ → List ℕ → Command
   format : List ℕ → Command
 
 -- the words are this command
 abbrev pub Asks : List (List ℕ) → Command → Type 0
+Asks words (check file) = (words ≡ codes "check" ∷ file ∷ []) × IsName file
 Asks words (run file items) = (words ≡ codes "run" ∷ file ∷ items ∷ []) × IsName file × IsName items
 Asks words (format file) = (words ≡ codes "format" ∷ file ∷ []) × IsName file
 
@@ -50,6 +53,7 @@ AsksNothing words = (command : Command) → Asks words command → ⊥
 
 -- the program's file
 abbrev pub program_file : Command → List ℕ
+program_file (check file) = file
 program_file (run file items) = file
 program_file (format file) = file
 
@@ -74,19 +78,21 @@ pub record HasDecls (told : Files) (file : List ℕ) (decls : List Decl) : Type 
   pub gives : Gives told file 2097152 (Found text)
   pub declared : Declares decls text
 
--- and is of the first form, with this program
-pub record HasProgram (told : Files) (file : List ℕ) (p : Program) : Type 0 where
-  pub decls : List Decl
+-- and they are sound for the library
+pub record HasProgram (told : Files) (file : List ℕ) (decls : List Decl) : Type 0 where
   pub has : HasDecls told file decls
-  pub form : IsFirstForm decls
-  pub is : p ≡ program_of decls
+  pub sound : AreSound basic_kind basic_sig decls
 
 -- and the items file is there too, of at most 16,777,216 bytes
 pub record HasItems (told : Files) (file items : List ℕ) : Type 0 where
-  pub program : Program
-  pub source : HasProgram told file program
+  pub decls : List Decl
+  pub source : HasProgram told file decls
   pub text : List ℕ
   pub gives : Gives told items 16777216 (Found text)
+
+-- what the nodes of sound declarations take and give
+abbrev pub kinds_in : List Decl → ℕ → NodeKinds
+kinds_in decls number = node_kinds (sig_of basic_kind decls number)
 
 -- ---- what is printed
 
@@ -103,13 +109,14 @@ pub record IsRunOf (p : Program) (items : List Item) (journal : Journal) : Type 
 pub record IsJournalText (told : Files) (file items text : List ℕ) : Type 0 where
   pub has : HasItems told file items
   pub items_are : List Item
-  pub are_items : AreItemsOf has.program (outs_of has.source.form.from) items_are has.text
+  pub are_items : AreItemsOf (program_of has.decls) (kinds_in has.decls) items_are has.text
   pub journal : Journal
-  pub is_run : IsRunOf has.program items_are journal
-  pub printed : text ≡ printed_journal has.program journal
+  pub is_run : IsRunOf (program_of has.decls) items_are journal
+  pub printed : text ≡ printed_journal (program_of has.decls) journal
 
--- `run` prints a journal, and `format` the formatted text of the declarations
+-- `check` prints `ok`, `run` a journal, and `format` the formatted text of the declarations
 abbrev pub IsPrinted : Command → Files → List ℕ → Type 0
+IsPrinted (check file) told text = (decls : List Decl) × HasProgram told file decls × (text ≡ codes "ok\n")
 IsPrinted (run file items) told text = IsJournalText told file items text
 IsPrinted (format file) told text = (decls : List Decl) × HasDecls told file decls × (text ≡ formatted decls)
 
@@ -118,8 +125,8 @@ IsPrinted (format file) told text = (decls : List Decl) × HasDecls told file de
 abbrev pub usage_line : List ℕ
 usage_line = codes "flux: bad command line, try flux --help\n"
 
-abbrev pub fault_text : List ℕ → FaultKind → ℕ → List ℕ
-fault_text text kind at = printed_fault text (record { kind = kind; at = at; path = [] }) ++ codes "\n"
+abbrev pub fault_text : List ℕ → StaticFault → List ℕ
+fault_text text fault = printed_fault text fault ++ codes "\n"
 
 abbrev pub item_fault_line : ℕ → List ℕ
 item_fault_line n = codes "line " ++ decimal n ++ codes ": item fault 0 NotBuilt\n"
@@ -135,37 +142,39 @@ lost_line name = codes "flux: missing or too long: " ++ name ++ codes "\n"
 
 -- ---- their causes
 
--- `run` wants declarations of the first form: others are not built
-abbrev pub IsNotBuilt : Command → List ℕ → FaultKind → ℕ → Type 0
-IsNotBuilt (run file items) text kind at = (kind ≡ NotBuilt) × (at ≡ 0) × (decls : List Decl) × Declares decls text × (IsFirstForm decls → ⊥)
-IsNotBuilt (format file) text kind at = ⊥
+-- the fault of a program's text that a command looks for: `format` looks for faults 1 to 4 alone
+abbrev pub IsStaticOf : Command → List ℕ → StaticFault → Type 0
+IsStaticOf (check file) text fault = IsTextFault basic_kind basic_sig text fault
+IsStaticOf (run file items) text fault = IsTextFault basic_kind basic_sig text fault
+IsStaticOf (format file) text fault = IsFaulty fault.kind fault.at text × (fault.path ≡ [])
 
--- the program's text has a fault: one of 1 to 4, or it is not built
+-- the program's text has a fault
 pub record IsStatic (command : Command) (told : Files) (line : List ℕ) : Type 0 where
   pub text : List ℕ
   pub gives : Gives told (program_file command) 2097152 (Found text)
-  pub kind : FaultKind
-  pub at : ℕ
-  pub fault : IsFaulty kind at text ⊎ IsNotBuilt command text kind at
-  pub said : line ≡ fault_text text kind at
+  pub fault : StaticFault
+  pub stands : IsStaticOf command text fault
+  pub said : line ≡ fault_text text fault
 
 -- the items text has a fault
 pub record IsItemsText (told : Files) (file items line : List ℕ) : Type 0 where
   pub has : HasItems told file items
   pub place : ℕ
-  pub fault : IsItemFault has.program (outs_of has.source.form.from) place has.text
+  pub fault : IsItemFault (program_of has.decls) (kinds_in has.decls) place has.text
   pub said : line ≡ item_fault_line place
 
 abbrev pub IsItems : Command → Files → List ℕ → Type 0
+IsItems (check file) told line = ⊥
 IsItems (run file items) told line = IsItemsText told file items line
 IsItems (format file) told line = ⊥
 
--- the items file of a program that can be run isn't there
+-- the items file of a sound program isn't there
 abbrev pub AreItemsLost : Command → Files → List ℕ → Type 0
-AreItemsLost (run file items) told name = (name ≡ items) × IsLost told items 16777216 × (p : Program) × HasProgram told file p
+AreItemsLost (check file) told name = ⊥
+AreItemsLost (run file items) told name = (name ≡ items) × IsLost told items 16777216 × (decls : List Decl) × HasProgram told file decls
 AreItemsLost (format file) told name = ⊥
 
--- the program's file isn't there, or the items file of a program that can be run
+-- the program's file isn't there, or the items file of a sound program
 pub record IsMissing (command : Command) (told : Files) (line : List ℕ) : Type 0 where
   pub name : List ℕ
   pub lost : ((name ≡ program_file command) × IsLost told (program_file command) 2097152) ⊎ AreItemsLost command told name

@@ -1,14 +1,16 @@
--- The items text: printed items of the one source, each on a line.
-use Rattle.std.specs.Prelude.{◌≡◌, ℕ, ◌+◌, ◌<◌, ◌≤◌, ◌⊎◌, List, [], ◌∷◌, ◌++◌, length, map, take, codes}
-use Rattle.std.specs.List.{AllByRecursion, flat_map}
+-- The items text: printed items of the sources, each on a line.
+use Rattle.std.specs.Prelude.{◌≡◌, ◌==◌, false, ℕ, Option, Some, None, ◌+◌, ◌<◌, ◌≤◌, ◌⊎◌, List, [], ◌∷◌, ◌++◌, length, map, take, codes}
+use Rattle.std.specs.List.{AllByRecursion, flat_map, slice_get}
 use Rattle.flux_values.specs.Values.{kind_of}
 use Rattle.flux_values.specs.Texts.{printed_value}
 use Rattle.flux_values.specs.Reading.{IsValue}
 use Rattle.flux_values.specs.declared.values.Kind.{Kind}
 use Rattle.flux_values.specs.declared.values.Value.{Value}
 use Rattle.flux_model.specs.declared.programs.Program.{Program}
+use Rattle.flux_model.specs.declared.programs.SourceLine.{SourceLine}
 use Rattle.flux_model.specs.declared.journals.Item.{Item}
-use Rattle.flux_model.specs.Texts.{comma_separated, printed_values, printed_item}
+use Rattle.flux_model.specs.Soundness.{NodeKinds}
+use Rattle.flux_model.specs.Texts.{comma_separated, printed_values, printed_item, source_name}
 use Rattle.flux_driver.specs.declared.items.ItemsRead.{ItemsRead}
 use Rattle.flux_driver.specs.declared.items.ItemsRead.TheVariants.{Items, Fault}
 
@@ -17,38 +19,41 @@ pub record AreValues (kinds : List Kind) (values : List Value) : Type 0 where
   pub have : map kind_of values ≡ kinds
   pub each : AllByRecursion IsValue values
 
--- an item of the one source
-pub record IsItem (kinds : List Kind) (item : Item) : Type 0 where
-  pub source : item.source ≡ record { 0 = 0 }
-  pub values : AreValues kinds item.values
+-- an item of a source has values of the kinds that its source gives
+abbrev pub IsItemOf : (ℕ → NodeKinds) → Option SourceLine → List Value → Type 0
+IsItemOf kinds None values = ⊥
+IsItemOf kinds (Some line) values = let from = kinds line.node.0 in AreValues from.outs values
+
+abbrev pub IsItemFor : Program → (ℕ → NodeKinds) → Item → Type 0
+IsItemFor p kinds item = IsItemOf kinds (slice_get p.sources item.source.0) item.values
 
 -- a printed item, ended by LF
 abbrev pub item_line : Program → Item → List ℕ
 item_line p item = printed_item p item ++ codes "\n"
 
 -- the text is these items, at most 64
-pub record AreItemsOf (p : Program) (kinds : List Kind) (items : List Item) (text : List ℕ) : Type 0 where
+pub record AreItemsOf (p : Program) (kinds : ℕ → NodeKinds) (items : List Item) (text : List ℕ) : Type 0 where
   pub lines : text ≡ flat_map (item_line p) items
-  pub each : AllByRecursion (IsItem kinds) items
+  pub each : AllByRecursion (IsItemFor p kinds) items
   pub few : length items ≤ 64
 
--- no printed item of the source, ended by LF, begins the text
-abbrev pub BeginsNoItem : Program → List Kind → List ℕ → Type 0
-BeginsNoItem p kinds text = (item : Item) (rest : List ℕ) → IsItem kinds item → text ≡ item_line p item ++ rest → ⊥
+-- no printed item of a source, ended by LF, begins the text
+abbrev pub BeginsNoItem : Program → (ℕ → NodeKinds) → List ℕ → Type 0
+BeginsNoItem p kinds text = (item : Item) (rest : List ℕ) → IsItemFor p kinds item → text ≡ item_line p item ++ rest → ⊥
 
 -- line n is the first that isn't a printed item ended by LF, or it is the 65th
-pub record IsItemFault (p : Program) (kinds : List Kind) (n : ℕ) (text : List ℕ) : Type 0 where
+pub record IsItemFault (p : Program) (kinds : ℕ → NodeKinds) (n : ℕ) (text : List ℕ) : Type 0 where
   pub items : List Item
   pub rest : List ℕ
   pub lines : text ≡ flat_map (item_line p) items ++ rest
-  pub each : AllByRecursion (IsItem kinds) items
+  pub each : AllByRecursion (IsItemFor p kinds) items
   pub some : 0 < length rest
   pub place : length items + 1 ≡ n
   pub limit : n ≤ 65
   pub cause : (n ≡ 65) ⊎ BeginsNoItem p kinds rest
 
 -- what is read of an items text
-abbrev pub IsItemsRead : Program → List Kind → List ℕ → ItemsRead → Type 0
+abbrev pub IsItemsRead : Program → (ℕ → NodeKinds) → List ℕ → ItemsRead → Type 0
 IsItemsRead p kinds text (Items items) = AreItemsOf p kinds items text
 IsItemsRead p kinds text (Fault line) = IsItemFault p kinds line text
 
@@ -84,3 +89,22 @@ pub record IsLine (name : List ℕ) (kinds : List Kind) (text : List ℕ) (read 
   pub values : AreValues kinds read.0
   pub within : read.1 ≤ length text
   pub spelled : take read.1 text ≡ line_of name read.0
+
+-- the line of an item begins the text
+pub record IsItemLine (p : Program) (kinds : ℕ → NodeKinds) (text : List ℕ) (read : Item × ℕ) : Type 0 where
+  pub item : IsItemFor p kinds read.0
+  pub within : read.1 ≤ length text
+  pub spelled : take read.1 text ≡ item_line p read.0
+
+-- ---- the names of sources
+
+-- a source with a name
+pub record IsNamed (p : Program) (name : List ℕ) (place : ℕ) : Type 0 where
+  pub line : SourceLine
+  pub at : slice_get p.sources place ≡ Some line
+  pub named : source_name p (Some line) ≡ name
+
+-- each source has a name of its own, without a blank
+pub record AreNamedSources (p : Program) : Type 0 where
+  pub clean : (place : ℕ) (line : SourceLine) → slice_get p.sources place ≡ Some line → AllByRecursion (λ b. (b == 32) ≡ false) (source_name p (Some line))
+  pub apart : (name : List ℕ) (a b : ℕ) → IsNamed p name a → IsNamed p name b → a ≡ b

@@ -1,9 +1,5 @@
-pub mod Library
-pub mod ProgramOfText
-pub mod FirstForm
-pub mod Reading
 pub mod Runs
-pub mod Joins
+pub mod Running
 pub mod Items
 pub mod Statuses
 pub mod Commands

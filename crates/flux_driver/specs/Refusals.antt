@@ -5,7 +5,9 @@ use Rattle.flux_driver.specs.declared.statuses.Status.{Status}
 use Rattle.flux_driver.specs.declared.statuses.Status.TheVariants as statuses
 use Rattle.flux_driver.specs.declared.refusals.Refusal.{Refusal}
 use Rattle.flux_driver.specs.declared.refusals.Refusal.TheVariants.{Usage, Static, Items, Read, Missing, Memory}
-use Rattle.flux_faults.specs.declared.faults.FaultKind.{FaultKind}
+use Rattle.flux_faults.specs.declared.faults.StaticFault.{StaticFault}
+use Rattle.flux_library.specs.Basics.{basic_kind, basic_sig}
+use Rattle.flux_check.specs.Judgement.{IsTextFault}
 use Rattle.flux_syntax.specs.Unexpected.{IsFaulty}
 use Rattle.flux_driver.specs.Commands.{usage_line, fault_text, item_fault_line, read_line, lost_line, Command, Files, IsLost, Decided, Happened}
 
@@ -38,12 +40,21 @@ IsUnread told name max before after (Items place) = ⊥
 
 -- a text was refused: it has one of the faults 1 to 4, or there was no memory
 abbrev pub IsTextRefused : List ℕ → Refusal → Type 0
-IsTextRefused text (Static line) = (kind : FaultKind) × (at : ℕ) × IsFaulty kind at text × (line ≡ fault_text text kind at)
+IsTextRefused text (Static line) = (fault : StaticFault) × IsFaulty fault.kind fault.at text × (fault.path ≡ []) × (line ≡ fault_text text fault)
 IsTextRefused text Memory = Unit {0}
 IsTextRefused text Usage = ⊥
 IsTextRefused text (Items place) = ⊥
 IsTextRefused text Read = ⊥
 IsTextRefused text (Missing name) = ⊥
+
+-- a text was refused: it has a fault, or there was no memory
+abbrev pub IsCheckRefused : List ℕ → Refusal → Type 0
+IsCheckRefused text (Static line) = (fault : StaticFault) × IsTextFault basic_kind basic_sig text fault × (line ≡ fault_text text fault)
+IsCheckRefused text Memory = Unit {0}
+IsCheckRefused text Usage = ⊥
+IsCheckRefused text (Items place) = ⊥
+IsCheckRefused text Read = ⊥
+IsCheckRefused text (Missing name) = ⊥
 
 -- the line about a fault, or there was no memory
 abbrev pub IsLineOrMemory : List ℕ → Refusal → Type 0

@@ -1,34 +1,97 @@
--- What the flows of items do in a program of the first form: one call of the target each, one flow after the other.
-use Rattle.std.specs.Prelude.{ℕ, suc, List, [], ◌∷◌, ◌++◌}
+-- What a flow has still to do, and what each step of it does.
+use Rattle.std.specs.Prelude.{ℕ, List, [], ◌∷◌, ◌++◌, Option, Some, None, ⊤}
 use Rattle.flux_values.specs.declared.values.Value.{Value}
-use Rattle.flux_values.specs.declared.answers.Answer.{Answer}
 use Rattle.flux_values.specs.declared.answers.CallResult.{CallResult}
 use Rattle.flux_values.specs.declared.answers.CallResult.TheVariants as results
+use Rattle.flux_library.specs.Basics.{basic_sig, basic_call}
+use Rattle.flux_library.specs.Libraries.{IsCallable}
 use Rattle.flux_model.specs.declared.programs.NodeNo.{NodeNo}
+use Rattle.flux_model.specs.declared.programs.Node.{Node}
+use Rattle.flux_model.specs.declared.programs.Case.{Case}
+use Rattle.flux_model.specs.declared.programs.Body.{Body}
+use Rattle.flux_model.specs.declared.programs.Body.TheVariants.{Concrete, Abstract}
+use Rattle.flux_model.specs.declared.programs.SourceLine.{SourceLine}
 use Rattle.flux_model.specs.declared.journals.Outcome.{Outcome}
-use Rattle.flux_model.specs.declared.journals.Outcome.TheVariants as outcomes
+use Rattle.flux_model.specs.declared.journals.Outcome.TheVariants.{Good, Over, Bad}
 use Rattle.flux_model.specs.declared.journals.Event.{Event}
-use Rattle.flux_model.specs.declared.journals.Event.TheVariants.{Enter, Call, Exit, End}
-use Rattle.flux_model.specs.declared.journals.Entry.{Entry}
+use Rattle.flux_model.specs.declared.journals.Event.TheVariants.{Enter, Choose, Call, Exit}
 use Rattle.flux_model.specs.declared.journals.Item.{Item}
-use Rattle.flux_model.specs.Serial.{entries_of}
-use Rattle.flux_driver.specs.declared.forms.Join.{Join}
-use Rattle.flux_driver.specs.Library.{answer_of}
+use Rattle.flux_model.specs.Answers.{Answering}
+use Rattle.flux_driver.specs.declared.running.Task.{Task}
+use Rattle.flux_driver.specs.declared.running.Task.TheVariants.{Visit, Leave}
+use Rattle.flux_driver.specs.declared.running.Progress.{Progress}
 
--- how a call's answer ends its flow
+-- the answers of the library's nodes, which use no cells
+abbrev pub answering : Answering
+answering name args = basic_call name args []
+
+-- how a call's answer ends its node
 abbrev pub outcome_of : CallResult → Outcome
-outcome_of (results.Good values) = outcomes.Good
-outcome_of (results.Bad code) = outcomes.Bad code
+outcome_of (results.Good values) = Good
+outcome_of (results.Bad code) = Bad code
 
--- a flow that calls one node
-abbrev pub path : NodeNo → List Value → Answer → List Event
-path target args answer =
-    Enter target ∷ Call (record { node = target; args = args; answer = answer }) ∷ Exit target (outcome_of answer.result) ∷ End (outcome_of answer.result) ∷ []
+abbrev pub values_of : CallResult → List Value
+values_of (results.Good values) = values
+values_of (results.Bad code) = []
 
-abbrev pub item_path : Join → Item → List Event
-item_path join item = path join.target item.values (answer_of join.to item.values)
+-- visits of members: the first is to be made first, so it stands last
+abbrev pub visits_back : List NodeNo → List Task
+visits_back [] = []
+visits_back (node ∷ nodes) = visits_back nodes ++ Visit node ∷ []
 
--- the flows of items, numbered from a flow on
-abbrev pub flows_of : Join → ℕ → List Item → List Entry
-flows_of join flow [] = []
-flows_of join flow (item ∷ items) = entries_of flow (item_path join item) ++ flows_of join (suc flow) items
+-- ---- a node is visited where all went well so far: a concrete node is called, and an abstract one entered
+
+abbrev pub called : List ℕ → List Value → NodeNo → List Event
+called name args node =
+    let answer = answering name args in
+    Enter node ∷ Call (record { node = node; args = args; answer = answer }) ∷ Exit node (outcome_of answer.result) ∷ []
+
+abbrev pub case_events : NodeNo → List Case → List Event
+case_events node [] = Enter node ∷ Exit node (Bad 256) ∷ []
+case_events node (case ∷ cases) = Enter node ∷ Choose 1 ∷ []
+
+abbrev pub body_events : NodeNo → List Value → Body → List Event
+body_events node values (Concrete name) = called name values node
+body_events node values (Abstract cases) = case_events node cases
+
+abbrev pub good_events : NodeNo → List Value → Body → Outcome → List Event
+good_events node values body Good = body_events node values body
+good_events node values body Over = []
+good_events node values body (Bad code) = []
+
+abbrev pub visit_events : Progress → NodeNo → Option Node → List Event
+visit_events s node None = []
+visit_events s node (Some found) = good_events node s.values found.body s.outcome
+
+abbrev pub case_progress : Progress → NodeNo → List Case → Progress
+case_progress s node [] = record { tasks = s.tasks; outcome = Bad 256; values = [] }
+case_progress s node (case ∷ cases) = record { tasks = (s.tasks ++ Leave node ∷ []) ++ visits_back case.members; outcome = s.outcome; values = s.values }
+
+abbrev pub body_progress : Progress → NodeNo → Body → Progress
+body_progress s node (Concrete name) = let answer = answering name s.values in record { tasks = s.tasks; outcome = outcome_of answer.result; values = values_of answer.result }
+body_progress s node (Abstract cases) = case_progress s node cases
+
+abbrev pub good_progress : Progress → NodeNo → Body → Outcome → Progress
+good_progress s node body Good = body_progress s node body
+good_progress s node body Over = s
+good_progress s node body (Bad code) = s
+
+abbrev pub visit_progress : Progress → NodeNo → Option Node → Progress
+visit_progress s node None = s
+visit_progress s node (Some found) = good_progress s node found.body s.outcome
+
+-- the node can be called on the values, if it is to be
+abbrev pub IsReadyBody : Body → List Value → Type 0
+IsReadyBody (Concrete name) values = IsCallable (basic_sig name) values []
+IsReadyBody (Abstract cases) values = ⊤
+
+abbrev pub IsReadyFor : Outcome → List Value → Option Node → Type 0
+IsReadyFor outcome values None = ⊤
+IsReadyFor Good values (Some node) = IsReadyBody node.body values
+IsReadyFor Over values (Some node) = ⊤
+IsReadyFor (Bad code) values (Some node) = ⊤
+
+-- a flow begins with a visit of its source's target
+abbrev pub begun : Item → Option SourceLine → Progress
+begun item None = record { tasks = []; outcome = Good; values = item.values }
+begun item (Some line) = record { tasks = Visit line.target ∷ []; outcome = Good; values = item.values }

@@ -1,46 +1,42 @@
 -- What the steps of `run` give.
-use Rattle.std.specs.Prelude.{◌≡◌, ℕ, Bool, true, false, List, Option, Some, None, Result, Ok, Err}
+use Rattle.std.specs.Prelude.{◌≡◌, ℕ, List, Result, Ok, Err}
 use Rattle.flux_model.specs.declared.journals.Item.{Item}
 use Rattle.flux_model.specs.declared.journals.Journal.{Journal}
 use Rattle.flux_model.specs.Texts.{printed_journal}
-use Rattle.flux_driver.specs.declared.declarations.Declared.{Declared}
-use Rattle.flux_driver.specs.declared.forms.Ready.{Ready}
+use Rattle.flux_model.specs.declared.programs.Program.{Program}
+use Rattle.flux_model.specs.declared.signatures.NodeSig.{NodeSig}
+use Rattle.flux_model.specs.Soundness.{kinds_at}
 use Rattle.flux_driver.specs.declared.refusals.Refusal.{Refusal}
 use Rattle.flux_driver.specs.declared.refusals.Refusal.TheVariants.{Usage, Static, Items, Read, Missing, Memory}
 use Rattle.flux_driver.specs.declared.statuses.Status.{Status}
 use Rattle.flux_driver.specs.declared.statuses.Status.TheVariants as statuses
 use Rattle.flux_driver.specs.declared.commands.Asked.{Asked}
-use Rattle.flux_driver.specs.declared.commands.Asked.TheVariants.{Run, Format}
-use Rattle.flux_driver.specs.Commands.{Command, run, format, Files, IsItems, IsPrinted}
+use Rattle.flux_driver.specs.declared.commands.Asked.TheVariants.{Check, Run, Format}
+use Rattle.flux_driver.specs.Commands.{Command, check, run, format, Files, IsItems, IsPrinted}
 use Rattle.flux_driver.specs.Refusals.{status_of}
-use Rattle.flux_driver.specs.Library.{outs_of}
 use Rattle.flux_driver.specs.Items.{AreItemsOf, IsItemFault}
-use Rattle.flux_driver.specs.Runs.{flows_of}
+use Rattle.flux_driver.specs.Running.{HaveRun}
 
 -- the journal of an items text is printed
-pub record IsWritten (ready : Ready) (items_text printed : List ℕ) : Type 0 where
+pub record IsWritten (program : Program) (sigs : List NodeSig) (items_text printed : List ℕ) : Type 0 where
   pub items : List Item
-  pub are_items : AreItemsOf ready.program (outs_of ready.join.from) items items_text
+  pub are_items : AreItemsOf program (kinds_at sigs) items items_text
   pub journal : Journal
-  pub flows : journal.entries ≡ flows_of ready.join 0 items
-  pub is : printed ≡ printed_journal ready.program journal
+  pub run : HaveRun program 0 items journal.entries
+  pub is : printed ≡ printed_journal program journal
 
 -- an items text is refused: it has a fault, or there was no memory
-abbrev pub AreRefused : Ready → List ℕ → Refusal → Type 0
-AreRefused ready items_text (Items place) = IsItemFault ready.program (outs_of ready.join.from) place items_text
-AreRefused ready items_text Memory = Unit {0}
-AreRefused ready items_text Usage = ⊥
-AreRefused ready items_text (Static line) = ⊥
-AreRefused ready items_text Read = ⊥
-AreRefused ready items_text (Missing name) = ⊥
-
--- whether a declaration was added, and what there is then
-abbrev pub IsAdded : Bool → Declared → Option Declared → Type 0
-IsAdded true now added = added ≡ Some now
-IsAdded false now added = added ≡ None
+abbrev pub AreRefused : Program → List NodeSig → List ℕ → Refusal → Type 0
+AreRefused program sigs items_text (Items place) = IsItemFault program (kinds_at sigs) place items_text
+AreRefused program sigs items_text Memory = Unit {0}
+AreRefused program sigs items_text Usage = ⊥
+AreRefused program sigs items_text (Static line) = ⊥
+AreRefused program sigs items_text Read = ⊥
+AreRefused program sigs items_text (Missing name) = ⊥
 
 -- the command that was asked for
 abbrev pub asked : Asked → Command
+asked (Check file) = check file.now
 asked (Run file items) = run file.now items.now
 asked (Format file) = format file.now
 

@@ -2,28 +2,32 @@
 
 ghost use Rattle.std.specs.Prelude.{◌≡◌, ◌≤◌, ◌<◌, ◌↔◌, ◌⊎◌, ◌++◌, [], ◌∷◌, List, ℕ, IsTrue, IfOk, IfErr, IfSome, IfNone, Some, length, codes};
 ghost use Rattle.flux_faults.specs.Faults.{printed_fault};
-ghost use Rattle.flux_faults.specs.declared.faults.FaultKind.TheVariants as kinds;
+ghost use Rattle.flux_library.specs.Basics.{basic_kind, basic_sig};
+ghost use Rattle.flux_check.specs.Judgement.{IsChecked};
+ghost use Rattle.flux_model.specs.Soundness.{kinds_at};
 ghost use Rattle.flux_syntax.specs.Declares.{Declares};
 ghost use Rattle.flux_model.specs.declared.journals.Item.{Item};
 ghost use Rattle.flux_outside.specs.Causes.{Rose};
 ghost use Rattle.flux_outside.specs.declared.stores.File.TheVariants as files;
 ghost use Rattle.flux_driver.specs.declared.statuses.Status.TheVariants as statuses;
 ghost use Rattle.flux_driver.specs.declared.refusals.Refusal.TheVariants as refusals;
-ghost use Rattle.flux_driver.specs.Library.{ins_of, outs_of};
-ghost use Rattle.flux_driver.specs.Items.{AreItemsOf, IsItemFault};
-ghost use Rattle.flux_driver.specs.Commands.{IsName, Command, run, format, Asks, AsksNothing, Gives, IsPrinted, IsDue, IsAnswer, fault_text, write_line};
-ghost use Rattle.flux_driver.specs.Refusals.{status_of, line_of, IsUnread, IsTextRefused, IsLineOrMemory, IsRefused};
+ghost use Rattle.flux_driver.specs.Items.{AreItemsOf, IsItemFault, AreNamedSources};
+ghost use Rattle.flux_driver.specs.Running.{CanRun};
+ghost use Rattle.flux_driver.specs.Commands.{IsName, Command, check, run, format, Asks, AsksNothing, Gives, IsPrinted, IsDue, IsAnswer, fault_text, write_line};
+ghost use Rattle.flux_driver.specs.Refusals.{status_of, line_of, IsUnread, IsTextRefused, IsCheckRefused, IsLineOrMemory, IsRefused};
 ghost use Rattle.flux_driver.specs.Steps.{asked, IsWritten, AreRefused, prepared_status, IsFirm};
 ghost use Rattle.flux_driver.specs.Writing.{Gained, Failed, GainedOrFailed};
 
-use crate::forms::{Ready, read_program};
 use crate::items::{ItemsRead, read_items};
 use crate::printing::print_journal;
 use crate::refusals::Refusal;
 use crate::running::run;
 use crate::statuses::Status;
 use crate::writing::write_all;
-use flux_faults::{CheckFault, FaultKind, StaticFault, fault_line};
+use flux_check::check;
+use flux_faults::{CheckFault, StaticFault, fault_line};
+use flux_hoist::Checked;
+use flux_library::Basic;
 use flux_outside::{File, Sink, Store, StoreFault};
 use flux_syntax::{Decl, format, read};
 use flux_values::{Bytes, List, Memory};
@@ -38,6 +42,7 @@ const ITEMS_FILE_LIMIT: usize = 16_777_216;
 /// What the words ask for, with the names of files.
 #[derive(Clone, Copy, Debug)]
 pub enum Asked<'a> {
+    Check { file: &'a [u8] },
     Run { file: &'a [u8], items: &'a [u8] },
     Format { file: &'a [u8] },
 }
@@ -63,11 +68,15 @@ fn read_run<'a>(command: &[u8], file: &'a [u8], items: &'a [u8]) -> Option<Asked
     }
 }
 
-fn read_format<'a>(command: &[u8], file: &'a [u8]) -> Option<Asked<'a>>
+fn read_one<'a>(command: &[u8], file: &'a [u8]) -> Option<Asked<'a>>
     ensures found { IfSome result (λ a. Asks (command.now ∷ file.now ∷ []) (asked a)) }
     ensures none { IfNone result (AsksNothing (command.now ∷ file.now ∷ [])) }
 {
-    if command == b"format".as_slice() && is_name(file) {
+    if !is_name(file) {
+        None
+    } else if command == b"check".as_slice() {
+        Some(Asked::Check { file })
+    } else if command == b"format".as_slice() {
         Some(Asked::Format { file })
     } else {
         None
@@ -80,7 +89,7 @@ fn read_words(words: &[Bytes]) -> Option<Asked>
     ensures none { IfNone result (AsksNothing words.now) }
 {
     match words {
-        [command, file] => read_format(command.as_bytes(), file.as_bytes()),
+        [command, file] => read_one(command.as_bytes(), file.as_bytes()),
         [command, file, items] => {
             read_run(command.as_bytes(), file.as_bytes(), items.as_bytes())
         }
@@ -143,32 +152,60 @@ fn read_text<'a>(alloc: Global, text: &[u8]) -> Result<List<Decl>, Refusal<'a>>
     }
 }
 
-/// The refusal of a text that isn't of the first form.
-fn not_built<'a>(alloc: Global, text: &[u8]) -> Refusal<'a>
-    ensures { IsLineOrMemory (fault_text text.now kinds.NotBuilt 0) result }
+/// The checked program of a text.
+fn check_text<'a>(alloc: Global, text: &[u8]) -> Result<Checked, Refusal<'a>>
+    ensures checked { IfOk result (λ checked. IsChecked basic_kind basic_sig text.now checked.program checked.sigs.nodes checked.order.nodes checked.sizes) }
+    ensures refused { IfErr result (IsCheckRefused text.now) }
 {
-    let fault = StaticFault {
-        kind: FaultKind::NotBuilt,
-        at: 0,
-        path: List::new(alloc),
-    };
-    refuse_text(alloc, text, &fault)
+    match check(alloc, text, &Basic) {
+        Ok(checked) => Ok(checked),
+        Err(CheckFault::Static(fault)) => Err(refuse_text(alloc, text, &fault)),
+        Err(CheckFault::Memory) => Err(Refusal::Memory),
+    }
 }
 
 /// The printed journal of an items text's flows.
-fn carry_out<'a>(alloc: Global, ready: &Ready, text: &[u8]) -> Result<Bytes, Refusal<'a>>
-    requires { outs_of ready.now.join.from ≡ ins_of ready.now.join.to }
-    ensures printed { IfOk result (IsWritten ready.now text.now) }
-    ensures refused { IfErr result (AreRefused ready.now text.now) }
-    ensures items { (items : List Item) → AreItemsOf ready.now.program (outs_of ready.now.join.from) items text.now → IfErr result (λ refusal. refusal ≡ refusals.Memory) }
-    ensures fault { (place : ℕ) → IsItemFault ready.now.program (outs_of ready.now.join.from) place text.now → IfOk result (λ _. ⊥) }
+fn carry_out<'a>(alloc: Global, checked: &Checked, text: &[u8]) -> Result<Bytes, Refusal<'a>>
+    requires can { CanRun checked.now.program (kinds_at checked.now.sigs.nodes) }
+    requires named { AreNamedSources checked.now.program }
+    ensures printed { IfOk result (IsWritten checked.now.program checked.now.sigs.nodes text.now) }
+    ensures refused { IfErr result (AreRefused checked.now.program checked.now.sigs.nodes text.now) }
+    ensures items { (items : List Item) → AreItemsOf checked.now.program (kinds_at checked.now.sigs.nodes) items text.now → IfErr result (λ refusal. refusal ≡ refusals.Memory) }
+    ensures fault { (place : ℕ) → IsItemFault checked.now.program (kinds_at checked.now.sigs.nodes) place text.now → IfOk result (λ _. ⊥) }
 {
-    match read_items(alloc, &ready.program, ready.join.from.outs(), text)? {
+    match read_items(alloc, checked, text)? {
         ItemsRead::Fault(place) => Err(Refusal::Items(place)),
         ItemsRead::Items(items) => {
-            let journal = run(alloc, ready.join, items.as_slice())?;
-            Ok(print_journal(alloc, &ready.program, &journal)?)
+            let journal = run(alloc, checked, items.as_slice())?;
+            Ok(print_journal(alloc, &checked.program, &journal)?)
         }
+    }
+}
+
+/// What `check` prints.
+fn prepare_check<'a, S: Store>(
+    alloc: Global,
+    file: &'a [u8],
+    store: &mut S,
+) -> Result<Bytes, Refusal<'a>>
+    ensures kept { S.files store.new ≡ S.files store.old }
+    ensures later { S.faults store.old ≤ S.faults store.new }
+    ensures done { IfOk result (IsPrinted (check file.now) (S.files store.old)) }
+    ensures refused { IfErr result (IsRefused (check file.now) (S.files store.old)) }
+    ensures read { IfErr result (λ refusal. status_of refusal ≡ statuses.Read → Rose (S.faults store.old) (S.faults store.new)) }
+    ensures firm { IfSome (S.files store.old) (λ told. IsFirm (check file.now) (Some told) (prepared_status result)) }
+{
+    let text = match load(alloc, store, file, PROGRAM_FILE_LIMIT) {
+        Ok(text) => text,
+        Err(refusal) => return Err(refusal),
+    };
+    match check_text(alloc, text.as_bytes()) {
+        Ok(_) => {}
+        Err(refusal) => return Err(refusal),
+    }
+    match Bytes::copy(alloc, b"ok\n") {
+        Ok(text) => Ok(text),
+        Err(_) => Err(Refusal::Memory),
     }
 }
 
@@ -190,20 +227,15 @@ fn prepare_run<'a, S: Store>(
         Ok(text) => text,
         Err(refusal) => return Err(refusal),
     };
-    let decls = match read_text(alloc, text.as_bytes()) {
-        Ok(decls) => decls,
+    let checked = match check_text(alloc, text.as_bytes()) {
+        Ok(checked) => checked,
         Err(refusal) => return Err(refusal),
-    };
-    let ready = match read_program(alloc, decls.as_slice()) {
-        Ok(Some(ready)) => ready,
-        Ok(None) => return Err(not_built(alloc, text.as_bytes())),
-        Err(_) => return Err(Refusal::Memory),
     };
     let items_text = match load(alloc, store, items, ITEMS_FILE_LIMIT) {
         Ok(text) => text,
         Err(refusal) => return Err(refusal),
     };
-    carry_out(alloc, &ready, items_text.as_bytes())
+    carry_out(alloc, &checked, items_text.as_bytes())
 }
 
 /// The text that `format` prints.
@@ -247,6 +279,7 @@ pub fn prepare<'a, S: Store>(
     ensures firm { IfSome (S.files store.old) (λ told. (command : Command) → Asks words.now command → IsFirm command (Some told) (prepared_status result)) }
 {
     match read_words(words) {
+        Some(Asked::Check { file }) => prepare_check(alloc, file, store),
         Some(Asked::Run { file, items }) => prepare_run(alloc, file, items, store),
         Some(Asked::Format { file }) => prepare_format(alloc, file, store),
         None => Err(Refusal::Usage),

@@ -1,15 +1,18 @@
-//! The items text, read line by line. For now each line is a printed item of the one source.
+//! The items text, read line by line. For now each line is a printed item of one of the sources.
 
-ghost use Rattle.std.specs.Prelude.{◌≡◌, ◌+◌, ◌≤◌, ◌++◌, List, ℕ, IfOk, IfSome, IfNone, Some, length, codes, slice_get};
+ghost use Rattle.std.specs.Prelude.{◌≡◌, ◌==◌, ◌+◌, ◌≤◌, ◌++◌, List, ℕ, IfOk, IfSome, IfNone, Some, length, codes, slice_get};
+ghost use Rattle.std.specs.List.{position_or_len, before_first};
 ghost use Rattle.flux_values.specs.declared.values.Value.{Value};
 ghost use Rattle.flux_values.specs.Values.{kind_of};
 ghost use Rattle.flux_values.specs.Texts.{printed_value};
 ghost use Rattle.flux_values.specs.Reading.{IsValue, EndsBefore};
 ghost use Rattle.flux_model.specs.declared.journals.Item.{Item};
 ghost use Rattle.flux_model.specs.Texts.{source_name};
-ghost use Rattle.flux_driver.specs.Items.{IsNext, IsClosed, IsLine, AreValues, closed, separator, line_of, IsItemsRead, AreItemsOf, IsItemFault};
+ghost use Rattle.flux_driver.specs.Items.{IsNext, IsClosed, IsLine, AreValues, closed, separator, line_of, item_line, IsItemOf, IsItemFor, IsItemLine, IsItemsRead, AreItemsOf, IsItemFault, IsNamed, AreNamedSources};
+ghost use Rattle.flux_model.specs.Soundness.{kinds_of, kinds_at};
 
-use flux_model::{Item, Program, SourceNo};
+use flux_hoist::Checked;
+use flux_model::{Item, NodeNo, NodeSig, Program, SourceLine, SourceNo, TypeText};
 use flux_values::{Kind, List, Memory, Value, ValueFault, read_value};
 use std::alloc::Global;
 
@@ -19,19 +22,6 @@ pub enum ItemsRead {
     Items(List<Item>),
     /// The first line that is no item that can be read, from 1.
     Fault(u64),
-}
-
-/// The name of the program's first source; empty where there is none.
-fn source_name(program: &Program) -> &[u8]
-    ensures { result.now ≡ source_name program.now (slice_get program.now.sources 0) }
-{
-    match program.sources.as_slice() {
-        [line, ..] => match program.nodes.as_slice().get(line.node.0 as usize) {
-            Some(node) => node.name.as_bytes(),
-            None => b"",
-        },
-        [] => b"",
-    }
 }
 
 /// What follows a mark at the front.
@@ -133,30 +123,124 @@ fn read_line(
     }
 }
 
-/// The items of a text, at most 64, or the first line that is none.
-pub fn read_items(
-    alloc: Global,
-    program: &Program,
-    kinds: &[Kind],
-    text: &[u8],
-) -> Result<ItemsRead, Memory>
-    ensures read { IfOk result (IsItemsRead program.now kinds.now text.now) }
-    ensures items { (items : List Item) → AreItemsOf program.now kinds.now items text.now → IfOk result (λ read. read ≡ ItemsRead.Items items) }
-    ensures fault { (line : ℕ) → IsItemFault program.now kinds.now line text.now → IfOk result (λ read. read ≡ ItemsRead.Fault line) }
+/// How many bytes stand before the first space.
+fn name_length(text: &[u8]) -> usize
+    ensures value { result ≡ position_or_len (λ b. b == 32) text.now }
+    ensures within { result ≤ length text.now }
 {
-    let name = source_name(program);
+    text.iter().take_while(|byte| **byte != b' ').count()
+}
+
+/// What stands before the first space.
+fn front_name(text: &[u8]) -> &[u8]
+    ensures { result.now ≡ before_first (λ b. b == 32) text.now }
+{
+    &text[..name_length(text)]
+}
+
+/// The name that a source line has.
+fn source_name<'a>(program: &'a Program, line: &SourceLine) -> &'a [u8]
+    ensures { result.now ≡ source_name program.now (Some line.now) }
+{
+    match program.nodes.as_slice().get(line.node.0 as usize) {
+        Some(node) => node.name.as_bytes(),
+        None => b"",
+    }
+}
+
+/// The source with a name.
+fn find_source(program: &Program, name: &[u8]) -> Option<usize>
+    ensures found { IfSome result (λ place. IsNamed program.now name.now place) }
+    ensures none { IfNone result ((place : ℕ) → IsNamed program.now name.now place → ⊥) }
+{
+    let lines = program.sources.as_slice();
+    for (place, line) in lines.iter().enumerate() {
+        if source_name(program, line) == name {
+            return Some(place);
+        }
+    }
+    None
+}
+
+fn kinds_of(alloc: Global, types: &[TypeText]) -> Result<List<Kind>, Memory>
+    ensures { IfOk result (λ kinds. kinds ≡ kinds_of types.now) }
+{
+    let mut kinds = List::new(alloc);
+    let mut rest = types;
+    while let [ty, others @ ..] = rest {
+        if kinds.push(ty.kind).is_err() {
+            return Err(Memory);
+        }
+        rest = others;
+    }
+    Ok(kinds)
+}
+
+/// The kinds of what a node gives.
+fn outs_of(alloc: Global, sigs: &[NodeSig], node: NodeNo) -> Result<List<Kind>, Memory>
+    ensures { IfOk result (λ kinds. let from = kinds_at sigs.now node.0 in kinds ≡ from.outs) }
+{
+    match sigs.get(node.0 as usize) {
+        Some(sig) => kinds_of(alloc, sig.outs.as_slice()),
+        None => Ok(List::new(alloc)),
+    }
+}
+
+/// The item of the source at a place whose line begins a text, and how many bytes it is.
+fn read_item_of(
+    alloc: Global,
+    checked: &Checked,
+    place: usize,
+    name: &[u8],
+    text: &[u8],
+) -> Result<Option<(Item, usize)>, Memory>
+    requires { IsNamed checked.now.program name.now place }
+    ensures found { IfOk result (λ read. IfSome read (IsItemLine checked.now.program (kinds_at checked.now.sigs.nodes) text.now)) }
+    ensures only { (values : List Value) (rest : List ℕ) → IsItemOf (kinds_at checked.now.sigs.nodes) (slice_get checked.now.program.sources place) values → text.now ≡ line_of name.now values ++ rest
+        → IfOk result (λ read. read ≡ Some (record { source = record { 0 = place }; values = values }, length (line_of name.now values))) }
+{
+    let Some(line) = checked.program.sources.as_slice().get(place) else {
+        unreachable!()
+    };
+    let kinds = outs_of(alloc, checked.sigs.nodes.as_slice(), line.node)?;
+    match read_line(alloc, name, kinds.as_slice(), text)? {
+        Some((values, length)) => {
+            let source = SourceNo(place as u32);
+            Ok(Some((Item { source, values }, length)))
+        }
+        None => Ok(None),
+    }
+}
+
+/// The item whose line begins a text, and how many bytes it is.
+fn read_item(alloc: Global, checked: &Checked, text: &[u8]) -> Result<Option<(Item, usize)>, Memory>
+    requires { AreNamedSources checked.now.program }
+    ensures found { IfOk result (λ read. IfSome read (IsItemLine checked.now.program (kinds_at checked.now.sigs.nodes) text.now)) }
+    ensures only { (item : Item) (rest : List ℕ) → IsItemFor checked.now.program (kinds_at checked.now.sigs.nodes) item → text.now ≡ item_line checked.now.program item ++ rest
+        → IfOk result (λ read. read ≡ Some (item, length (item_line checked.now.program item))) }
+{
+    let name = front_name(text);
+    match find_source(&checked.program, name) {
+        Some(place) => read_item_of(alloc, checked, place, name, text),
+        None => Ok(None),
+    }
+}
+
+/// The items of a text, at most 64, or the first line that is none.
+pub fn read_items(alloc: Global, checked: &Checked, text: &[u8]) -> Result<ItemsRead, Memory>
+    requires { AreNamedSources checked.now.program }
+    ensures read { IfOk result (IsItemsRead checked.now.program (kinds_at checked.now.sigs.nodes) text.now) }
+    ensures items { (items : List Item) → AreItemsOf checked.now.program (kinds_at checked.now.sigs.nodes) items text.now → IfOk result (λ read. read ≡ ItemsRead.Items items) }
+    ensures fault { (line : ℕ) → IsItemFault checked.now.program (kinds_at checked.now.sigs.nodes) line text.now → IfOk result (λ read. read ≡ ItemsRead.Fault line) }
+{
     let mut items = List::new(alloc);
     let mut rest = text;
     for line in 1..65 {
         if rest.is_empty() {
             return Ok(ItemsRead::Items(items));
         }
-        match read_line(alloc, name, kinds, rest)? {
-            Some((values, length)) => {
-                let item = Item {
-                    source: SourceNo(0),
-                    values,
-                };
+        match read_item(alloc, checked, rest)? {
+            Some((item, length)) => {
                 if items.push(item).is_err() {
                     return Err(Memory);
                 }

@@ -5,10 +5,7 @@
 #![tactic(auto)]
 
 mod commands;
-mod declarations;
-mod forms;
 mod items;
-mod library;
 mod outermost;
 mod printing;
 mod refusals;

@@ -1,54 +1,39 @@
-//! The flows of items, run one after the other.
+//! The flows of items, run one after the other. What a flow has still to do stands on a list, so nested flows take no
+//! room of the machine's stack.
 
-ghost use Rattle.std.specs.Prelude.{◌≡◌, ◌++◌, [], ◌∷◌, ◌≤◌, IfOk, OnOk, length, map};
+ghost use Rattle.std.specs.Prelude.{◌≡◌, ◌++◌, [], ◌∷◌, ◌≤◌, IfOk, OnOk, Some, length, slice_get};
 ghost use Rattle.std.specs.List.{AllByRecursion};
-ghost use Rattle.flux_values.specs.Values.{kind_of};
-ghost use Rattle.flux_model.specs.Serial.{entries_of};
-ghost use Rattle.flux_driver.specs.Library.{ins_of};
-ghost use Rattle.flux_driver.specs.Items.{IsItem};
-ghost use Rattle.flux_driver.specs.Runs.{outcome_of, item_path, flows_of};
+ghost use Rattle.flux_library.specs.Basics.{basic_sig};
+ghost use Rattle.flux_library.specs.Libraries.{IsCallable};
+ghost use Rattle.flux_model.specs.declared.journals.Event.TheVariants.{Enter, Call, Exit};
+ghost use Rattle.flux_model.specs.Serial.{AreWalks, IsWalkOf, entries_of};
+ghost use Rattle.flux_model.specs.Soundness.{kinds_at};
+ghost use Rattle.flux_driver.specs.Items.{IsItemFor};
+ghost use Rattle.flux_driver.specs.Running.{CanRun, HasRun, HaveRun};
+ghost use Rattle.flux_driver.specs.Runs.{outcome_of, values_of, visits_back, called, case_events, case_progress, body_events, body_progress, visit_events, visit_progress, IsReadyBody, IsReadyFor, begun, answering};
 
-use crate::forms::Join;
-use flux_model::{CallMade, CallResult, Entry, Event, FlowNo, Item, Journal, Outcome};
+use flux_hoist::Checked;
+use flux_library::{Basic, Library};
+use flux_model::{
+    Body, CallMade, CallResult, Case, Entry, Event, FlowNo, Item, Journal, Node, NodeNo, Outcome,
+    Program,
+};
 use flux_values::{List, Memory, Value};
 use std::alloc::Global;
 
-/// The journal of the items' flows through the nodes that a source line joins.
-pub fn run(alloc: Global, join: Join, items: &[Item]) -> Result<Journal, Memory>
-    requires values { AllByRecursion (IsItem (ins_of join.to)) items.now }
-    requires few { length items.now ≤ 64 }
-    ensures { IfOk result (λ journal. journal.entries ≡ flows_of join 0 items.now) }
-{
-    let mut entries = List::new(alloc);
-    for (flow, item) in items.iter().enumerate() {
-        run_item(alloc, join, FlowNo(flow as u32), item, &mut entries)?;
-    }
-    Ok(Journal { entries })
+/// What a flow has still to do.
+#[derive(Clone, Copy, Debug)]
+pub enum Task {
+    Visit(NodeNo),
+    Leave(NodeNo),
 }
 
-/// Runs an item's flow: one call of the target.
-fn run_item(
-    alloc: Global,
-    join: Join,
-    flow: FlowNo,
-    item: &Item,
-    entries: &mut List<Entry>,
-) -> Result<(), Memory>
-    requires { map kind_of item.now.values ≡ ins_of join.to }
-    ensures { OnOk result (entries.new ≡ entries.old ++ entries_of flow.0 (item_path join item.now)) }
-{
-    let target = join.target;
-    let answer = join.to.call(alloc, item.values.as_slice())?;
-    let outcome = outcome_of(&answer.result);
-    let made = CallMade {
-        node: target,
-        args: copy_values(alloc, item.values.as_slice())?,
-        answer,
-    };
-    record_event(entries, flow, Event::Enter(target))?;
-    record_event(entries, flow, Event::Call(made))?;
-    record_event(entries, flow, Event::Exit(target, outcome))?;
-    record_event(entries, flow, Event::End(outcome))
+/// How far a flow is: what it has still to do, the next thing last; how it stands; and its values.
+#[derive(Drop)]
+struct Progress {
+    tasks: List<Task>,
+    outcome: Outcome,
+    values: List<Value>,
 }
 
 fn outcome_of(answered: &CallResult) -> Outcome
@@ -60,12 +45,12 @@ fn outcome_of(answered: &CallResult) -> Outcome
     }
 }
 
-fn record_event(entries: &mut List<Entry>, flow: FlowNo, event: Event) -> Result<(), Memory>
-    ensures { OnOk result (entries.new ≡ entries.old ++ record { flow = flow; event = event } ∷ []) }
+fn values_of(alloc: Global, answered: &CallResult) -> Result<List<Value>, Memory>
+    ensures { IfOk result (λ values. values ≡ values_of answered.now) }
 {
-    match entries.push(Entry { flow, event }) {
-        Ok(()) => Ok(()),
-        Err(_) => Err(Memory),
+    match answered {
+        CallResult::Good(values) => copy_values(alloc, values.as_slice()),
+        CallResult::Bad(_) => Ok(List::new(alloc)),
     }
 }
 
@@ -79,4 +64,218 @@ fn copy_values(alloc: Global, values: &[Value]) -> Result<List<Value>, Memory>
         }
     }
     Ok(copies)
+}
+
+/// Adds an event of a flow.
+fn record_event(entries: &mut List<Entry>, flow: FlowNo, event: Event) -> Result<(), Memory>
+    ensures { OnOk result (entries.new ≡ entries.old ++ record { flow = flow; event = event } ∷ []) }
+{
+    match entries.push(Entry { flow, event }) {
+        Ok(()) => Ok(()),
+        Err(_) => Err(Memory),
+    }
+}
+
+/// Adds the events of a concrete node.
+fn record_call(
+    entries: &mut List<Entry>,
+    flow: FlowNo,
+    made: CallMade,
+    outcome: Outcome,
+) -> Result<(), Memory>
+    ensures { OnOk result (entries.new ≡ entries.old ++ entries_of flow.0 (Enter made.node ∷ Call made ∷ Exit made.node outcome ∷ [])) }
+{
+    let node = made.node;
+    record_event(entries, flow, Event::Enter(node))?;
+    record_event(entries, flow, Event::Call(made))?;
+    record_event(entries, flow, Event::Exit(node, outcome))
+}
+
+fn add_task(tasks: &mut List<Task>, task: Task) -> Result<(), Memory>
+    ensures { OnOk result (tasks.new ≡ tasks.old ++ task ∷ []) }
+{
+    match tasks.push(task) {
+        Ok(()) => Ok(()),
+        Err(_) => Err(Memory),
+    }
+}
+
+/// Adds visits of members, so that the first is made first.
+fn add_visits(tasks: &mut List<Task>, members: &[NodeNo]) -> Result<(), Memory>
+    ensures { OnOk result (tasks.new ≡ tasks.old ++ visits_back members.now) }
+{
+    let mut place = members.len();
+    while place > 0 {
+        place -= 1;
+        add_task(tasks, Task::Visit(members[place]))?;
+    }
+    Ok(())
+}
+
+impl Progress {
+    /// Calls a concrete node.
+    fn call(
+        &mut self,
+        alloc: Global,
+        flow: FlowNo,
+        node: NodeNo,
+        name: &[u8],
+        entries: &mut List<Entry>,
+    ) -> Result<(), Memory>
+        requires { IsCallable (basic_sig name.now) self.old.values [] }
+        ensures entries { OnOk result (entries.new ≡ entries.old ++ entries_of flow.0 (called name.now self.old.values node)) }
+        ensures progress { OnOk result (self.new ≡ (let answer = answering name.now self.old.values in record { tasks = self.old.tasks; outcome = outcome_of answer.result; values = values_of answer.result })) }
+    {
+        let answer = Basic.call(alloc, name, self.values.as_slice(), &[])?;
+        let outcome = outcome_of(&answer.result);
+        let values = values_of(alloc, &answer.result)?;
+        let made = CallMade {
+            node,
+            args: copy_values(alloc, self.values.as_slice())?,
+            answer,
+        };
+        record_call(entries, flow, made, outcome)?;
+        self.outcome = outcome;
+        self.values = values;
+        Ok(())
+    }
+
+    /// Enters an abstract node: its first case is chosen, since no form with patterns is built yet.
+    fn choose(
+        &mut self,
+        alloc: Global,
+        flow: FlowNo,
+        node: NodeNo,
+        cases: &[Case],
+        entries: &mut List<Entry>,
+    ) -> Result<(), Memory>
+        ensures entries { OnOk result (entries.new ≡ entries.old ++ entries_of flow.0 (case_events node cases.now)) }
+        ensures progress { OnOk result (self.new ≡ case_progress self.old node cases.now) }
+    {
+        record_event(entries, flow, Event::Enter(node))?;
+        match cases {
+            [case, ..] => {
+                record_event(entries, flow, Event::Choose(1))?;
+                add_task(&mut self.tasks, Task::Leave(node))?;
+                add_visits(&mut self.tasks, case.members.as_slice())
+            }
+            [] => {
+                record_event(entries, flow, Event::Exit(node, Outcome::Bad(256)))?;
+                self.outcome = Outcome::Bad(256);
+                self.values = List::new(alloc);
+                Ok(())
+            }
+        }
+    }
+
+    fn enter(
+        &mut self,
+        alloc: Global,
+        flow: FlowNo,
+        node: NodeNo,
+        body: &Body,
+        entries: &mut List<Entry>,
+    ) -> Result<(), Memory>
+        requires { IsReadyBody body.now self.old.values }
+        ensures entries { OnOk result (entries.new ≡ entries.old ++ entries_of flow.0 (body_events node self.old.values body.now)) }
+        ensures progress { OnOk result (self.new ≡ body_progress self.old node body.now) }
+    {
+        match body {
+            Body::Concrete(name) => self.call(alloc, flow, node, name.as_bytes(), entries),
+            Body::Abstract(cases) => self.choose(alloc, flow, node, cases.as_slice(), entries),
+        }
+    }
+
+    /// Enters a node, where all went well so far; otherwise it is passed over.
+    fn pass(
+        &mut self,
+        alloc: Global,
+        flow: FlowNo,
+        node: NodeNo,
+        found: &Node,
+        entries: &mut List<Entry>,
+    ) -> Result<(), Memory>
+        requires { IsReadyFor self.old.outcome self.old.values (Some found.now) }
+        ensures entries { OnOk result (entries.new ≡ entries.old ++ entries_of flow.0 (visit_events self.old node (Some found.now))) }
+        ensures progress { OnOk result (self.new ≡ visit_progress self.old node (Some found.now)) }
+    {
+        match self.outcome {
+            Outcome::Good => self.enter(alloc, flow, node, &found.body, entries),
+            Outcome::Over => Ok(()),
+            Outcome::Bad(_) => Ok(()),
+        }
+    }
+
+    /// Visits a node.
+    fn visit(
+        &mut self,
+        alloc: Global,
+        nodes: &[Node],
+        flow: FlowNo,
+        node: NodeNo,
+        entries: &mut List<Entry>,
+    ) -> Result<(), Memory>
+        requires { IsReadyFor self.old.outcome self.old.values (slice_get nodes.now node.0) }
+        ensures entries { OnOk result (entries.new ≡ entries.old ++ entries_of flow.0 (visit_events self.old node (slice_get nodes.now node.0))) }
+        ensures progress { OnOk result (self.new ≡ visit_progress self.old node (slice_get nodes.now node.0)) }
+    {
+        match nodes.get(node.0 as usize) {
+            Some(found) => self.pass(alloc, flow, node, found, entries),
+            None => Ok(()),
+        }
+    }
+}
+
+/// A flow that is to visit its source's target.
+fn begin(alloc: Global, program: &Program, item: &Item) -> Result<Progress, Memory>
+    ensures { IfOk result (λ progress. progress ≡ begun item.now (slice_get program.now.sources item.now.source.0)) }
+{
+    let mut tasks = List::new(alloc);
+    if let Some(line) = program.sources.as_slice().get(item.source.0 as usize) {
+        add_task(&mut tasks, Task::Visit(line.target))?;
+    }
+    Ok(Progress {
+        tasks,
+        outcome: Outcome::Good,
+        values: copy_values(alloc, item.values.as_slice())?,
+    })
+}
+
+/// Runs an item's flow to its end.
+fn run_item(
+    alloc: Global,
+    checked: &Checked,
+    flow: FlowNo,
+    item: &Item,
+    entries: &mut List<Entry>,
+) -> Result<(), Memory>
+    requires sound { CanRun checked.now.program (kinds_at checked.now.sigs.nodes) }
+    requires item { IsItemFor checked.now.program (kinds_at checked.now.sigs.nodes) item.now }
+    ensures { OnOk result (HasRun checked.now.program flow.0 item.now entries.old entries.new) }
+{
+    let nodes = checked.program.nodes.as_slice();
+    let mut progress = begin(alloc, &checked.program, item)?;
+    while let Some(task) = progress.tasks.pop() {
+        match task {
+            Task::Visit(node) => progress.visit(alloc, nodes, flow, node, entries)?,
+            Task::Leave(node) => {
+                record_event(entries, flow, Event::Exit(node, progress.outcome))?;
+            }
+        }
+    }
+    record_event(entries, flow, Event::End(progress.outcome))
+}
+
+/// The journal of the items' flows, one after the other.
+pub fn run(alloc: Global, checked: &Checked, items: &[Item]) -> Result<Journal, Memory>
+    requires sound { CanRun checked.now.program (kinds_at checked.now.sigs.nodes) }
+    requires items { AllByRecursion (IsItemFor checked.now.program (kinds_at checked.now.sigs.nodes)) items.now }
+    requires few { length items.now ≤ 64 }
+    ensures { IfOk result (λ journal. HaveRun checked.now.program 0 items.now journal.entries) }
+{
+    let mut entries = List::new(alloc);
+    for (flow, item) in items.iter().enumerate() {
+        run_item(alloc, checked, FlowNo(flow as u32), item, &mut entries)?;
+    }
+    Ok(Journal { entries })
 }

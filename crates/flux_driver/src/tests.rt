@@ -17,6 +17,16 @@ const TICK: &str = "Tick () => (int n);\nPass (int n) => (int n);\nsource Tick =
 const ECHOED: &str =
     "0 enter Echo\n0 call Echo (1, \"hi\") ok () emits \"hi\"\n0 exit Echo ok\n0 end done\n";
 
+const NESTED: &str =
+    "Tick () => (int n);\nPass (int a) => (int b);\nShow (int a) => ();\nsource Tick => A;\nA = B -> Show;\nB = Pass;\n";
+
+const WALKED: &str =
+    "0 enter A\n0 choose 1\n0 enter B\n0 choose 1\n0 enter Pass\n0 call Pass (1) ok (1)\n0 exit Pass ok\n0 exit B ok\n0 enter Show\n0 call Show (1) ok () emits \"1\\n\"\n0 exit Show ok\n0 exit A ok\n0 end done\n";
+
+/// Three sources in front of two nodes.
+const SOURCES: &str =
+    "source Tick => Show; source Listen => Echo; source Tick_2 => Show;\nTick () => (int n); Tick_2 () => (int n); Listen () => (int l, text w);\nShow (int n) => (); Echo (int l, text w) => ();\n";
+
 const FORMATTED: &str =
     "Read (int socket, char* line) => (int socket, bool close);\nPage = Read -> Write;\nPage_two:[_, hit] = ;\nsource Listen => Page;\ntypedef hit TestInCache;\nhandle error Read => FourOhFour;\natomic Write:{cache, users?(session)};\nsession Listen => ByConn;\n";
 
@@ -58,6 +68,17 @@ fn run_of(
 fn format_of(program: &'static str, status: Status, out: &'static str, err: &'static str) -> Case {
     Case {
         words: &["format", "program"],
+        program,
+        items: "",
+        status,
+        out,
+        err,
+    }
+}
+
+fn check_of(program: &'static str, status: Status, out: &'static str, err: &'static str) -> Case {
+    Case {
+        words: &["check", "program"],
         program,
         items: "",
         status,
@@ -130,7 +151,6 @@ fn assert_case(rt: &impl Abort, case: &Case, status: Status, out: &[u8], err: &[
 #[test]
 fn commands_answer_as_the_table_says(rt: HostRuntime) -> Result<(), Fail> {
     let alloc = rt.alloc();
-    let not_built = "1:1: fault 0 NotBuilt\n";
     let cases = [
         run_of(ECHO, "Listen (1, \"hi\")\n", Status::Done, ECHOED, ""),
         run_of(
@@ -152,21 +172,21 @@ fn commands_answer_as_the_table_says(rt: HostRuntime) -> Result<(), Fail> {
             "Tick (1)\n",
             Status::Static,
             "",
-            not_built,
+            "4:8: fault 0 NotBuilt\n",
         ),
         run_of(
             "Tick () => (int n);\nsource Tick => Pass;\n",
             "Tick (1)\n",
             Status::Static,
             "",
-            not_built,
+            "2:16: fault 6 UnknownNode\n",
         ),
         run_of(
             "Listen () => (int l, text w);\nPass (int n) => (int n);\nsource Listen => Pass;\n",
             "",
             Status::Static,
             "",
-            not_built,
+            "3:18: fault 22 SourceTypes\n",
         ),
         run_of(
             TICK,
@@ -187,8 +207,50 @@ fn commands_answer_as_the_table_says(rt: HostRuntime) -> Result<(), Fail> {
             "",
             Status::Static,
             "",
-            not_built,
+            "1:15: fault 7 UnknownType\n",
         ),
+        run_of(NESTED, "Tick (1)\n", Status::Done, WALKED, ""),
+        run_of(
+            SOURCES,
+            "Listen (0, \"a\")\nTick_2 (5)\nTick (6)\n",
+            Status::Done,
+            "0 enter Echo\n0 call Echo (0, \"a\") ok () emits \"a\"\n0 exit Echo ok\n0 end done\n1 enter Show\n1 call Show (5) ok () emits \"5\\n\"\n1 exit Show ok\n1 end done\n2 enter Show\n2 call Show (6) ok () emits \"6\\n\"\n2 exit Show ok\n2 end done\n",
+            "",
+        ),
+        run_of(
+            SOURCES,
+            "Tick (6)\nEcho (1)\n",
+            Status::Items,
+            "",
+            "line 2: item fault 0 NotBuilt\n",
+        ),
+        check_of(NESTED, Status::Done, "ok\n", ""),
+        check_of("", Status::Done, "ok\n", ""),
+        check_of(
+            "Tick () => (int n);\nA = B;\nB = A;\nsource Tick => A;",
+            Status::Static,
+            "",
+            "2:1: fault 15 Cycle A -> B -> A\n",
+        ),
+        check_of(
+            "Pass (int a) => (int b);\nEcho (int a, text b) => ();\n\nA = Pass -> Echo;",
+            Status::Static,
+            "",
+            "4:13: fault 17 JoinTypes\n",
+        ),
+        check_of(
+            "Pass (int a) => (int b);\n\n\nA = Pass -> Pas;",
+            Status::Static,
+            "",
+            "4:13: fault 6 UnknownNode\n",
+        ),
+        check_of(
+            "A = B;\ntypedef a B;",
+            Status::Static,
+            "",
+            "2:9: fault 0 NotBuilt\n",
+        ),
+        check_of("A = B $ C;", Status::Static, "", "1:7: fault 2 BadByte\n"),
         run_of(
             "A = B $ C;",
             "",
@@ -260,6 +322,22 @@ fn commands_answer_as_the_table_says(rt: HostRuntime) -> Result<(), Fail> {
         },
         Case {
             words: &["run", "a"],
+            program: ECHO,
+            items: "",
+            status: Status::Usage,
+            out: "",
+            err: USAGE,
+        },
+        Case {
+            words: &["check", "absent"],
+            program: ECHO,
+            items: "",
+            status: Status::Missing,
+            out: "",
+            err: "flux: missing or too long: absent\n",
+        },
+        Case {
+            words: &["check", "program", "items"],
             program: ECHO,
             items: "",
             status: Status::Usage,
@@ -579,4 +657,49 @@ fn statuses_have_their_numbers(rt: HostRuntime) {
     for (status, code) in table {
         assert_eq!(rt; status.code(), code, "{status:?}");
     }
+}
+
+/// A chain of so many flows, each with the next as its one member, and one call at its end.
+fn chain(alloc: Global, flows: u32) -> Result<Bytes, Memory> {
+    let mut text = Bytes::copy(alloc, TICK.as_bytes())?;
+    let mut last = [b'a', b'a', b'a'];
+    text.append(b"aaa = Pass;")?;
+    for number in 1..flows {
+        let mut name = last;
+        for (place, unit) in [256, 16, 1].iter().enumerate() {
+            if let Some(byte) = name.get_mut(place) {
+                *byte = b'a' + (number / *unit % 16) as u8;
+            }
+        }
+        text.append(&name)?;
+        text.append(b"=")?;
+        text.append(&last)?;
+        text.append(b";")?;
+        last = name;
+    }
+    text.append(b"Tick_b () => (int n);source Tick_b=>")?;
+    text.append(&last)?;
+    text.append(b";")?;
+    Ok(text)
+}
+
+#[test]
+fn a_chain_of_4096_nodes_is_run(rt: HostRuntime) -> Result<(), Fail> {
+    let alloc = rt.alloc();
+    let text = chain(alloc, 4_093)?;
+    let mut world = World {
+        store: store_of(alloc, text.as_bytes(), b"Tick_b (1)\n", 0)?,
+        out: MemorySink::new(alloc, 1_048_576, 65_536, failing(alloc, 0)?)?,
+        err: sink_of(alloc, ROOM, 0)?,
+    };
+    let words = words_of(alloc, &["run", "program", "items"])?;
+    assert_eq!(rt; top(alloc, words.as_slice(), &mut world), Status::Done);
+    let lines = world
+        .out
+        .written()
+        .iter()
+        .filter(|byte| **byte == b'\n')
+        .count();
+    assert_eq!(rt; lines, 3 * 4_094 + 1);
+    Ok(())
 }

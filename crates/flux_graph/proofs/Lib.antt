@@ -6,3 +6,5 @@ pub mod Circles
 pub mod Ends
 pub mod Descending
 pub mod Back
+pub mod Depths
+pub mod Fillings

@@ -1,10 +1,7 @@
 -- Steps into nodes, and what holds of steps as they come and go.
-use Rattle.std.proofs.Common.{◌≡◌, ℕ, ◌⊎◌, inl, inr, List, [], ◌∷◌, ◌++◌, Option, Some, refl, sym, ap, ◌∙◌, append_assoc}
-use Rattle.std.proofs.lemmas.List.{append-nil}
-use Rattle.std.specs.List.{flat_map}
+use Rattle.std.proofs.Common.{◌≡◌, ℕ, ◌⊎◌, inl, inr, List, [], ◌∷◌, ◌++◌, Option, Some, refl, sym, ap}
 use Rattle.flux_model.specs.declared.programs.NodeNo.{NodeNo}
 use Rattle.flux_model.specs.declared.programs.Node.{Node}
-use Rattle.flux_model.specs.declared.programs.Case.{Case}
 use Rattle.flux_model.specs.Children.{IsIn}
 use Rattle.flux_graph.specs.declared.steps.Step.{Step}
 use Rattle.flux_graph.specs.declared.steps.Step.TheVariants.{Enter, Leave}
@@ -18,17 +15,6 @@ use Rattle.flux_graph.specs.Search.{HasStep, Covered, AreLed}
 pub enters_append : (a b : List NodeNo) → enters (a ++ b) ≡ enters a ++ enters b
 enters_append [] b = refl
 enters_append (n ∷ a) b = ap (λ (s : List Step). Enter n ∷ s) (enters_append a b)
-
-pub enters_both : (s : List Step) (a b : List NodeNo) → (s ++ enters (a ++ b)) ≡ ((s ++ enters a) ++ enters b)
-enters_both s a b = ap (λ (t : List Step). s ++ t) (enters_append a b) ∙ sym (append_assoc s (enters a) (enters b))
-
-abbrev pub with_entered : List Step → List Case → List Step
-with_entered s [] = s
-with_entered s (case ∷ cases) = with_entered (s ++ enters case.members) cases
-
-pub cases_entered : (s : List Step) (cases : List Case) → (s ++ enters (flat_map (λ case. case.members) cases)) ≡ with_entered s cases
-cases_entered s [] = append-nil s
-cases_entered s (case ∷ cases) = enters_both s case.members (flat_map (λ case. case.members) cases) ∙ cases_entered (s ++ enters case.members) cases
 
 -- ---- nodes with a step
 
@@ -63,11 +49,6 @@ pub step_into : (x : ℕ) (nodes : List NodeNo) → IsIn x nodes → HasStep x (
 step_into x [] i = absurd i
 step_into x (n ∷ nodes) (inl e) = inl e
 step_into x (n ∷ nodes) (inr i) = inr (step_into x nodes i)
-
-pub into_step : (x : ℕ) (nodes : List NodeNo) → HasStep x (enters nodes) → IsIn x nodes
-into_step x [] h = absurd h
-into_step x (n ∷ nodes) (inl e) = inl e
-into_step x (n ∷ nodes) (inr h) = inr (into_step x nodes h)
 
 -- ---- lists of nodes
 

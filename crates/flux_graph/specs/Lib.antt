@@ -6,3 +6,4 @@ pub mod Faults
 pub mod Search
 pub mod Below
 pub mod Returning
+pub mod Tables

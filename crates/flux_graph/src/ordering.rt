@@ -10,7 +10,7 @@ ghost use Rattle.flux_graph.specs.Search.{IsBegun, left, entered, Holds, IsNext}
 
 use crate::orders::{GraphFault, Order};
 use crate::returning::lowest_cycle;
-use crate::steps::{Step, add_step, enter_from, leaves};
+use crate::steps::{Step, add_step, enter_from};
 use crate::visits::Visits;
 use flux_model::{Node, NodeNo, Program};
 use flux_values::{List, Memory};
@@ -77,12 +77,12 @@ impl Search {
         }
     }
 
-    fn enter(&mut self, nodes: &[Node], node: NodeNo) -> Result<(), Memory>
+    fn enter(&mut self, alloc: Global, nodes: &[Node], node: NodeNo) -> Result<(), Memory>
         ensures { OnOk result (self.new ≡ entered nodes.now self.old node) }
     {
         self.entered.add(node.0)?;
         add_step(&mut self.steps, Step::Leave(node))?;
-        enter_from(&mut self.steps, nodes, node)
+        enter_from(alloc, &mut self.steps, nodes, node)
     }
 
     /// The next node that is to be entered. Nodes with nothing left to enter are left on the way.
@@ -117,7 +117,7 @@ fn order_or_cycle(alloc: Global, p: &Program) -> Result<Order, Stop>
     let nodes = p.nodes.as_slice();
     let mut search = Search::begin(alloc, nodes.len())?;
     while let Some(node) = search.next(nodes)? {
-        search.enter(nodes, node)?;
+        search.enter(alloc, nodes, node)?;
     }
     Ok(Order {
         nodes: search.order,

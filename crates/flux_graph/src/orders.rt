@@ -15,7 +15,7 @@ pub struct Order {
 /// Why a program has no order.
 #[derive(Debug, Drop)]
 pub enum GraphFault {
-    /// A node leads back to itself. The path begins and ends with the lowest-numbered node of its cycle.
+    /// A node leads back to itself. The path begins and ends with the lowest-numbered node that is on any cycle.
     Cycle { path: List<NodeNo> },
     /// Memory ran out.
     Memory,

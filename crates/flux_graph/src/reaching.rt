@@ -3,7 +3,7 @@
 ghost use Rattle.std.specs.Prelude.{◌≡◌, OnOk, IfOk, slice_get};
 ghost use Rattle.std.specs.List.{flat_map};
 ghost use Rattle.flux_graph.specs.Reaching.{leads_at, Reaches};
-ghost use Rattle.flux_model.specs.Leading.{members_of, handler_of, leads_to};
+ghost use Rattle.flux_model.specs.Leading.{members_of};
 ghost use Rattle.flux_graph.specs.Visits.{with_all};
 
 use crate::visits::Visits;
@@ -43,32 +43,20 @@ fn visit_members(visits: &mut Visits, body: &Body) -> Result<(), Memory>
     }
 }
 
-fn visit_handler(visits: &mut Visits, handler: Option<NodeNo>) -> Result<(), Memory>
-    ensures { OnOk result (visits.new ≡ with_all visits.old (handler_of handler)) }
-{
-    match handler {
-        Some(handler) => visits.add(handler.0),
-        None => Ok(()),
-    }
-}
-
-/// Visits what a node leads to.
-fn visit_leads(visits: &mut Visits, node: &Node) -> Result<(), Memory>
-    ensures { OnOk result (visits.new ≡ with_all visits.old (leads_to node.now)) }
-{
-    visit_members(visits, &node.body)?;
-    visit_handler(visits, node.on_fail)
-}
-
 /// Visits what the node at a place of the visits leads to.
-fn visit_from(visits: &mut Visits, nodes: &[Node], place: usize) -> Result<(), Memory>
+fn visit_from(
+    alloc: Global,
+    visits: &mut Visits,
+    nodes: &[Node],
+    place: usize,
+) -> Result<(), Memory>
     ensures { OnOk result (visits.new ≡ with_all visits.old (leads_at nodes.now (slice_get visits.old place))) }
 {
     let Some(number) = visits.get(place) else {
         return Ok(());
     };
     match nodes.get(number as usize) {
-        Some(node) => visit_leads(visits, node),
+        Some(node) => visit_all(visits, node.leads_to(alloc)?.as_slice()),
         None => Ok(()),
     }
 }
@@ -81,7 +69,7 @@ pub fn reach(alloc: Global, nodes: &[Node], start: &Node) -> Result<Visits, Memo
     visit_members(&mut visits, &start.body)?;
     let mut place = 0;
     while place < visits.len() {
-        visit_from(&mut visits, nodes, place)?;
+        visit_from(alloc, &mut visits, nodes, place)?;
         place += 1;
     }
     Ok(visits)

@@ -29,16 +29,16 @@ impl Return {
             steps: List::new(alloc),
             entered: Visits::new(alloc),
         };
-        search.enter(nodes, start)?;
+        search.enter(alloc, nodes, start)?;
         Ok(search)
     }
 
-    fn enter(&mut self, nodes: &[Node], node: NodeNo) -> Result<(), Memory>
+    fn enter(&mut self, alloc: Global, nodes: &[Node], node: NodeNo) -> Result<(), Memory>
         ensures { OnOk result (self.new ≡ moved nodes.now self.old node) }
     {
         self.entered.add(node.0)?;
         add_step(&mut self.steps, Step::Leave(node))?;
-        enter_from(&mut self.steps, nodes, node)
+        enter_from(alloc, &mut self.steps, nodes, node)
     }
 
     /// The next node that hasn't been entered, or the one that the search began with.
@@ -83,7 +83,7 @@ fn way_back(alloc: Global, nodes: &[Node], start: NodeNo) -> Result<Option<List<
         if node.0 == start.0 {
             return Ok(Some(path_back(alloc, search.steps.as_slice(), start)?));
         }
-        search.enter(nodes, node)?;
+        search.enter(alloc, nodes, node)?;
     }
     Ok(None)
 }

@@ -7,4 +7,6 @@ pub mod Exclusion
 pub mod Waits
 pub mod Leading
 pub mod Children
+pub mod Nested
 pub mod Sizes
+pub mod Soundness

@@ -8,6 +8,8 @@ mod journals;
 mod named;
 mod programs;
 mod signatures;
+#[cfg(test)]
+mod tests;
 
 pub use flux_values::{Answer, CallResult, Cell, Mode, Put};
 pub use journals::{CallMade, Entry, Event, FlowNo, Item, Journal, Key, Outcome};

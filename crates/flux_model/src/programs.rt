@@ -1,6 +1,11 @@
 //! A program: nodes with their cases and constraints, and sources.
 
-use flux_values::{List, Mode, TextBytes};
+ghost use Rattle.std.specs.Prelude.{◌≡◌, ◌++◌, IfOk, OnOk};
+ghost use Rattle.std.specs.List.{flat_map};
+ghost use Rattle.flux_model.specs.Leading.{members_of, handler_of, leads_to};
+
+use flux_values::{List, Memory, Mode, TextBytes};
+use std::alloc::Global;
 
 /// A node of a program, by its place among the nodes.
 #[derive(Clone, Copy, Debug, PartialEq, Eq)]
@@ -69,4 +74,61 @@ pub struct SourceLine {
     pub target: NodeNo,
     /// The library's session function.
     pub session: Option<TextBytes>,
+}
+
+fn push_all(numbers: &[NodeNo], all: &mut List<NodeNo>) -> Result<(), Memory>
+    ensures { OnOk result (all.new ≡ all.old ++ numbers.now) }
+{
+    let mut rest = numbers;
+    while let [number, others @ ..] = rest {
+        if all.push(*number).is_err() {
+            return Err(Memory);
+        }
+        rest = others;
+    }
+    Ok(())
+}
+
+fn push_members(body: &Body, all: &mut List<NodeNo>) -> Result<(), Memory>
+    ensures { OnOk result (all.new ≡ all.old ++ members_of body.now) }
+{
+    match body {
+        Body::Concrete(_) => Ok(()),
+        Body::Abstract(cases) => push_cases(cases.as_slice(), all),
+    }
+}
+
+fn push_cases(cases: &[Case], all: &mut List<NodeNo>) -> Result<(), Memory>
+    ensures { OnOk result (all.new ≡ all.old ++ flat_map (λ case. case.members) cases.now) }
+{
+    let mut rest = cases;
+    while let [case, others @ ..] = rest {
+        push_all(case.members.as_slice(), all)?;
+        rest = others;
+    }
+    Ok(())
+}
+
+fn push_handler(handler: Option<NodeNo>, all: &mut List<NodeNo>) -> Result<(), Memory>
+    ensures { OnOk result (all.new ≡ all.old ++ handler_of handler) }
+{
+    let Some(handler) = handler else {
+        return Ok(());
+    };
+    match all.push(handler) {
+        Ok(()) => Ok(()),
+        Err(_) => Err(Memory),
+    }
+}
+
+impl Node {
+    /// What the node leads to: the members of its cases, in order, and its handler.
+    pub fn leads_to(&self, alloc: Global) -> Result<List<NodeNo>, Memory>
+        ensures { IfOk result (λ led. led ≡ leads_to self.now) }
+    {
+        let mut led = List::new(alloc);
+        push_members(&self.body, &mut led)?;
+        push_handler(self.on_fail, &mut led)?;
+        Ok(led)
+    }
 }

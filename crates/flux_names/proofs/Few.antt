@@ -4,7 +4,7 @@ use Rattle.std.specs.List.{list_any}
 use Rattle.std.specs.Str.{bytes_eq}
 use Rattle.flux_syntax.specs.declared.declarations.Word.{Word}
 use Rattle.flux_syntax.specs.declared.declarations.Decl.{Decl}
-use Rattle.flux_names.specs.Words.{naming, and_name, names_after, names_of}
+use Rattle.flux_syntax.specs.Words.{naming, and_name, names_after, names_of}
 
 one_more : (names : List (List ℕ)) (name : List ℕ) (t : Bool) → length (if t then names else names ++ name ∷ []) ≤ length names + 1
 one_more names name true = omega arith

@@ -1,4 +1,3 @@
 pub mod Keys
-pub mod Soonest
 pub mod Few
 pub mod Numbers

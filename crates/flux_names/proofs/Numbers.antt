@@ -12,9 +12,11 @@ use Rattle.flux_model.specs.declared.programs.Node.{Node}
 use Rattle.flux_model.specs.Leading.{leads_to, AreBelow, IsNumbered, parts_of}
 use Rattle.flux_syntax.proofs.Counts.{decls_few}
 use Rattle.flux_syntax.specs.Counted.{total, words_in, words_of}
-use Rattle.flux_names.specs.Words.{naming, sourced, inner, and_name, names_after, names_of}
-use Rattle.flux_names.specs.Rows.{Kinds, Nodes, known, listed, among, all_among, again, twice_after, twice_named, unknown_nodes, rows, sooner, soonest, fault_or, first_fault}
-use Rattle.flux_names.specs.ProgramOfText.{number_of, node_of, source_of, program_with}
+use Rattle.flux_syntax.specs.Words.{naming, sourced, inner, and_name, names_after, names_of}
+use Rattle.flux_syntax.specs.Words.{listed}
+use Rattle.flux_syntax.specs.Least.{sooner, soonest, fault_or, first_fault}
+use Rattle.flux_names.specs.Rows.{Kinds, Nodes, known, among, all_among, again, twice_after, twice_named, unknown_nodes, rows}
+use Rattle.flux_syntax.specs.ProgramOfText.{number_of, node_of, source_of, program_with}
 use Rattle.flux_names.proofs.Few.{few_names}
 
 -- ---- rows that don't stand
@@ -23,15 +25,15 @@ some_place : (at : ℕ) (words : List Word) → soonest (Some at) words ≡ None
 some_place at [] e = absurd cc
 some_place at (w ∷ words) e = some_place (sooner (Some at) w.at) words e
 
-no_words : (words : List Word) → soonest None words ≡ None → words ≡ []
+pub no_words : (words : List Word) → soonest None words ≡ None → words ≡ []
 no_words [] e = refl
 no_words (w ∷ words) e = absurd (some_place w.at words e)
 
-no_row : (kind : FaultKind) (place : Option ℕ) (other : Option (FaultKind × ℕ)) → fault_or kind place other ≡ None → (place ≡ None) × (other ≡ None)
+pub no_row : (kind : FaultKind) (place : Option ℕ) (other : Option (FaultKind × ℕ)) → fault_or kind place other ≡ None → (place ≡ None) × (other ≡ None)
 no_row kind None other e = (refl, e)
 no_row kind (Some at) other e = absurd cc
 
-nil_append : (a b : List Word) → a ++ b ≡ [] → (a ≡ []) × (b ≡ [])
+pub nil_append : (a b : List Word) → a ++ b ≡ [] → (a ≡ []) × (b ≡ [])
 nil_append [] b e = (refl, e)
 nil_append (w ∷ a) b e = absurd cc
 
@@ -45,7 +47,7 @@ known_below (n ∷ names) name e = one (bytes_eq name n) refl (known_below names
     one true i more = rw i (omega arith)
     one false i more = let h : known names name ≡ true = rw i at e in let lt = more h in rw i (omega (arith, lt))
 
-known_word : (names : List (List ℕ)) (w : Word) → among false names w ≡ [] → known names w.text ≡ true
+pub known_word : (names : List (List ℕ)) (w : Word) → among false names w ≡ [] → known names w.text ≡ true
 known_word names w e = one (known names w.text) refl
   where
     one : (t : Bool) → known names w.text ≡ t → known names w.text ≡ true
@@ -58,7 +60,7 @@ all_below names (w ∷ words) e = let both = nil_append (among false names w) (a
 
 -- ---- nodes and sources
 
-all_append : {A : Type 0} (P : A → Type 0) (a b : List A) → AllByRecursion P a → AllByRecursion P b → AllByRecursion P (a ++ b)
+pub all_append : {A : Type 0} (P : A → Type 0) (a b : List A) → AllByRecursion P a → AllByRecursion P b → AllByRecursion P (a ++ b)
 all_append P [] b x y = y
 all_append P (x ∷ a) b h y = (h.0, all_append P a b h.1 y)
 
@@ -95,7 +97,7 @@ lines_below names (d ∷ decls) e = let both = nil_append (all_among false names
 
 -- ---- one node for each name
 
-new_name : (names : List (List ℕ)) (w : Word) → again names (Some w) ≡ [] → length (and_name names (Some w)) ≡ length names + 1
+pub new_name : (names : List (List ℕ)) (w : Word) → again names (Some w) ≡ [] → length (and_name names (Some w)) ≡ length names + 1
 new_name names w e = one (known names w.text) refl
   where
     one : (t : Bool) → known names w.text ≡ t → length (and_name names (Some w)) ≡ length names + 1

@@ -1,25 +1,19 @@
 -- What resolving answers.
-use Rattle.std.specs.Prelude.{◌≡◌, ℕ, List, [], Option, Some, None}
+use Rattle.std.specs.Prelude.{◌≡◌, ℕ, List, Option, None}
 use Rattle.flux_faults.specs.declared.faults.FaultKind.{FaultKind}
 use Rattle.flux_faults.specs.declared.faults.FaultKind.TheVariants.{UnknownType, NotInLibrary, UnlikeLibrary, NotASource, SourceMisused, TooMany}
-use Rattle.flux_faults.specs.declared.faults.CheckFault.{CheckFault}
-use Rattle.flux_faults.specs.declared.faults.CheckFault.TheVariants.{Static, Memory}
 use Rattle.flux_model.specs.declared.named.Named.{Named}
 use Rattle.flux_model.specs.Leading.{IsNumbered}
 use Rattle.flux_syntax.specs.declared.declarations.Decl.{Decl}
-use Rattle.flux_names.specs.Rows.{Kinds, Nodes, unknown_types, not_in_library, unlike_library, not_sources, misused_sources, too_many, rows, soonest, fault_or, first_fault}
-use Rattle.flux_names.specs.ProgramOfText.{named_of}
+use Rattle.flux_syntax.specs.Least.{soonest, fault_or, first_fault}
+use Rattle.flux_names.specs.Rows.{Kinds, Nodes, unknown_types, not_in_library, unlike_library, not_sources, misused_sources, too_many, rows}
+use Rattle.flux_syntax.specs.ProgramOfText.{named_of}
 
 -- no row stands, and the program is that of the declarations; it is numbered
 pub record IsNamed (kind : Kinds) (node : Nodes) (decls : List Decl) (named : Named) : Type 0 where
   pub sound : first_fault (rows kind node decls) ≡ None
   pub is : named ≡ named_of decls
   pub numbered : IsNumbered named.program
-
--- a fault is the least row that stands, at its least place
-abbrev pub IsFaultOf : Option (FaultKind × ℕ) → CheckFault → Type 0
-IsFaultOf first (Static fault) = (first ≡ Some (fault.kind, fault.at)) × (fault.path ≡ [])
-IsFaultOf first Memory = Unit {0}
 
 -- ---- parts of the first fault
 

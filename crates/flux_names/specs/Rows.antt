@@ -1,6 +1,6 @@
 -- The faults 5 to 9 and 12 to 14: for each its row, the words at which it stands.
-use Rattle.std.specs.Prelude.{ℕ, min, ◌==◌, ◌&&◌, not, nat_lt, Bool, true, false, if◌then◌else◌, List, [], ◌∷◌, ◌++◌, length, replicate, Option, Some, None}
-use Rattle.std.specs.List.{list_any, before_first, flat_map}
+use Rattle.std.specs.Prelude.{ℕ, ◌&&◌, not, nat_lt, Bool, true, false, if◌then◌else◌, List, [], ◌∷◌, ◌++◌, length, Option, Some, None}
+use Rattle.std.specs.List.{list_any, flat_map}
 use Rattle.std.specs.Option.{is_none}
 use Rattle.std.specs.Str.{bytes_eq}
 use Rattle.flux_values.specs.declared.values.Kind.{Kind}
@@ -8,13 +8,14 @@ use Rattle.flux_values.specs.declared.values.Kind.TheVariants as kinds
 use Rattle.flux_values.specs.declared.meanings.Sig.{Sig}
 use Rattle.flux_values.specs.declared.meanings.Role.{Role}
 use Rattle.flux_values.specs.declared.meanings.Role.TheVariants as roles
-use Rattle.flux_faults.specs.declared.faults.FaultKind.{FaultKind}
 use Rattle.flux_faults.specs.declared.faults.FaultKind.TheVariants.{TwiceNamed, UnknownNode, UnknownType, NotInLibrary, UnlikeLibrary, NotASource, SourceMisused, TooMany}
 use Rattle.flux_syntax.specs.declared.declarations.Word.{Word}
 use Rattle.flux_syntax.specs.declared.declarations.Param.{Param}
 use Rattle.flux_syntax.specs.declared.declarations.Decl.{Decl}
 use Rattle.flux_syntax.specs.declared.declarations.Decl.TheVariants.{Signature}
-use Rattle.flux_names.specs.Words.{naming, sourced, inner, and_name, names_of}
+use Rattle.flux_syntax.specs.Words.{naming, sourced, inner, and_name, names_of, listed, spelling}
+use Rattle.flux_syntax.specs.ProgramOfText.{library_name}
+use Rattle.flux_syntax.specs.Least.{Row}
 
 abbrev pub same : Bool → Bool → Bool
 same true b = b
@@ -23,18 +24,6 @@ same false b = not b
 -- whether a name is among names
 abbrev pub known : List (List ℕ) → List ℕ → Bool
 known names name = list_any (bytes_eq name) names
-
--- the library's node of a signature: the part of its name before the first `_`, or the whole name
-abbrev pub library_name : List ℕ → List ℕ
-library_name name = before_first (λ b. b == 95) name
-
--- a type as it is spelled: its word and its stars
-abbrev pub spelling : Param → List ℕ
-spelling param = param.ty.text ++ replicate param.stars 42
-
-abbrev pub listed : Option Word → List Word
-listed None = []
-listed (Some word) = word ∷ []
 
 -- a word, where it is among the names, or isn't
 abbrev pub among : Bool → List (List ℕ) → Word → List Word
@@ -160,32 +149,9 @@ misused_sources node decls = flat_map (λ d. all_among true (source_names node d
 abbrev pub too_many : List Decl → List Word
 too_many decls = beyond_after [] decls
 
--- ---- the fault
-
--- a row: a kind of fault, and the words at which it stands
-abbrev pub Row : Type 0
-Row = FaultKind × List Word
+-- ---- all rows
 
 abbrev pub rows : Kinds → Nodes → List Decl → List Row
 rows kind node decls =
     (TwiceNamed, twice_named decls) ∷ (UnknownNode, unknown_nodes (names_of decls) decls) ∷ (UnknownType, unknown_types kind decls) ∷ (NotInLibrary, not_in_library node decls)
     ∷ (UnlikeLibrary, unlike_library kind node decls) ∷ (NotASource, not_sources node decls) ∷ (SourceMisused, misused_sources node decls) ∷ (TooMany, too_many decls) ∷ []
-
--- the lesser of two places
-abbrev pub sooner : Option ℕ → ℕ → ℕ
-sooner None at = at
-sooner (Some other) at = min other at
-
--- the least place, with those of words
-abbrev pub soonest : Option ℕ → List Word → Option ℕ
-soonest place [] = place
-soonest place (word ∷ words) = soonest (Some (sooner place word.at)) words
-
-abbrev pub fault_or : FaultKind → Option ℕ → Option (FaultKind × ℕ) → Option (FaultKind × ℕ)
-fault_or kind None other = other
-fault_or kind (Some at) other = Some (kind, at)
-
--- the least row that stands, at its least place
-abbrev pub first_fault : List Row → Option (FaultKind × ℕ)
-first_fault [] = None
-first_fault (row ∷ others) = fault_or row.0 (soonest None row.1) (first_fault others)

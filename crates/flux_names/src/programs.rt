@@ -2,8 +2,9 @@
 
 ghost use Rattle.std.specs.Prelude.{◌≡◌, ◌≤◌, ◌++◌, ◌∷◌, [], IfOk, OnOk, map, length, option_copied};
 ghost use Rattle.std.specs.List.{flat_map};
-ghost use Rattle.flux_names.specs.Rows.{library_name, listed};
-ghost use Rattle.flux_names.specs.ProgramOfText.{number_of, node_with, node_of, source_of, places, targeted, sites_of, program_with};
+ghost use Rattle.flux_syntax.specs.ProgramOfText.{library_name};
+ghost use Rattle.flux_syntax.specs.Words.{listed};
+ghost use Rattle.flux_syntax.specs.ProgramOfText.{number_of, node_with, node_of, source_of, places, targeted, sites_of, program_with};
 
 use crate::rows::{library_name, naming, sourced};
 use crate::tables::Names;

@@ -2,10 +2,12 @@
 
 ghost use Rattle.std.specs.Prelude.{◌≡◌, ◌≤◌, IfOk, IfErr, length};
 ghost use Rattle.flux_syntax.specs.Counted.{words_of};
-ghost use Rattle.flux_names.specs.Words.{names_of};
-ghost use Rattle.flux_names.specs.Rows.{rows, fault_or, first_fault};
-ghost use Rattle.flux_names.specs.ProgramOfText.{named_of};
-ghost use Rattle.flux_names.specs.Resolving.{IsNamed, IsFaultOf, last_fault, library_fault};
+ghost use Rattle.flux_syntax.specs.Words.{names_of};
+ghost use Rattle.flux_syntax.specs.Least.{fault_or, first_fault};
+ghost use Rattle.flux_names.specs.Rows.{rows};
+ghost use Rattle.flux_syntax.specs.ProgramOfText.{named_of};
+ghost use Rattle.flux_syntax.specs.Least.{IsLeastFault};
+ghost use Rattle.flux_names.specs.Resolving.{IsNamed, last_fault, library_fault};
 
 use crate::programs::{program_of, sites_of};
 use crate::rows::{
@@ -13,25 +15,15 @@ use crate::rows::{
     unknown_nodes, unknown_types, unlike_library,
 };
 use crate::tables::Names;
-use flux_faults::{CheckFault, FaultKind, StaticFault};
+use flux_faults::{CheckFault, FaultKind};
 use flux_library::Library;
 use flux_model::Named;
-use flux_syntax::Decl;
+use flux_syntax::{Decl, fault_at, fault_or};
 use flux_values::{List, Memory};
 use std::alloc::Global;
 
 /// A fault and its place.
 type Fault = Option<(FaultKind, u32)>;
-
-/// The fault of a row, or where it doesn't stand another.
-fn fault_or(kind: FaultKind, place: Option<u32>, other: Fault) -> Fault
-    ensures { result ≡ fault_or kind place other }
-{
-    match place {
-        Some(at) => Some((kind, at)),
-        None => other,
-    }
-}
 
 /// The rows on sources and on the number of nodes.
 fn last_fault<L: Library>(alloc: Global, decls: &[Decl], library: &L) -> Result<Fault, Memory>
@@ -99,7 +91,7 @@ pub fn resolve<L: Library>(
 ) -> Result<Named, CheckFault>
     requires { words_of decls.now ≤ 1048576 }
     ensures named { IfOk result (IsNamed (L.kind_of library.now) (L.sig_of library.now) decls.now) }
-    ensures fault { IfErr result (IsFaultOf (first_fault (rows (L.kind_of library.now) (L.sig_of library.now) decls.now))) }
+    ensures fault { IfErr result (IsLeastFault (first_fault (rows (L.kind_of library.now) (L.sig_of library.now) decls.now))) }
 {
     let decls = decls.as_slice();
     let names = match names_of(alloc, decls) {
@@ -111,11 +103,7 @@ pub fn resolve<L: Library>(
             Ok(named) => Ok(named),
             Err(_) => Err(CheckFault::Memory),
         },
-        Ok(Some((kind, at))) => Err(CheckFault::Static(StaticFault {
-            kind,
-            at,
-            path: List::new(alloc),
-        })),
+        Ok(Some((kind, at))) => Err(fault_at(alloc, kind, at)),
         Err(_) => Err(CheckFault::Memory),
     }
 }

@@ -3,26 +3,19 @@
 ghost use Rattle.std.specs.Prelude.{◌≡◌, ◌++◌, ◌==◌, ◌≤◌, [], None, true, false, IfOk, OnOk, length, option_copied};
 ghost use Rattle.std.specs.List.{flat_map, position_or_len};
 ghost use Rattle.std.specs.Option.{is_none};
-ghost use Rattle.flux_names.specs.Words.{naming, sourced, inner, and_name, names_of, names_after};
-ghost use Rattle.flux_names.specs.Rows.{same_kind, library_name, spelling, among, all_among, again, twice_after, beyond, beyond_after, is_kind, is_source, have_kinds, is_like, source_name, source_names, source_names_after, unknown_nodes, unknown_type, unknown_in, unknown_types, not_in, not_in_library, unlike, unlike_library, not_sources, misused_sources, too_many, twice_named, sooner, soonest, listed};
+ghost use Rattle.flux_syntax.specs.Words.{naming, sourced, inner, and_name, names_of, names_after, listed, spelling};
+ghost use Rattle.flux_syntax.specs.ProgramOfText.{library_name};
+ghost use Rattle.flux_syntax.specs.Least.{sooner, soonest};
+ghost use Rattle.flux_names.specs.Rows.{same_kind, among, all_among, again, twice_after, beyond, beyond_after, is_kind, is_source, have_kinds, is_like, source_name, source_names, source_names_after, unknown_nodes, unknown_type, unknown_in, unknown_types, not_in, not_in_library, unlike, unlike_library, not_sources, misused_sources, too_many, twice_named};
 
 use crate::tables::Names;
 use flux_library::{Library, Role, Sig};
-use flux_syntax::{Decl, Param, Word};
-use flux_values::{Bytes, Kind, Memory};
+use flux_syntax::{Decl, Param, Word, sooner};
+use flux_values::{Kind, Memory};
 use std::alloc::Global;
 
 /// The least place so far, from 0; None where there is none.
 type Place = Option<u32>;
-
-fn sooner(place: Place, at: u32) -> u32
-    ensures { result ≡ sooner place at }
-{
-    match place {
-        Some(other) => other.min(at),
-        None => at,
-    }
-}
 
 /// The name of a node, where it is signed or has a flow.
 pub fn naming(decl: &Decl) -> Option<&Word>
@@ -239,22 +232,10 @@ pub fn misused_sources(sources: &Names, decls: &[Decl]) -> Place
 
 // ---- rows 7 to 9
 
-/// A type as it is spelled: its word and its stars.
-fn spelling(alloc: Global, param: &Param) -> Result<Bytes, Memory>
-    ensures { IfOk result (λ ty. ty ≡ spelling param.now) }
-{
-    let mut ty = Bytes::new(alloc);
-    ty.append(param.ty.text.as_bytes())?;
-    for _ in 0..param.stars {
-        ty.append(b"*")?;
-    }
-    Ok(ty)
-}
-
 fn kind_of<L: Library>(alloc: Global, library: &L, param: &Param) -> Result<Option<Kind>, Memory>
     ensures { IfOk result (λ kind. kind ≡ L.kind_of library.now (spelling param.now)) }
 {
-    let ty = spelling(alloc, param)?;
+    let ty = param.spelling(alloc)?;
     Ok(library.kind(ty.as_bytes()))
 }
 

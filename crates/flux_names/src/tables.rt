@@ -3,7 +3,7 @@
 ghost use Rattle.std.specs.Prelude.{◌≡◌, ◌≤◌, [], OnOk, length};
 ghost use Rattle.std.specs.List.{list_any, position_or_len};
 ghost use Rattle.std.specs.Str.{bytes_eq};
-ghost use Rattle.flux_names.specs.Tables.{with_name};
+ghost use Rattle.flux_syntax.specs.Names.{with_name};
 
 use flux_values::Memory;
 use indexmap::IndexSet;

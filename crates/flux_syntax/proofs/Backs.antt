@@ -15,9 +15,10 @@ use Rattle.flux_syntax.specs.declared.declarations.Decl.{Decl}
 use Rattle.flux_syntax.specs.declared.declarations.Decl.TheVariants as decl
 use Rattle.flux_syntax.specs.Symbols.{Symbol, name, mark}
 use Rattle.flux_syntax.specs.Grammar.{More, Listed, Maybe, stars, IsParam, AreParams, IsPattern, ArePatterns, IsMember, scope, IsMark, IsHeld, IsConstraint, IsDeclaration, IsProgram}
+use Rattle.flux_syntax.specs.Standing.{IsName}
 use Rattle.flux_syntax.specs.Formatted.{joined, param_text, params_text, pattern_text, patterns_text, word_text, members_text, mode_text, scope_text, constraint_text, line_of, formatted}
 use Rattle.flux_syntax.specs.Again.{bare, bare_param, bare_constraint, bare_decl}
-use Rattle.flux_syntax.proofs.Printed.{Prints, prints_as, prints_end, prints_blank, prints_mark, prints_name, After, IsName, EndsWord}
+use Rattle.flux_syntax.proofs.Printed.{Prints, prints_as, prints_end, prints_blank, prints_mark, prints_name, After, EndsWord}
 
 -- ---- names of symbols
 

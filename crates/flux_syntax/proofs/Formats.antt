@@ -39,7 +39,7 @@ good_part text at comment n parts laid more = more
 good_part text at opener n parts laid more = more
 good_part text at (token kind) n parts laid more = (good_token text at n kind laid.0, more)
 
-good_parts : (text : List ℕ) (at : ℕ) (parts : List Part) → Laid parts [] (drop at text) → Good (map (symbol_of text) (tokens_of at parts))
+pub good_parts : (text : List ℕ) (at : ℕ) (parts : List Part) → Laid parts [] (drop at text) → Good (map (symbol_of text) (tokens_of at parts))
 good_parts text at [] laid = tt
 good_parts text at (part ∷ parts) laid =
     good_part text at part.piece part.length parts laid (good_parts text (at + part.length) parts (subst (Laid parts []) (drop-drop part.length at text ∙ ap (λ (i : ℕ). drop i text) (omega arith)) laid.1))

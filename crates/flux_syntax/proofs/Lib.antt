@@ -11,3 +11,5 @@ pub mod Texts
 pub mod Printed
 pub mod Backs
 pub mod Formats
+pub mod Soonest
+pub mod Standing

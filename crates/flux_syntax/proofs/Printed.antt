@@ -14,6 +14,7 @@ use Rattle.flux_lexer.specs.Pieces.{Piece, blank, remark, comment, opener, token
 use Rattle.flux_lexer.specs.Texts.{Part, Laid, openers_of}
 use Rattle.flux_lexer.specs.Fronts.{word_front, front_of}
 use Rattle.flux_lexer.proofs.Seen.{Sees, sees}
+use Rattle.flux_syntax.specs.Standing.{IsName}
 use Rattle.flux_syntax.specs.Symbols.{Symbol, name, mark, is}
 
 -- the symbols of parts from a place on
@@ -65,11 +66,6 @@ prints_mark kind n text e other p = prints_token kind n text (λ _. mark kind) e
 
 -- ---- names
 
--- a name: an identifier of at most 65,536 bytes
-pub record IsName (text : List ℕ) : Type 0 where
-  pub kind : kind_of text ≡ Some Identifier
-  pub short : length text ≤ 65536
-
 -- what follows doesn't make a word longer
 abbrev pub EndsWord : List ℕ → Type 0
 EndsWord [] = Unit {0}
@@ -91,7 +87,7 @@ no_mark [] e = absurd cc
 no_mark (b ∷ []) e = no_single b e
 no_mark (b ∷ c ∷ bytes) e = no_double (b ∷ c ∷ bytes) e
 
-word_of_name : (text : List ℕ) → kind_of text ≡ Some Identifier → (is_word text ≡ true) × (word_kind text ≡ Identifier)
+pub word_of_name : (text : List ℕ) → kind_of text ≡ Some Identifier → (is_word text ≡ true) × (word_kind text ≡ Identifier)
 word_of_name text e = one (is_word text) refl
   where
     one : (t : Bool) → is_word text ≡ t → (is_word text ≡ true) × (word_kind text ≡ Identifier)

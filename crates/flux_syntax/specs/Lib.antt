@@ -6,3 +6,8 @@ pub mod Formatted
 pub mod Again
 pub mod Reading
 pub mod Counted
+pub mod Names
+pub mod Words
+pub mod ProgramOfText
+pub mod Least
+pub mod Standing

@@ -1,6 +1,10 @@
 //! What a text declares.
 
-use flux_values::{List, Mode, TextBytes};
+ghost use Rattle.std.specs.Prelude.{◌≡◌, IfOk};
+ghost use Rattle.flux_syntax.specs.Words.{spelling};
+
+use flux_values::{Bytes, List, Memory, Mode, TextBytes};
+use std::alloc::Global;
 
 /// A name, and the place of its first byte in the text, from 0.
 #[derive(Debug, Drop)]
@@ -15,6 +19,20 @@ pub struct Param {
     pub ty: Word,
     pub stars: u32,
     pub name: Word,
+}
+
+impl Param {
+    /// The type as it is spelled: its word and its stars.
+    pub fn spelling(&self, alloc: Global) -> Result<Bytes, Memory>
+        ensures { IfOk result (λ ty. ty ≡ spelling self.now) }
+    {
+        let mut ty = Bytes::new(alloc);
+        ty.append(self.ty.text.as_bytes())?;
+        for _ in 0..self.stars {
+            ty.append(b"*")?;
+        }
+        Ok(ty)
+    }
 }
 
 /// A name that a node holds as reader or writer, in the whole program or in its session.

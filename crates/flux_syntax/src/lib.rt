@@ -7,6 +7,7 @@
 mod cursors;
 mod declarations;
 mod formatting;
+mod least;
 mod lists;
 mod parsing;
 mod reading;
@@ -15,5 +16,6 @@ mod tests;
 
 pub use declarations::{Constraint, Decl, Param, Word};
 pub use formatting::format;
+pub use least::{fault_at, fault_or, sooner};
 pub use parsing::parse;
 pub use reading::read;

@@ -3,3 +3,4 @@ pub mod Bodies
 pub mod Loose
 pub mod Sorted
 pub mod CellLemmas
+pub mod Sets

@@ -1,6 +1,6 @@
 //! A list that contracts see as a list.
 
-ghost use Rattle.std.specs.Prelude.{◌≡◌, [], ◌∷◌, ◌++◌, OnOk, IfErr, OnErr, IfSome, IsNone, OnSome, IfNone, ◌↔◌};
+ghost use Rattle.std.specs.Prelude.{◌≡◌, ◌<◌, [], ◌∷◌, ◌++◌, length, slice_set, OnOk, IfErr, OnErr, IfSome, IsNone, OnSome, IfNone, ◌↔◌};
 
 use std::alloc::Global;
 use std::marker::Model;
@@ -54,5 +54,15 @@ impl<T> List<T> {
         ensures { result.now ≡ self.now }
     {
         self.items.as_slice()
+    }
+}
+
+impl<T: Drop> List<T> {
+    /// Puts an item in place of the one that stands there.
+    pub fn set(&mut self, place: usize, item: T)
+        requires { place < length self.old }
+        ensures { self.new ≡ slice_set self.old place item }
+    {
+        self.items[place] = item;
     }
 }

@@ -121,6 +121,8 @@ fn a_list_gives_back_what_it_took(rt: HostRuntime) -> Result<(), Fail> {
     assert_eq!(rt; list.pop(), None);
     assert!(rt; list.push(1).is_ok() && list.push(2).is_ok());
     assert_eq!(rt; list.as_slice(), [1, 2].as_slice());
+    list.set(0, 7);
+    assert_eq!(rt; list.as_slice(), [7, 2].as_slice());
     assert_eq!(rt; list.pop(), Some(2));
     Ok(())
 }

@@ -1,5 +1,5 @@
 use Rattle.std.proofs.Common.{◌≡◌, map, take}
-use Rattle.flux_names.specs.ProgramOfText.{number_of}
+use Rattle.flux_syntax.specs.ProgramOfText.{number_of}
 use Rattle.flux_names.proofs.programs.numbers_of.Given as goal
 
 abbrev pub invariant-loop-word : goal.invariant-loop-word

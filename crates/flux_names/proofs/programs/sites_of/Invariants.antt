@@ -1,8 +1,8 @@
 use Rattle.std.proofs.Common.{◌≡◌, take}
 use Rattle.std.specs.List.{flat_map}
-use Rattle.flux_names.specs.Words.{naming, sourced}
-use Rattle.flux_names.specs.Rows.{listed}
-use Rattle.flux_names.specs.ProgramOfText.{places, targeted}
+use Rattle.flux_syntax.specs.Words.{naming, sourced}
+use Rattle.flux_syntax.specs.Words.{listed}
+use Rattle.flux_syntax.specs.ProgramOfText.{places, targeted}
 use Rattle.flux_names.proofs.programs.sites_of.Given as goal
 
 abbrev pub invariant-loop-decl : goal.invariant-loop-decl

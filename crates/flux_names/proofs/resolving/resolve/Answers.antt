@@ -1,6 +1,7 @@
 use Rattle.std.proofs.Common.{arith, sym, ap, subst, ◌∙◌}
-use Rattle.flux_names.specs.Rows.{rows, first_fault}
-use Rattle.flux_names.specs.ProgramOfText.{named_of}
+use Rattle.flux_syntax.specs.Least.{first_fault}
+use Rattle.flux_names.specs.Rows.{rows}
+use Rattle.flux_syntax.specs.ProgramOfText.{named_of}
 use Rattle.flux_model.specs.Leading.{IsNumbered}
 use Rattle.flux_names.proofs.Few.{few_names}
 use Rattle.flux_names.proofs.Numbers.{numbered}

@@ -1,5 +1,6 @@
 use Rattle.std.proofs.Common.{◌≡◌, length}
-use Rattle.flux_names.specs.Rows.{all_among, soonest}
+use Rattle.flux_syntax.specs.Least.{soonest}
+use Rattle.flux_names.specs.Rows.{all_among}
 use Rattle.flux_names.proofs.rows.in_words.Given as goal
 
 abbrev pub invariant-loop-rest : goal.invariant-loop-rest

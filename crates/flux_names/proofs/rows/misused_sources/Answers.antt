@@ -1,7 +1,7 @@
 use Rattle.std.proofs.Common.{None, true}
-use Rattle.flux_names.specs.Words.{inner}
+use Rattle.flux_syntax.specs.Words.{inner}
 use Rattle.flux_names.specs.Rows.{all_among}
-use Rattle.flux_names.proofs.Soonest.{soonest_flat}
+use Rattle.flux_syntax.proofs.Soonest.{soonest_flat}
 use Rattle.flux_names.proofs.rows.misused_sources.Goals as goal
 
 pub loop-rest-init : goal.loop-rest-init

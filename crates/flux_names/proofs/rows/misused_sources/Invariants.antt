@@ -1,8 +1,9 @@
 use Rattle.std.proofs.Common.{◌≡◌, None, true, length}
 use Rattle.std.specs.List.{flat_map}
-use Rattle.flux_names.specs.Words.{inner}
-use Rattle.flux_names.specs.Rows.{soonest, all_among}
-use Rattle.flux_names.proofs.Soonest.{soonest_all}
+use Rattle.flux_syntax.specs.Words.{inner}
+use Rattle.flux_syntax.specs.Least.{soonest}
+use Rattle.flux_names.specs.Rows.{all_among}
+use Rattle.flux_syntax.proofs.Soonest.{soonest_all}
 use Rattle.flux_names.proofs.rows.misused_sources.Given as goal
 
 abbrev pub invariant-loop-rest : goal.invariant-loop-rest

@@ -1,5 +1,5 @@
 use Rattle.std.proofs.Common.{◌≡◌, length}
-use Rattle.flux_names.specs.Words.{names_of, names_after}
+use Rattle.flux_syntax.specs.Words.{names_of, names_after}
 use Rattle.flux_names.proofs.rows.names_of.Given as goal
 
 abbrev pub invariant-loop-rest : goal.invariant-loop-rest

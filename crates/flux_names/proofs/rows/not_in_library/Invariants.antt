@@ -1,5 +1,6 @@
 use Rattle.std.proofs.Common.{◌≡◌, None, length}
-use Rattle.flux_names.specs.Rows.{not_in_library, soonest}
+use Rattle.flux_syntax.specs.Least.{soonest}
+use Rattle.flux_names.specs.Rows.{not_in_library}
 use Rattle.flux_names.proofs.rows.not_in_library.Given as goal
 
 abbrev pub invariant-loop-rest : goal.invariant-loop-rest

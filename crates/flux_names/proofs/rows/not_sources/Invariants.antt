@@ -1,7 +1,9 @@
 use Rattle.std.proofs.Common.{◌≡◌, None, false, length}
 use Rattle.std.specs.List.{flat_map}
-use Rattle.flux_names.specs.Words.{sourced}
-use Rattle.flux_names.specs.Rows.{listed, all_among, soonest}
+use Rattle.flux_syntax.specs.Words.{sourced}
+use Rattle.flux_syntax.specs.Words.{listed}
+use Rattle.flux_syntax.specs.Least.{soonest}
+use Rattle.flux_names.specs.Rows.{all_among}
 use Rattle.flux_names.proofs.rows.not_sources.Given as goal
 
 abbrev pub invariant-loop-rest : goal.invariant-loop-rest

@@ -1,5 +1,6 @@
 use Rattle.std.proofs.Common.{◌≡◌, None, length}
-use Rattle.flux_names.specs.Rows.{too_many, beyond_after, soonest}
+use Rattle.flux_syntax.specs.Least.{soonest}
+use Rattle.flux_names.specs.Rows.{too_many, beyond_after}
 use Rattle.flux_names.proofs.rows.too_many.Given as goal
 
 abbrev pub invariant-loop-rest : goal.invariant-loop-rest

@@ -1,6 +1,7 @@
 use Rattle.std.proofs.Common.{◌≡◌, [], length}
-use Rattle.flux_names.specs.Words.{naming}
-use Rattle.flux_names.specs.Rows.{twice_after, soonest}
+use Rattle.flux_syntax.specs.Words.{naming}
+use Rattle.flux_syntax.specs.Least.{soonest}
+use Rattle.flux_names.specs.Rows.{twice_after}
 use Rattle.flux_names.proofs.rows.twice_in_nodes.Given as goal
 
 abbrev pub invariant-loop-rest : goal.invariant-loop-rest

@@ -1,7 +1,8 @@
 use Rattle.std.proofs.Common.{◌≡◌, [], None, IfOk, sym, subst}
-use Rattle.flux_names.specs.Words.{naming, sourced}
-use Rattle.flux_names.specs.Rows.{twice_after, soonest}
-use Rattle.flux_names.proofs.Soonest.{soonest_append}
+use Rattle.flux_syntax.specs.Words.{naming, sourced}
+use Rattle.flux_syntax.specs.Least.{soonest}
+use Rattle.flux_names.specs.Rows.{twice_after}
+use Rattle.flux_syntax.proofs.Soonest.{soonest_append}
 use Rattle.flux_names.proofs.rows.twice_named.Goals as goal
 
 pub returns : goal.returns

@@ -1,7 +1,8 @@
 use Rattle.std.proofs.Common.{◌≡◌, IfOk, sym, subst}
 use Rattle.std.specs.List.{flat_map}
-use Rattle.flux_names.specs.Rows.{unknown_type, soonest}
-use Rattle.flux_names.proofs.Soonest.{soonest_append}
+use Rattle.flux_syntax.specs.Least.{soonest}
+use Rattle.flux_names.specs.Rows.{unknown_type}
+use Rattle.flux_syntax.proofs.Soonest.{soonest_append}
 use Rattle.flux_names.proofs.rows.unknown_in.Goals as goal
 
 pub returns-in_ok-place-in-Signature : goal.returns-in_ok-place-in-Signature

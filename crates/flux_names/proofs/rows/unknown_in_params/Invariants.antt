@@ -1,6 +1,7 @@
 use Rattle.std.proofs.Common.{◌≡◌, length}
 use Rattle.std.specs.List.{flat_map}
-use Rattle.flux_names.specs.Rows.{unknown_type, soonest}
+use Rattle.flux_syntax.specs.Least.{soonest}
+use Rattle.flux_names.specs.Rows.{unknown_type}
 use Rattle.flux_names.proofs.rows.unknown_in_params.Given as goal
 
 abbrev pub invariant-loop-rest : goal.invariant-loop-rest

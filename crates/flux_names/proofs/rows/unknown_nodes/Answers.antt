@@ -1,7 +1,8 @@
 use Rattle.std.proofs.Common.{◌++◌, None, false}
-use Rattle.flux_names.specs.Words.{sourced, inner}
-use Rattle.flux_names.specs.Rows.{listed, all_among}
-use Rattle.flux_names.proofs.Soonest.{soonest_flat}
+use Rattle.flux_syntax.specs.Words.{sourced, inner}
+use Rattle.flux_syntax.specs.Words.{listed}
+use Rattle.flux_names.specs.Rows.{all_among}
+use Rattle.flux_syntax.proofs.Soonest.{soonest_flat}
 use Rattle.flux_names.proofs.rows.unknown_nodes.Goals as goal
 
 pub loop-rest-init : goal.loop-rest-init

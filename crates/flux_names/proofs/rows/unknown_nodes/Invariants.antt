@@ -1,8 +1,10 @@
 use Rattle.std.proofs.Common.{◌≡◌, ◌++◌, None, false, length}
 use Rattle.std.specs.List.{flat_map}
-use Rattle.flux_names.specs.Words.{sourced, inner}
-use Rattle.flux_names.specs.Rows.{soonest, listed, all_among}
-use Rattle.flux_names.proofs.Soonest.{soonest_all}
+use Rattle.flux_syntax.specs.Words.{sourced, inner}
+use Rattle.flux_syntax.specs.Least.{soonest}
+use Rattle.flux_syntax.specs.Words.{listed}
+use Rattle.flux_names.specs.Rows.{all_among}
+use Rattle.flux_syntax.proofs.Soonest.{soonest_all}
 use Rattle.flux_names.proofs.rows.unknown_nodes.Given as goal
 
 abbrev pub invariant-loop-rest : goal.invariant-loop-rest

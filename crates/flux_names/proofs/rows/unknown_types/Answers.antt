@@ -1,6 +1,6 @@
 use Rattle.std.proofs.Common.{None}
 use Rattle.flux_names.specs.Rows.{unknown_in}
-use Rattle.flux_names.proofs.Soonest.{soonest_flat}
+use Rattle.flux_syntax.proofs.Soonest.{soonest_flat}
 use Rattle.flux_names.proofs.rows.unknown_types.Goals as goal
 
 pub loop-rest-init : goal.loop-rest-init

@@ -1,7 +1,8 @@
 use Rattle.std.proofs.Common.{◌≡◌, None, length}
 use Rattle.std.specs.List.{flat_map}
-use Rattle.flux_names.specs.Rows.{soonest, unknown_in}
-use Rattle.flux_names.proofs.Soonest.{soonest_all}
+use Rattle.flux_syntax.specs.Least.{soonest}
+use Rattle.flux_names.specs.Rows.{unknown_in}
+use Rattle.flux_syntax.proofs.Soonest.{soonest_all}
 use Rattle.flux_names.proofs.rows.unknown_types.Given as goal
 
 abbrev pub invariant-loop-rest : goal.invariant-loop-rest

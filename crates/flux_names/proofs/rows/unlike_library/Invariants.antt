@@ -1,5 +1,6 @@
 use Rattle.std.proofs.Common.{◌≡◌, None, length}
-use Rattle.flux_names.specs.Rows.{unlike_library, soonest}
+use Rattle.flux_syntax.specs.Least.{soonest}
+use Rattle.flux_names.specs.Rows.{unlike_library}
 use Rattle.flux_names.proofs.rows.unlike_library.Given as goal
 
 abbrev pub invariant-loop-rest : goal.invariant-loop-rest

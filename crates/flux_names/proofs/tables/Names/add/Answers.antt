@@ -1,6 +1,6 @@
 use Rattle.std.proofs.Common.{◌∙◌, map, ap}
 use Rattle.std.specs.Str.{bytes_eq}
-use Rattle.flux_names.specs.Tables.{with_name}
+use Rattle.flux_syntax.specs.Names.{with_name}
 use Rattle.flux_names.proofs.Keys.{any_map, added}
 use Rattle.flux_names.proofs.tables.Names.add.Goals as goal
 use Rattle.flux_names.proofs.tables.Names.add.Goals.{in-Ok, in-Err}

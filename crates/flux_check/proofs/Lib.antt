@@ -1,0 +1,10 @@
+pub mod Capped
+pub mod Sized
+pub mod Limits
+pub mod Rowless
+pub mod Spelled
+pub mod Numbered
+pub mod Soundness
+pub mod Places
+pub mod Judged
+pub mod Exclusive

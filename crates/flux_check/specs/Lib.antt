@@ -1,0 +1,4 @@
+pub mod Rows
+pub mod Judgement
+pub mod Summing
+pub mod Steps

@@ -1,0 +1,20 @@
+//! What checking gives.
+
+ghost use Rattle.flux_hoist.specs.Keeping.{Keeps};
+
+use flux_graph::Order;
+use flux_model::{Program, Sigs};
+use flux_values::List;
+
+/// A program that was checked, with what was found of it.
+#[derive(Debug, Drop)]
+pub struct Checked {
+    pub program: Program,
+    /// One signature for each node.
+    pub sigs: Sigs,
+    /// Each node once, after all that it leads to.
+    pub order: Order,
+    /// For each source how many events its flows have at most.
+    pub sizes: List<u32>,
+    ghost keeps: { ∥ Keeps program sigs.nodes order.nodes sizes ∥₁ },
+}

@@ -1,0 +1,100 @@
+-- The words of a text's declarations are names that stand in it.
+use Rattle.std.proofs.Common.{◌≡◌, ◌≤◌, ℕ, Bool, true, false, List, [], ◌∷◌, ◌++◌, length, map, refl, sym, subst, arith}
+use Rattle.std.specs.List.{AllByRecursion}
+use Rattle.flux_lexer.specs.declared.kinds.Token.{Token}
+use Rattle.flux_lexer.specs.declared.kinds.TokenKind.{TokenKind}
+use Rattle.flux_lexer.specs.declared.kinds.TokenKind.TheVariants.{Identifier, CloseParen, Arrow, Equals, Semicolon}
+use Rattle.flux_syntax.specs.declared.declarations.Word.{Word}
+use Rattle.flux_syntax.specs.declared.declarations.Param.{Param}
+use Rattle.flux_syntax.specs.declared.declarations.Decl.{Decl}
+use Rattle.flux_syntax.specs.declared.declarations.Decl.TheVariants.{Signature, Flow, Source, Typedef, Handler, Atomic, Session}
+use Rattle.flux_syntax.specs.Symbols.{Symbol, name, mark, is, symbol_of, Lies}
+use Rattle.flux_syntax.specs.Grammar.{More, Maybe, IsParam, AreParams, IsMember, IsDeclaration, IsProgram}
+use Rattle.flux_syntax.specs.Declares.{Declares}
+use Rattle.flux_syntax.specs.Standing.{StandsIn, fault_words, AllStandIn}
+use Rattle.flux_syntax.proofs.Backs.{IsGood, Good}
+use Rattle.flux_syntax.proofs.Formats.{good_parts}
+use Rattle.flux_syntax.proofs.Fitting.{fit}
+
+-- ---- from symbols to words
+
+module _ (W : Word → Type 0) where
+  abbrev Holds : Symbol → Type 0
+  Holds (name word) = W word
+  Holds (mark kind) = Unit {0}
+
+  abbrev AllHold : List Symbol → Type 0
+  AllHold symbols = AllByRecursion Holds symbols
+
+  abbrev AllWords : List Word → Type 0
+  AllWords words = AllByRecursion W words
+
+  split : (a b : List Symbol) → AllHold (a ++ b) → AllHold a × AllHold b
+  split [] b h = (tt, h)
+  split (s ∷ a) b h = let both = split a b h.1 in ((h.0, both.0), both.1)
+
+  joined : (a b : List Word) → AllWords a → AllWords b → AllWords (a ++ b)
+  joined [] b x y = y
+  joined (w ∷ a) b x y = (x.0, joined a b x.1 y)
+
+  more_words : {A : Type 0} (P : A → List Symbol → Type 0) (of : A → Word) (between : TokenKind) → ((x : A) (a : List Symbol) → P x a → AllHold a → W (of x)) → (xs : List A) (s : List Symbol) → More P between xs s → AllHold s → AllWords (map of xs)
+  more_words P of between each [] s m h = tt
+  more_words P of between each (x ∷ xs) s (a, b, same, p, m) h =
+      let both = split a b (subst AllHold same h).1 in (each x a p both.0, more_words P of between each xs b m both.1)
+
+  maybe_words : {A : Type 0} (P : A → List Symbol → Type 0) (of : A → Word) (between : TokenKind) → ((x : A) (a : List Symbol) → P x a → AllHold a → W (of x)) → (xs : List A) (s : List Symbol) → Maybe P between xs s → AllHold s → AllWords (map of xs)
+  maybe_words P of between each [] s m h = tt
+  maybe_words P of between each (x ∷ xs) s (a, b, same, p, m) h =
+      let both = split a b (subst AllHold same h) in (each x a p both.0, more_words P of between each xs b m both.1)
+
+  params_words : (params : List Param) (s : List Symbol) → AreParams params s → AllHold s → AllWords (map (λ param. param.ty) params)
+  params_words params s (a, same, m) h =
+      let inner = split a (mark CloseParen ∷ []) (subst AllHold same h).1 in
+      maybe_words IsParam (λ param. param.ty) _ (λ p b is g. (subst AllHold is g).0) params a m inner.0
+
+  members_are : (members : List Word) → AllWords (map (λ word. word) members) → AllWords members
+  members_are [] h = tt
+  members_are (w ∷ members) h = (h.0, members_are members h.1)
+
+  decl_words : (d : Decl) (s : List Symbol) → IsDeclaration d s → AllHold s → AllWords (fault_words d)
+  decl_words (Signature called ins outs) s (a, b, same, i, o) h =
+      let all = subst AllHold same h in
+      let first = split a (mark Arrow ∷ (b ++ mark Semicolon ∷ [])) all.1 in
+      let second = split b (mark Semicolon ∷ []) first.1.1 in
+      (all.0, joined (map (λ param. param.ty) ins) (map (λ param. param.ty) outs) (params_words ins a i first.0) (params_words outs b o second.0))
+  decl_words (Flow called patterns members) s (a, b, same, p, m) h =
+      let all = subst AllHold same h in
+      let first = split a (mark Equals ∷ (b ++ mark Semicolon ∷ [])) all.1 in
+      let second = split b (mark Semicolon ∷ []) first.1.1 in
+      (all.0, members_are members (maybe_words IsMember (λ word. word) _ (λ w c is g. (subst AllHold is g).0) members b m second.0))
+  decl_words (Source called target) s same h = let all = subst AllHold same h in (all.1.0, (all.1.1.1.0, tt))
+  decl_words (Typedef called function) s same h = let all = subst AllHold same h in (all.1.0, tt)
+  decl_words (Handler node handler) s same h = let all = subst AllHold same h in (all.1.1.0, tt)
+  decl_words (Atomic node constraints) s (a, same, listed) h = let all = subst AllHold same h in (all.1.0, tt)
+  decl_words (Session source function) s same h = let all = subst AllHold same h in (all.1.0, tt)
+
+  program_words : (decls : List Decl) (s : List Symbol) → IsProgram decls s → AllHold s → AllByRecursion (λ d. AllWords (fault_words d)) decls
+  program_words [] s p h = tt
+  program_words (d ∷ decls) s (a, b, same, p, more) h = let both = split a b (subst AllHold same h) in (decl_words d a p both.0, program_words decls b more both.1)
+
+-- ---- the tokens of a text
+
+symbol_stands : (text : List ℕ) (token : Token) → Lies text token → IsGood (symbol_of text token) → Holds (StandsIn text) (symbol_of text token)
+symbol_stands text token lies good = one (is Identifier token.kind) refl
+  where
+    one : (t : Bool) → is Identifier token.kind ≡ t → Holds (StandsIn text) (symbol_of text token)
+    one true e = rw e (record { name = (let h : IsGood (symbol_of text token) = good in rw e at h); within = omega (arith, lies.rising, lies.within) })
+    one false e = rw e tt
+
+symbols_stand : (text : List ℕ) (tokens : List Token) → AllByRecursion (Lies text) tokens → Good (map (symbol_of text) tokens) → AllHold (StandsIn text) (map (symbol_of text) tokens)
+symbols_stand text [] lie good = tt
+symbols_stand text (token ∷ tokens) lie good = (symbol_stands text token lie.0 good.0, symbols_stand text tokens lie.1 good.1)
+
+pub all_stand : (decls : List Decl) (text : List ℕ) → Declares decls text → AllStandIn text decls
+all_stand decls text d =
+    let fits = fit text d.tokens d.are in
+    let good : Good (map (symbol_of text) d.tokens) = subst (λ (ts : List Token). Good (map (symbol_of text) ts)) (sym d.are.are) (good_parts text 0 d.are.parts d.are.laid) in
+    program_words (StandsIn text) decls (map (symbol_of text) d.tokens) d.spelled (symbols_stand text d.tokens fits.lie good)
+
+pub text_few : (decls : List Decl) (text : List ℕ) → Declares decls text → length text ≤ 1048576
+text_few decls text d = d.are.few

@@ -1,0 +1,4 @@
+pub mod Looking
+pub mod Written
+pub mod AlongDecls
+pub mod Answered
