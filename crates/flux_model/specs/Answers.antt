@@ -1,41 +1,51 @@
--- Whether the calls of a journal have their nodes' answers.
-use Rattle.std.specs.Prelude.{◌≡◌, ℕ, List, slice_get, Option, Some, None}
-use Rattle.std.specs.List.{AllByRecursion}
-use Rattle.flux_values.specs.declared.values.Value.{Value}
+-- Whether calls have the answers of their nodes, on the cells that earlier calls left.
+use Rattle.std.specs.Prelude.{◌≡◌, ℕ, List, [], map, Option, Some, None}
+use Rattle.std.specs.List.{slice_get}
 use Rattle.flux_values.specs.declared.answers.Answer.{Answer}
-use Rattle.flux_model.specs.declared.programs.Program.{Program}
+use Rattle.flux_values.specs.declared.meanings.Sig.{Sig}
+use Rattle.flux_values.specs.Cells.{CellMap, no_cell}
 use Rattle.flux_model.specs.declared.programs.Node.{Node}
 use Rattle.flux_model.specs.declared.programs.Body.{Body}
 use Rattle.flux_model.specs.declared.programs.Body.TheVariants.{Concrete, Abstract}
 use Rattle.flux_model.specs.declared.journals.CallMade.{CallMade}
 use Rattle.flux_model.specs.declared.journals.Event.{Event}
-use Rattle.flux_model.specs.declared.journals.Event.TheVariants.{Take, Wait, Enter, Choose, Call, Exit, Drop, End}
-use Rattle.flux_model.specs.declared.journals.Journal.{Journal}
+use Rattle.flux_model.specs.declared.journals.Event.TheVariants.{Call}
+use Rattle.flux_model.specs.declared.journals.Entry.{Entry}
+use Rattle.flux_model.specs.declared.journals.FlowNo.{FlowNo}
+use Rattle.flux_model.specs.declared.journals.Key.{Key}
+use Rattle.flux_model.specs.Setup.{Setup}
+use Rattle.flux_model.specs.Keys.{Cells}
+use Rattle.flux_model.specs.CellsAfter.{cell_key, cells_after}
+use Rattle.flux_model.specs.Events.{Stands}
 
--- the answer of a library's node on values, which no form that is built lets depend on cells yet
-abbrev pub Answering : Type 0
-Answering = List ℕ → List Value → Answer
+-- the cell under a key
+abbrev pub cell_at : Cells → Option Key → CellMap
+cell_at cells None = no_cell
+cell_at cells (Some key) = cells key
 
--- the answer of a concrete node is that of its library node
-abbrev pub IsBodyAnswer : Answering → Body → CallMade → Type 0
-IsBodyAnswer answering (Concrete name) made = made.answer ≡ answering name made.args
-IsBodyAnswer answering (Abstract cases) made = ⊥
+-- one cell for each cell use of a library node, in order: that of the flow's key under the use's name
+abbrev pub cells_for : Setup → ℕ → ℕ → Cells → Option Sig → List CellMap
+cells_for setup flow node cells None = []
+cells_for setup flow node cells (Some sig) =
+    map (λ cell. cell_at cells (cell_key setup flow node cell.name)) sig.cells
 
-abbrev pub IsNodeAnswer : Answering → Option Node → CallMade → Type 0
-IsNodeAnswer answering None made = ⊥
-IsNodeAnswer answering (Some node) made = IsBodyAnswer answering node.body made
+-- the answer of a library node on a call's arguments and on cells
+abbrev pub answer_of : Setup → ℕ → Cells → List ℕ → CallMade → Answer
+answer_of setup flow cells name made = setup.meaning.call name made.args
+    (cells_for setup flow made.node.0 cells (setup.meaning.node name))
 
--- a call has its node's answer; other events answer nothing
-abbrev pub IsRight : Answering → Program → Event → Type 0
-IsRight answering p (Call made) = IsNodeAnswer answering (slice_get p.nodes made.node.0) made
-IsRight answering p (Take key mode) = Unit {0}
-IsRight answering p (Wait key mode) = Unit {0}
-IsRight answering p (Enter node) = Unit {0}
-IsRight answering p (Choose place) = Unit {0}
-IsRight answering p (Exit node outcome) = Unit {0}
-IsRight answering p (Drop key) = Unit {0}
-IsRight answering p (End outcome) = Unit {0}
+-- a call's answer is that of its concrete node's library node
+abbrev pub IsBodyAnswer : Setup → ℕ → Cells → Body → CallMade → Type 0
+IsBodyAnswer setup flow cells (Concrete name) made = made.answer ≡ answer_of setup flow cells name made
+IsBodyAnswer setup flow cells (Abstract cases) made = ⊥
 
--- each call of the journal has its node's answer
-abbrev pub AreAnswersRight : Answering → Program → Journal → Type 0
-AreAnswersRight answering p journal = AllByRecursion (λ entry. IsRight answering p entry.event) journal.entries
+abbrev pub IsNodeAnswer : Setup → ℕ → Cells → Option Node → CallMade → Type 0
+IsNodeAnswer setup flow cells None made = ⊥
+IsNodeAnswer setup flow cells (Some node) made = IsBodyAnswer setup flow cells node.body made
+
+-- each call has its node's answer on the cells after the entries before it
+abbrev pub AreAnswersRight : Setup → List Entry → Type 0
+AreAnswersRight setup entries = (before after : List Entry) (flow : FlowNo) (made : CallMade)
+    → Stands entries before flow (Call made) after
+    → IsNodeAnswer setup flow.0 (cells_after setup before)
+    (slice_get setup.program.nodes made.node.0) made

@@ -1,31 +1,23 @@
 -- The children of nodes, and what is below a node.
-use Rattle.std.specs.Prelude.{◌≡◌, ℕ, ◌⊎◌, List, [], ◌∷◌, Option, Some, None}
+use Rattle.std.specs.Prelude.{◌≡◌, ℕ, ◌⊎◌, List, [], ◌∷◌}
 use Rattle.std.specs.List.{slice_get}
 use Rattle.flux_model.specs.declared.programs.NodeNo.{NodeNo}
-use Rattle.flux_model.specs.declared.programs.Node.{Node}
 use Rattle.flux_model.specs.declared.programs.Program.{Program}
-use Rattle.flux_model.specs.Leading.{members_of, handler_of, leads_to}
+use Rattle.flux_model.specs.Leading.{members_of, handlers_of, numbers_of}
 
 -- a number is among numbers
 abbrev pub IsIn : ℕ → List NodeNo → Type 0
 IsIn number [] = ⊥
 IsIn number (other ∷ numbers) = (number ≡ other.0) ⊎ IsIn number numbers
 
--- what a node's number has, if there is such a node
-abbrev pub numbers_of : (Node → List NodeNo) → Option Node → List NodeNo
-numbers_of of None = []
-numbers_of of (Some node) = of node
-
+-- the members of the node of a number, and its handlers
 abbrev pub members : Program → ℕ → List NodeNo
 members p number = numbers_of (λ node. members_of node.body) (slice_get p.nodes number)
 
 abbrev pub handlers : Program → ℕ → List NodeNo
-handlers p number = numbers_of (λ node. handler_of node.on_fail) (slice_get p.nodes number)
+handlers p number = numbers_of (λ node. handlers_of node.on_fail) (slice_get p.nodes number)
 
-abbrev pub leads : Program → ℕ → List NodeNo
-leads p number = numbers_of leads_to (slice_get p.nodes number)
-
--- each is the handler of the one before it, from a node to another
+-- each is a handler of the one before it, from a node to another
 abbrev pub AreHandlers : Program → ℕ → List ℕ → ℕ → Type 0
 AreHandlers p from [] to = from ≡ to
 AreHandlers p from (next ∷ others) to = IsIn next (handlers p from) × AreHandlers p next others to

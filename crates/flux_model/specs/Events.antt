@@ -1,21 +1,22 @@
 -- What a flow has done in a journal, and what it does next.
-use Rattle.std.specs.Prelude.{◌≡◌, ℕ, ◌<◌, ◌==◌, if◌then◌else◌, List, [], ◌∷◌, ◌++◌, length, slice_get, Some}
-use Rattle.std.specs.List.{flat_map, AllByRecursion}
+use Rattle.std.specs.Prelude.{◌≡◌, ◌≢◌, ℕ, ◌<◌, ◌==◌, if◌then◌else◌, List, [], ◌∷◌, ◌++◌, length}
+use Rattle.std.specs.List.{flat_map, AllByRecursion, Contains}
 use Rattle.flux_values.specs.declared.values.Value.{Value}
 use Rattle.flux_values.specs.declared.answers.Answer.{Answer}
-use Rattle.flux_model.specs.declared.programs.Program.{Program}
 use Rattle.flux_model.specs.declared.programs.NodeNo.{NodeNo}
+use Rattle.flux_model.specs.declared.journals.Outcome.{Outcome}
 use Rattle.flux_model.specs.declared.journals.Event.{Event}
 use Rattle.flux_model.specs.declared.journals.Event.TheVariants.{Take, Wait, Enter, Choose, Call, Exit, Drop, End}
 use Rattle.flux_model.specs.declared.journals.Entry.{Entry}
-use Rattle.flux_model.specs.declared.journals.Journal.{Journal}
-use Rattle.flux_model.specs.declared.journals.Item.{Item}
-use Rattle.flux_model.specs.Walk.{flow_events, IsFinished}
+use Rattle.flux_model.specs.declared.journals.FlowNo.{FlowNo}
+use Rattle.flux_model.specs.Setup.{Setup}
+use Rattle.flux_model.specs.Walk.{before_call}
+use Rattle.flux_model.specs.Flows.{flow_walk, flow_events, IsFinished}
 
 -- an event, unless it is a wait
 abbrev pub unless_wait : Event → List Event
-unless_wait (Take key mode) = Take key mode ∷ []
 unless_wait (Wait key mode) = []
+unless_wait (Take key mode) = Take key mode ∷ []
 unless_wait (Enter node) = Enter node ∷ []
 unless_wait (Choose place) = Choose place ∷ []
 unless_wait (Call made) = Call made ∷ []
@@ -37,33 +38,44 @@ answer_in (End outcome) = []
 -- the events of one flow, in order
 abbrev pub events_by : ℕ → List Entry → List Event
 events_by flow [] = []
-events_by flow (entry ∷ entries) = if entry.flow.0 == flow then entry.event ∷ events_by flow entries else events_by flow entries
+events_by flow (entry ∷ entries) =
+    if entry.flow.0 == flow then entry.event ∷ events_by flow entries else events_by flow entries
 
--- a flow's events in a journal, without its waits
-abbrev pub own_events : Journal → ℕ → List Event
-own_events journal flow = flat_map unless_wait (events_by flow journal.entries)
+-- a flow's own events, without its waits
+abbrev pub own_events : List Entry → ℕ → List Event
+own_events entries flow = flat_map unless_wait (events_by flow entries)
 
 -- the answers in its calls
-abbrev pub own_answers : Journal → ℕ → List Answer
-own_answers journal flow = flat_map answer_in (events_by flow journal.entries)
+abbrev pub own_answers : List Entry → ℕ → List Answer
+own_answers entries flow = flat_map answer_in (events_by flow entries)
 
--- the flow's next event, by the walk on its own answers
-abbrev pub IsNext : Program → Item → Journal → ℕ → Event → Type 0
-IsNext p item journal flow event =
-    (rest : List Event) × (flow_events p item (own_answers journal flow) ≡ own_events journal flow ++ event ∷ rest)
+-- the flow has followed its walk, so far as its own answers go
+pub record FollowsWalk (setup : Setup) (entries : List Entry) (flow : ℕ) : Type 0 where
+  pub rest : List Event
+  pub prefix : flow_events setup flow (own_answers entries flow) ≡ own_events entries flow ++ rest
 
--- the flow's next event is a call of a node on these values: its walk stops exactly there, for want of an answer
-pub record CallIsNext (p : Program) (item : Item) (journal : Journal) (flow : ℕ) (node : NodeNo) (args : List Value) : Type 0 where
-  pub stops : flow_events p item (own_answers journal flow) ≡ own_events journal flow
-  pub goes_on : (answer : Answer) → (rest : List Event) × (flow_events p item (own_answers journal flow ++ answer ∷ [])
-      ≡ own_events journal flow ++ Call (record { node = node; args = args; answer = answer }) ∷ rest)
+-- the flow's next event, by its walk on its own answers
+pub record IsNext (setup : Setup) (entries : List Entry) (flow : ℕ) (event : Event) : Type 0 where
+  pub rest : List Event
+  pub next : flow_events setup flow (own_answers entries flow) ≡ own_events entries flow ++ event ∷ rest
+
+-- the flow's next event is a call of a node on these values: its walk on its own answers stops exactly there
+pub record CallIsNext (setup : Setup) (entries : List Entry) (flow : ℕ) (node : NodeNo) (args : List Value)
+    : Type 0 where
+  pub all : flow_events setup flow (own_answers entries flow) ≡ own_events entries flow
+  pub stops : let walked = flow_walk setup flow (own_answers entries flow) in walked.stop ≡ before_call node args
+
+-- an entry stands in a list, behind these and before those
+abbrev pub Stands : List Entry → List Entry → FlowNo → Event → List Entry → Type 0
+Stands entries before flow event after =
+    entries ≡ before ++ record { flow = flow; event = event } ∷ after
+
+-- an item's flow is live as long as it has no `end`
+pub record IsLive (setup : Setup) (entries : List Entry) (flow : ℕ) : Type 0 where
+  pub item : flow < length setup.items
+  pub goes_on : (outcome : Outcome) → Contains (events_by flow entries) (End outcome) → ⊥
 
 -- the flow is one whole path: all of its finished walk on its own answers
-pub record IsWholePath (p : Program) (item : Item) (journal : Journal) (flow : ℕ) : Type 0 where
-  pub finished : IsFinished p item (own_answers journal flow)
-  pub all : own_events journal flow ≡ flow_events p item (own_answers journal flow)
-
--- each item's flow is one whole path, and there are no other flows
-pub record IsWhole (p : Program) (items : List Item) (journal : Journal) : Type 0 where
-  pub paths : (flow : ℕ) (item : Item) → slice_get items flow ≡ Some item → IsWholePath p item journal flow
-  pub flows : AllByRecursion (λ entry. entry.flow.0 < length items) journal.entries
+pub record IsWholePath (setup : Setup) (entries : List Entry) (flow : ℕ) : Type 0 where
+  pub finished : IsFinished setup flow (own_answers entries flow)
+  pub all : own_events entries flow ≡ flow_events setup flow (own_answers entries flow)

@@ -4,7 +4,7 @@ use crate::programs::{ClassNo, NodeNo, SourceNo};
 use flux_values::{Answer, List, Mode, Value};
 
 /// A flow, by its item's place among the items.
-#[derive(Clone, Copy, Debug, PartialEq, Eq)]
+#[derive(Clone, Copy, Debug, PartialEq, Eq, PartialOrd, Ord, Hash)]
 pub struct FlowNo(pub u32);
 
 /// What starts one flow: the values that a source gives.
@@ -15,7 +15,7 @@ pub struct Item {
 }
 
 /// What is locked: a class, for a session class with the session's number.
-#[derive(Clone, Copy, Debug, PartialEq, Eq)]
+#[derive(Clone, Copy, Debug, PartialEq, Eq, PartialOrd, Ord, Hash)]
 pub struct Key {
     pub class: ClassNo,
     pub id: Option<u64>,

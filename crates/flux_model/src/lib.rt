@@ -14,5 +14,8 @@ mod tests;
 pub use flux_values::{Answer, CallResult, Cell, Mode, Put};
 pub use journals::{CallMade, Entry, Event, FlowNo, Item, Journal, Key, Outcome};
 pub use named::{Named, Sites};
-pub use programs::{Body, Case, Class, ClassNo, Hold, Node, NodeNo, Program, SourceLine, SourceNo};
+pub use programs::{
+    Body, COUNT_LIMIT, Case, Class, ClassNo, HandleArm, Hold, Node, NodeNo, Program, SourceLine,
+    SourceNo,
+};
 pub use signatures::{NodeSig, Sigs, TypeText};

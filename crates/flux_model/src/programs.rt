@@ -2,10 +2,14 @@
 
 ghost use Rattle.std.specs.Prelude.{◌≡◌, ◌++◌, IfOk, OnOk};
 ghost use Rattle.std.specs.List.{flat_map};
-ghost use Rattle.flux_model.specs.Leading.{members_of, handler_of, leads_to};
+ghost use Rattle.flux_model.specs.Leading.{members_of, handlers_of, leads_to};
 
 use flux_values::{List, Memory, Mode, TextBytes};
 use std::alloc::Global;
+
+/// The most classes, nodes, source lines and predicates of a program each, and the most cases and members of a
+/// node together.
+pub const COUNT_LIMIT: usize = 1_048_576;
 
 /// A node of a program, by its place among the nodes.
 #[derive(Clone, Copy, Debug, PartialEq, Eq)]
@@ -16,7 +20,7 @@ pub struct NodeNo(pub u32);
 pub struct SourceNo(pub u32);
 
 /// A constraint class of a program, by its place among the classes.
-#[derive(Clone, Copy, Debug, PartialEq, Eq)]
+#[derive(Clone, Copy, Debug, PartialEq, Eq, PartialOrd, Ord, Hash)]
 pub struct ClassNo(pub u32);
 
 /// A constraint name with its scope: the whole program, or one session.
@@ -46,10 +50,18 @@ pub struct Program {
 pub struct Node {
     pub name: TextBytes,
     pub body: Body,
-    /// The handler of the node's failures.
-    pub on_fail: Option<NodeNo>,
+    /// The handlers of the node's failures, by their codes.
+    pub on_fail: List<HandleArm>,
     /// The constraints that the node itself declares.
     pub declared: List<Hold>,
+}
+
+/// A handler for codes. No codes at all mean every code that no other arm of the node names.
+#[derive(Debug, Drop)]
+pub struct HandleArm {
+    /// From 1 to 256, where 256 is the failure of a flow none of whose cases matches.
+    pub codes: List<u16>,
+    pub node: NodeNo,
 }
 
 /// What a node does: a call of the library's node of that name, or the first case that matches.
@@ -76,59 +88,50 @@ pub struct SourceLine {
     pub session: Option<TextBytes>,
 }
 
-fn push_all(numbers: &[NodeNo], all: &mut List<NodeNo>) -> Result<(), Memory>
-    ensures { OnOk result (all.new ≡ all.old ++ numbers.now) }
+fn add_all(led: &mut List<NodeNo>, numbers: &[NodeNo]) -> Result<(), Memory>
+    ensures { OnOk result (led.new ≡ led.old ++ numbers.now) }
 {
-    let mut rest = numbers;
-    while let [number, others @ ..] = rest {
-        if all.push(*number).is_err() {
-            return Err(Memory);
-        }
-        rest = others;
+    for number in numbers {
+        led.add(*number)?;
     }
     Ok(())
 }
 
-fn push_members(body: &Body, all: &mut List<NodeNo>) -> Result<(), Memory>
-    ensures { OnOk result (all.new ≡ all.old ++ members_of body.now) }
+fn add_members(led: &mut List<NodeNo>, body: &Body) -> Result<(), Memory>
+    ensures { OnOk result (led.new ≡ led.old ++ members_of body.now) }
 {
     match body {
         Body::Concrete(_) => Ok(()),
-        Body::Abstract(cases) => push_cases(cases.as_slice(), all),
+        Body::Abstract(cases) => add_cases(led, cases.as_slice()),
     }
 }
 
-fn push_cases(cases: &[Case], all: &mut List<NodeNo>) -> Result<(), Memory>
-    ensures { OnOk result (all.new ≡ all.old ++ flat_map (λ case. case.members) cases.now) }
+fn add_cases(led: &mut List<NodeNo>, cases: &[Case]) -> Result<(), Memory>
+    ensures { OnOk result (led.new ≡ led.old ++ flat_map (λ case. case.members) cases.now) }
 {
-    let mut rest = cases;
-    while let [case, others @ ..] = rest {
-        push_all(case.members.as_slice(), all)?;
-        rest = others;
+    for case in cases {
+        add_all(led, case.members.as_slice())?;
     }
     Ok(())
 }
 
-fn push_handler(handler: Option<NodeNo>, all: &mut List<NodeNo>) -> Result<(), Memory>
-    ensures { OnOk result (all.new ≡ all.old ++ handler_of handler) }
+fn add_handlers(led: &mut List<NodeNo>, arms: &[HandleArm]) -> Result<(), Memory>
+    ensures { OnOk result (led.new ≡ led.old ++ handlers_of arms.now) }
 {
-    let Some(handler) = handler else {
-        return Ok(());
-    };
-    match all.push(handler) {
-        Ok(()) => Ok(()),
-        Err(_) => Err(Memory),
+    for arm in arms {
+        led.add(arm.node)?;
     }
+    Ok(())
 }
 
 impl Node {
-    /// What the node leads to: the members of its cases, in order, and its handler.
+    /// What the node leads to: the members of its cases, and then its handlers, in order.
     pub fn leads_to(&self, alloc: Global) -> Result<List<NodeNo>, Memory>
         ensures { IfOk result (λ led. led ≡ leads_to self.now) }
     {
         let mut led = List::new(alloc);
-        push_members(&self.body, &mut led)?;
-        push_handler(self.on_fail, &mut led)?;
+        add_members(&mut led, &self.body)?;
+        add_handlers(&mut led, self.on_fail.as_slice())?;
         Ok(led)
     }
 }

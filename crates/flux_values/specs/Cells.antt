@@ -4,13 +4,17 @@ use Rattle.std.specs.declared.cmp.Ordering.{Ordering}
 use Rattle.std.specs.declared.cmp.Ordering.TheVariants.{Less, Equal, Greater}
 use Rattle.std.specs.Ordering.{nat_cmp, eq_by_cmp}
 use Rattle.std.specs.Cmp.Lexicographic.{slice_cmp}
-use Rattle.std.specs.FinMap.{FinMap, insert, remove, is_sorted, put}
+use Rattle.std.specs.FinMap.{FinMap, empty, insert, remove, is_sorted, put}
 use Rattle.std.specs.FinMap.Entries.{where_key}
 use Rattle.flux_values.specs.declared.values.Value.{Value}
 
 -- texts to values
 abbrev pub CellMap : Type 0
 CellMap = FinMap (slice_cmp nat_cmp) Value
+
+-- the cell without names
+abbrev pub no_cell : CellMap
+no_cell = empty
 
 -- a name set to a value, or removed where there is none
 abbrev pub changed : CellMap → List ℕ → Option Value → CellMap

@@ -1,6 +1,7 @@
 //! Why a call of this crate answers no value.
 
 ghost use Rattle.std.specs.Prelude.{◌≡◌};
+ghost use Rattle.flux_values.specs.declared.failures.ValueFault.TheVariants as faults;
 
 use std::alloc::{AllocError, AllocFailed};
 
@@ -36,4 +37,12 @@ pub enum ValueFault {
     /// A text's spelling goes past 65,536 bytes.
     TooLong { at: usize },
     Memory,
+}
+
+impl From<Memory> for ValueFault {
+    ghost from_gives = { λ _ fault. fault ≡ faults.Memory };
+
+    fn from(_memory: Memory) -> ValueFault {
+        ValueFault::Memory
+    }
 }

@@ -1,9 +1,15 @@
 //! A list that contracts see as a list.
 
-ghost use Rattle.std.specs.Prelude.{◌≡◌, ◌<◌, [], ◌∷◌, ◌++◌, length, slice_set, OnOk, IfErr, OnErr, IfSome, IsNone, OnSome, IfNone, ◌↔◌};
+ghost use Rattle.std.specs.Prelude.{◌≡◌, ◌<◌, ◌^◌, [], ◌∷◌, ◌++◌, length, slice_get, slice_set, OnOk, IfErr, OnErr, IfSome, IsNone, OnSome, IfNone, IsTrue, ◌↔◌};
+ghost use Rattle.std.specs.Prelude.{◌-◌, option_copied};
+ghost use Rattle.std.specs.Slice.Iter.{iter_rest, iter_steps};
+ghost use Rattle.std.specs.Iterator.Adapters.{IterYieldsInOrder};
+ghost use Rattle.std.specs.Iterator.Runs.{EveryRun, ItemsMapTo};
 
+use crate::failures::Memory;
 use std::alloc::Global;
 use std::marker::Model;
+use std::slice::Iter;
 
 /// Items in order.
 #[derive(Debug, Drop)]
@@ -55,6 +61,41 @@ impl<T> List<T> {
     {
         self.items.as_slice()
     }
+
+    pub fn len(&self) -> usize
+        ensures { result ≡ length self.now }
+    {
+        self.items.len()
+    }
+
+    pub fn is_empty(&self) -> bool
+        ensures { IsTrue result ↔ (self.now ≡ []) }
+    {
+        self.items.is_empty()
+    }
+
+    /// The item at a place, from 0.
+    pub fn get(&self, place: usize) -> Option<&T>
+        ensures { option_copied result ≡ slice_get self.now place }
+    {
+        self.items.get(place)
+    }
+
+    pub fn last(&self) -> Option<&T>
+        ensures { option_copied result ≡ slice_get self.now (length self.now - 1) }
+    {
+        self.items.last()
+    }
+}
+
+impl<T: Drop> List<T> {
+    /// Adds an item at the end, and lets it go where memory is short.
+    pub fn add(&mut self, item: T) -> Result<(), Memory>
+        ensures added { OnOk result (self.new ≡ self.old ++ item ∷ []) }
+        ensures unchanged { OnErr result (self.new ≡ self.old) }
+    {
+        Ok(self.items.push(item)?)
+    }
 }
 
 impl<T: Drop> List<T> {
@@ -64,5 +105,29 @@ impl<T: Drop> List<T> {
         ensures { self.new ≡ slice_set self.old place item }
     {
         self.items[place] = item;
+    }
+}
+
+impl<T> List<T> {
+    /// The items in order.
+    pub fn iter(&self) -> Iter<'_, T>
+        ensures rest { iter_rest result ≡ self.now }
+        ensures bound { length (iter_rest result) < 2 ^ 64 }
+        ensures runs { IterYieldsInOrder T }
+    {
+        self.items.as_slice().iter()
+    }
+}
+
+impl<'a, T> IntoIterator for &'a List<T> {
+    type Item = &'a T;
+
+    type IntoIter = Iter<'a, T>;
+
+    ghost into_iter_gives = { λ l r. (iter_rest r ≡ l.now) × (length (iter_rest r) < 2 ^ 64)
+        × EveryRun (iter_steps {A = T}) (λ p. ItemsMapTo p (λ y. y.now) (iter_rest p.from)) };
+
+    fn into_iter(self) -> Iter<'a, T> {
+        self.iter()
     }
 }

@@ -30,26 +30,9 @@ pub struct Sig {
     pub role: Role,
 }
 
-/// What a library means. It has no call: programs over a library say by its members what they promise.
+/// What a library means. It has no call: programs over a library say by its member what they promise.
 pub trait Meaning {
-    ghost use Rattle.std.specs.Prelude.{ℕ, Bool, List, Option};
-    ghost use Rattle.flux_values.specs.declared.values.Kind.{Kind};
-    ghost use Rattle.flux_values.specs.declared.values.Value.{Value};
-    ghost use Rattle.flux_values.specs.declared.answers.Answer.{Answer};
-    ghost use Rattle.flux_values.specs.declared.meanings.Sig.{Sig};
-    ghost use Rattle.flux_values.specs.Cells.{CellMap};
+    ghost use Rattle.flux_values.specs.Meanings.{LibraryMeaning};
 
-    ghost kind_of: { Self → List ℕ → Option Kind };
-
-    ghost sig_of: { Self → List ℕ → Option Sig };
-
-    ghost predicate_of: { Self → List ℕ → Option Kind };
-
-    ghost session_of: { Self → List ℕ → Option (List Kind) };
-
-    ghost call_of: { Self → List ℕ → List Value → List CellMap → Answer };
-
-    ghost test_of: { Self → List ℕ → Value → Bool };
-
-    ghost id_of: { Self → List ℕ → List Value → ℕ };
+    ghost meaning: { Self → LibraryMeaning };
 }
