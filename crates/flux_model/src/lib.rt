@@ -5,6 +5,7 @@
 #![tactic(auto)]
 
 mod journals;
+mod modes;
 mod named;
 mod programs;
 mod signatures;
@@ -13,6 +14,7 @@ mod tests;
 
 pub use flux_values::{Answer, CallResult, Cell, Mode, Put};
 pub use journals::{CallMade, Entry, Event, FlowNo, Item, Journal, Key, Outcome};
+pub use modes::{at_least, class_order, conflict};
 pub use named::{Named, Sites};
 pub use programs::{
     Body, COUNT_LIMIT, Case, Class, ClassNo, HandleArm, Hold, Node, NodeNo, Program, SourceLine,
