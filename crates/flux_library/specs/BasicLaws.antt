@@ -10,14 +10,14 @@ use Rattle.flux_values.specs.declared.values.Value.{Value}
 use Rattle.flux_values.specs.declared.values.Value.TheVariants as values
 use Rattle.flux_values.specs.Values.{kind_of}
 use Rattle.flux_values.specs.Reading.{IsValue}
-use Rattle.flux_library.specs.Libraries.{IsLawful}
-use Rattle.flux_library.specs.Basics.{basic_kind, basic_sig, basic_call, text_of, shown}
+use Rattle.flux_library.specs.Libraries.{IsLawfulNode, IsLawful}
+use Rattle.flux_library.specs.Basics.{basic_kind, basic_sig, basic_call, basic_meaning, text_of, shown}
 
 is_word : (ty word : List ℕ) → bytes_eq ty word ≡ true → length word ≤ 65536 → length ty ≤ 65536
 is_word ty word e le = subst (λ (l : List ℕ). length l ≤ 65536) (sym ((bytes_eq-Decides ty word).0 e)) le
 
-pub basic_short : {S : Type 0} (library : S) (ty : List ℕ) → IfSome (basic_kind ty) (λ _. length ty ≤ 65536)
-basic_short library ty = cases (bytes_eq ty (codes "int")) refl (bytes_eq ty (codes "long")) refl (bytes_eq ty (codes "bool")) refl (bytes_eq ty (codes "text")) refl (bytes_eq ty (codes "char*")) refl
+types_short : (ty : List ℕ) → IfSome (basic_kind ty) (λ _. length ty ≤ 65536)
+types_short ty = cases (bytes_eq ty (codes "int")) refl (bytes_eq ty (codes "long")) refl (bytes_eq ty (codes "bool")) refl (bytes_eq ty (codes "text")) refl (bytes_eq ty (codes "char*")) refl
   where
     cases : (a : Bool) → bytes_eq ty (codes "int") ≡ a → (b : Bool) → bytes_eq ty (codes "long") ≡ b → (c : Bool) → bytes_eq ty (codes "bool") ≡ c → (d : Bool) → bytes_eq ty (codes "text") ≡ d → (e : Bool) → bytes_eq ty (codes "char*") ≡ e
         → IfSome (basic_kind ty) (λ _. length ty ≤ 65536)
@@ -53,17 +53,20 @@ shown_short (v ∷ w ∷ more) kinds_ all = omega arith
 
 -- ---- nodes
 
-pub basic_lawful : {S : Type 0} (library : S) (name : List ℕ) → IsLawful (basic_sig name) (basic_call name)
-basic_lawful library name = cases (bytes_eq name (codes "Tick")) refl (bytes_eq name (codes "Listen")) refl (bytes_eq name (codes "Pass")) refl (bytes_eq name (codes "Echo")) refl (bytes_eq name (codes "Show")) refl
+nodes_lawful : (name : List ℕ) → IsLawfulNode (basic_sig name) (basic_call name)
+nodes_lawful name = cases (bytes_eq name (codes "Tick")) refl (bytes_eq name (codes "Listen")) refl (bytes_eq name (codes "Pass")) refl (bytes_eq name (codes "Echo")) refl (bytes_eq name (codes "Show")) refl
   where
-    named : (word : List ℕ) → bytes_eq name word ≡ true → IsLawful (basic_sig word) (basic_call word) → IsLawful (basic_sig name) (basic_call name)
-    named word e law = subst (λ (n : List ℕ). IsLawful (basic_sig n) (basic_call n)) (sym ((bytes_eq-Decides name word).0 e)) law
+    named : (word : List ℕ) → bytes_eq name word ≡ true → IsLawfulNode (basic_sig word) (basic_call word) → IsLawfulNode (basic_sig name) (basic_call name)
+    named word e law = subst (λ (n : List ℕ). IsLawfulNode (basic_sig n) (basic_call n)) (sym ((bytes_eq-Decides name word).0 e)) law
 
     cases : (a : Bool) → bytes_eq name (codes "Tick") ≡ a → (b : Bool) → bytes_eq name (codes "Listen") ≡ b → (c : Bool) → bytes_eq name (codes "Pass") ≡ c → (d : Bool) → bytes_eq name (codes "Echo") ≡ d → (e : Bool) → bytes_eq name (codes "Show") ≡ e
-        → IsLawful (basic_sig name) (basic_call name)
+        → IsLawfulNode (basic_sig name) (basic_call name)
     cases true p b q c r d s e t = named (codes "Tick") p (record { source = tt; answers = λ args cells fits all. let h = fits.role in absurd cc })
     cases false p true q c r d s e t = named (codes "Listen") q (record { source = refl; answers = λ args cells fits all. let h = fits.role in absurd cc })
     cases false p false q true r d s e t = named (codes "Pass") r (record { source = tt; answers = λ args cells fits all. record { result = (fits.kinds, all); puts = tt; emits = omega arith } })
     cases false p false q false r true s e t = named (codes "Echo") s (record { source = tt; answers = λ args cells fits all. record { result = (refl, tt); puts = tt; emits = text_short args fits.kinds all } })
     cases false p false q false r false s true t = named (codes "Show") t (record { source = tt; answers = λ args cells fits all. record { result = (refl, tt); puts = tt; emits = shown_short args fits.kinds all } })
     cases false p false q false r false s false t = rw (p, q, r, s, t) tt
+
+pub basic_lawful : {S : Type 0} (library : S) → IsLawful basic_meaning
+basic_lawful library = record { short = types_short; nodes = nodes_lawful }

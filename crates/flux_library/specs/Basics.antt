@@ -1,8 +1,9 @@
 -- The basic nodes: their types, kinds and answers.
-use Rattle.std.specs.Prelude.{ℕ, ◌||◌, if◌then◌else◌, List, [], ◌∷◌, ◌++◌, Option, Some, None, codes}
+use Rattle.std.specs.Prelude.{ℕ, ◌||◌, false, if◌then◌else◌, List, [], ◌∷◌, ◌++◌, Option, Some, None, codes}
 use Rattle.std.specs.Str.{bytes_eq}
 use Rattle.flux_values.specs.Texts.{printed_value}
 use Rattle.flux_values.specs.Cells.{CellMap}
+use Rattle.flux_values.specs.Meanings.{LibraryMeaning}
 use Rattle.flux_values.specs.declared.values.Kind.{Kind}
 use Rattle.flux_values.specs.declared.values.Kind.TheVariants as kinds
 use Rattle.flux_values.specs.declared.values.Value.{Value}
@@ -50,3 +51,15 @@ emission_of name args = if bytes_eq name (codes "Echo") then text_of args else i
 
 abbrev pub basic_call : List ℕ → List Value → List CellMap → Answer
 basic_call name args cells = record { result = Good (results_of name args); puts = []; emits = emission_of name args }
+
+-- the meaning of the basic library, which has neither predicates nor session functions
+abbrev pub basic_meaning : LibraryMeaning
+basic_meaning = record {
+  kind = basic_kind;
+  node = basic_sig;
+  predicate = λ name. None;
+  session = λ name. None;
+  call = basic_call;
+  test = λ name value. false;
+  id = λ name values. 0;
+}

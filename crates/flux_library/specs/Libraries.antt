@@ -1,5 +1,5 @@
 -- What a library may be asked, and what it keeps.
-use Rattle.std.specs.Prelude.{◌≡◌, ◌≤◌, List, [], ◌∷◌, ◌++◌, length, map, Option, Some, None}
+use Rattle.std.specs.Prelude.{◌≡◌, ◌≤◌, ℕ, List, [], ◌∷◌, ◌++◌, length, map, Option, Some, None, IfSome, ⊤}
 use Rattle.std.specs.List.{AllByRecursion}
 use Rattle.flux_values.specs.declared.values.Kind.{Kind}
 use Rattle.flux_values.specs.declared.values.Kind.TheVariants as kinds
@@ -15,7 +15,10 @@ use Rattle.flux_values.specs.declared.meanings.Role.{Role}
 use Rattle.flux_values.specs.declared.meanings.Role.TheVariants.{Plain, Source, HeadSource, LineSource}
 use Rattle.flux_values.specs.Values.{kind_of}
 use Rattle.flux_values.specs.Reading.{IsValue}
+use Rattle.flux_library.specs.declared.libraries.TheConstants.{EMISSION_LIMIT}
+use Rattle.flux_values.specs.declared.texts.TheConstants.{TEXT_LIMIT}
 use Rattle.flux_values.specs.Cells.{CellMap}
+use Rattle.flux_values.specs.Meanings.{LibraryMeaning}
 
 -- a plain node may be called on values of its kinds, with a cell for each that it uses
 pub record Fits (sig : Sig) (args : List Value) (cells : List CellMap) : Type 0 where
@@ -31,8 +34,8 @@ IsCallable (Some sig) args cells = Fits sig args cells
 
 -- a source that reads links gives a number and a text
 abbrev pub GivesText : Role → List Kind → Type 0
-GivesText Plain outs = Unit {0}
-GivesText Source outs = Unit {0}
+GivesText Plain outs = ⊤
+GivesText Source outs = ⊤
 GivesText HeadSource outs = outs ≡ kinds.Int ∷ kinds.Text ∷ []
 GivesText LineSource outs = outs ≡ kinds.Int ∷ kinds.Text ∷ []
 
@@ -53,13 +56,20 @@ pub record IsWrite (cells : List CellUse) (put : Put) : Type 0 where
 pub record IsAnswerOf (sig : Sig) (answer : Answer) : Type 0 where
   pub result : IsResultOf sig.outs answer.result
   pub puts : AllByRecursion (IsWrite sig.cells) answer.puts
-  pub emits : length answer.emits ≤ 1049600
+  pub emits : length answer.emits ≤ EMISSION_LIMIT
 
--- a node keeps these
+-- the laws of a node: a source that reads links gives a number and a text, and a plain node's answer is as its signature
+-- says
 pub record IsLawfulSig (sig : Sig) (call : List Value → List CellMap → Answer) : Type 0 where
   pub source : GivesText sig.role sig.outs
-  pub answers : (args : List Value) (cells : List CellMap) → Fits sig args cells → AllByRecursion IsValue args → IsAnswerOf sig (call args cells)
+  pub answers : (args : List Value) (cells : List CellMap) → Fits sig args cells
+      → AllByRecursion IsValue args → IsAnswerOf sig (call args cells)
 
-abbrev pub IsLawful : Option Sig → (List Value → List CellMap → Answer) → Type 0
-IsLawful None call = Unit {0}
-IsLawful (Some sig) call = IsLawfulSig sig call
+abbrev pub IsLawfulNode : Option Sig → (List Value → List CellMap → Answer) → Type 0
+IsLawfulNode None call = ⊤
+IsLawfulNode (Some sig) call = IsLawfulSig sig call
+
+-- the laws of a library: a type that it has is spelled by at most 65,536 bytes, and its nodes keep theirs
+pub record IsLawful (meaning : LibraryMeaning) : Type 0 where
+  pub short : (ty : List ℕ) → IfSome (meaning.kind ty) (λ _. length ty ≤ TEXT_LIMIT)
+  pub nodes : (name : List ℕ) → IsLawfulNode (meaning.node name) (meaning.call name)

@@ -15,21 +15,9 @@ use std::alloc::Global;
 pub struct Basic;
 
 impl Meaning for Basic {
-    ghost use Rattle.std.specs.Prelude.{None, false};
+    ghost use Rattle.flux_library.specs.Basics.{basic_meaning};
 
-    ghost kind_of = { λ _. basic_kind };
-
-    ghost sig_of = { λ _. basic_sig };
-
-    ghost predicate_of = { λ _ _. None };
-
-    ghost session_of = { λ _ _. None };
-
-    ghost call_of = { λ _. basic_call };
-
-    ghost test_of = { λ _ _ _. false };
-
-    ghost id_of = { λ _ _ _. 0 };
+    ghost meaning = { λ _. basic_meaning };
 }
 
 fn plain(alloc: Global, role: Role, ins: &[Kind], outs: &[Kind]) -> Result<Option<Sig>, Memory>
@@ -97,7 +85,7 @@ fn emission(alloc: Global, name: &[u8], args: &[Value]) -> Result<Bytes, Memory>
 }
 
 impl Library for Basic {
-    ghost use Rattle.flux_library.specs.BasicLaws.{basic_short, basic_lawful};
+    ghost use Rattle.flux_library.specs.BasicLaws.{basic_lawful};
 
     fn kind(&self, ty: &[u8]) -> Option<Kind> {
         if ty == b"int".as_slice() || ty == b"long".as_slice() {
@@ -156,8 +144,6 @@ impl Library for Basic {
     fn id(&self, _name: &[u8], _args: &[Value]) -> u64 {
         0
     }
-
-    ghost short = { basic_short };
 
     ghost lawful = { basic_lawful };
 }

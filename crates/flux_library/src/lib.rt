@@ -10,4 +10,4 @@ mod tests;
 
 pub use basic::Basic;
 pub use flux_values::{CellUse, Meaning, Role, Sig};
-pub use libraries::Library;
+pub use libraries::{EMISSION_LIMIT, Library};
