@@ -221,10 +221,12 @@ front_single b rest hs hd ht hu hv hw =
     (limited (word_kind (take (prefix_len is_word_byte (b ∷ rest)) (b ∷ rest))) (prefix_len is_word_byte (b ∷ rest))) (limited kinds.Number (prefix_len is_digit (b ∷ rest))) (fronts.Skip 1) (slash_front rest)
     (arrow_front kinds.ThinArrow fronts.Bad rest) (arrow_front kinds.Arrow (fronts.Token kinds.Equals 1) rest) (single_front (single b)) hs hd ht hu hv hw
 
-front_word : (b : ℕ) (rest : List ℕ) → is_word_start b ≡ true → front_from b rest ≡ limited (word_kind (take (prefix_len is_word_byte (b ∷ rest)) (b ∷ rest))) (prefix_len is_word_byte (b ∷ rest))
+-- a word's first byte begins a word
+pub front_word : (b : ℕ) (rest : List ℕ) → is_word_start b ≡ true → front_from b rest ≡ limited (word_kind (take (prefix_len is_word_byte (b ∷ rest)) (b ∷ rest))) (prefix_len is_word_byte (b ∷ rest))
 front_word b rest e = cond-true (is_word_start b) (limited (word_kind (take (prefix_len is_word_byte (b ∷ rest)) (b ∷ rest))) (prefix_len is_word_byte (b ∷ rest))) _ e
 
-front_number : (b : ℕ) (rest : List ℕ) → is_digit b ≡ true → front_from b rest ≡ limited kinds.Number (prefix_len is_digit (b ∷ rest))
+-- a digit begins a number
+pub front_number : (b : ℕ) (rest : List ℕ) → is_digit b ≡ true → front_from b rest ≡ limited kinds.Number (prefix_len is_digit (b ∷ rest))
 front_number b rest d =
     cond-false (is_word_start b) (limited (word_kind (take (prefix_len is_word_byte (b ∷ rest)) (b ∷ rest))) (prefix_len is_word_byte (b ∷ rest))) _ (digit_no_start b d)
     ∙ cond-true (is_digit b) (limited kinds.Number (prefix_len is_digit (b ∷ rest))) _ d
