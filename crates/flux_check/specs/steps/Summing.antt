@@ -1,4 +1,4 @@
--- Sizes as they are counted: past the limit, any size is one more than it.
+-- Steps: sizes as they are counted: past the limit, any size is one more than it.
 use Rattle.std.specs.Prelude.{ℕ, ◌+◌, min, List, [], ◌∷◌, Option, Some, None, slice_set}
 use Rattle.std.specs.List.{slice_get}
 use Rattle.std.specs.Option.{unwrap_or}
