@@ -1,4 +1,4 @@
--- What a search in depth has found so far.
+-- Steps of the proof of `order`: what its search in depth has found so far.
 use Rattle.std.specs.Prelude.{◌≡◌, ℕ, ◌<◌, ◌⊎◌, List, [], ◌∷◌, ◌++◌, length, Option, Some, None, nat_eq, false, ⊤}
 use Rattle.std.specs.List.{list_any, IsDistinct}
 use Rattle.flux_model.specs.declared.programs.NodeNo.{NodeNo}
@@ -8,10 +8,9 @@ use Rattle.flux_graph.specs.declared.steps.Step.{Step}
 use Rattle.flux_graph.specs.declared.steps.Step.TheVariants.{Enter, Leave}
 use Rattle.flux_graph.specs.declared.ordering.Search.{Search}
 use Rattle.flux_model.specs.Leading.{leads_in}
-use Rattle.flux_graph.specs.Reaching.{IsKnown}
-use Rattle.flux_graph.specs.Visits.{with_number}
+use Rattle.flux_graph.specs.steps.Visits.{IsKnown, with_number}
 use Rattle.flux_model.specs.Ordering.{ComeAfter, AreDistinct}
-use Rattle.flux_graph.specs.Searching.{enters, leaves_of, numbered}
+use Rattle.flux_graph.specs.steps.Searching.{enters, leaves_of, numbered}
 
 -- ---- moves
 

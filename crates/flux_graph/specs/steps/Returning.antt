@@ -1,4 +1,4 @@
--- A search for a way from a node back to it.
+-- Steps of the proof that finds a way from a node back to it.
 use Rattle.std.specs.Prelude.{◌≡◌, ℕ, ◌<◌, ◌⊎◌, List, [], ◌∷◌, ◌++◌, length, Option, Some, None, nat_eq, false, ⊤}
 use Rattle.std.specs.List.{list_any, IsDistinct}
 use Rattle.flux_model.specs.declared.programs.NodeNo.{NodeNo}
@@ -8,11 +8,10 @@ use Rattle.flux_graph.specs.declared.steps.Step.{Step}
 use Rattle.flux_graph.specs.declared.steps.Step.TheVariants.{Enter, Leave}
 use Rattle.flux_graph.specs.declared.returning.Return.{Return}
 use Rattle.flux_model.specs.Leading.{leads_in}
-use Rattle.flux_graph.specs.Reaching.{IsKnown}
-use Rattle.flux_graph.specs.Visits.{with_number}
+use Rattle.flux_graph.specs.steps.Visits.{IsKnown, with_number}
 use Rattle.flux_model.specs.Ordering.{AreDistinct, IsLed, LeadsOn}
-use Rattle.flux_graph.specs.Searching.{enters, leaves_of}
-use Rattle.flux_graph.specs.Search.{AreLed}
+use Rattle.flux_graph.specs.steps.Searching.{enters, leaves_of}
+use Rattle.flux_graph.specs.steps.Search.{AreLed}
 
 -- a number's node is still to be entered
 abbrev pub IsAhead : ℕ → List Step → Type 0
