@@ -1,9 +1,3 @@
-pub mod Visits
-pub mod Reaching
-pub mod Searching
-pub mod Ordering
-pub mod Faults
-pub mod Search
 pub mod Below
-pub mod Returning
-pub mod Tables
+pub mod Faults
+pub mod steps
