@@ -1,7 +1,6 @@
 -- Steps of checking: what each gives.
 use Rattle.std.specs.Prelude.{◌≡◌, ℕ, ◌≤◌, List, [], ◌∷◌, map, Option, Some, None, ⊤}
 use Rattle.std.specs.List.{slice_get}
-use Rattle.std.specs.Option.{option_or}
 use Rattle.flux_values.specs.Meanings.{LibraryMeaning}
 use Rattle.flux_faults.specs.declared.faults.CheckFault.{CheckFault}
 use Rattle.flux_faults.specs.declared.faults.CheckFault.TheVariants.{Static, Memory}
@@ -14,7 +13,7 @@ use Rattle.flux_syntax.specs.declared.declarations.Decl.{Decl}
 use Rattle.flux_syntax.specs.Least.{first_fault}
 use Rattle.flux_hoist.specs.declared.checked.TheConstants.{SIZE_LIMIT}
 use Rattle.flux_check.specs.Rows.{size_rows}
-use Rattle.flux_check.specs.Judgement.{IsCycleOf, IsDeclsFault}
+use Rattle.flux_check.specs.Judgement.{IsUnbuilt, IsCycleOf, IsDeclsFault}
 
 -- the sizes of the sources, which are within the limit
 pub record AreSizes (decls : List Decl) (program : Program) (sizes : List ℕ) : Type 0 where
@@ -31,6 +30,11 @@ IsCycleRefusal named Memory = ⊤
 abbrev pub site_of : List ℕ → List NodeNo → Option ℕ
 site_of sites [] = None
 site_of sites (node ∷ path) = slice_get sites node.0
+
+-- a form that isn't built, or no memory
+abbrev pub IsUnbuiltRefusal : LibraryMeaning → List Decl → CheckFault → Type 0
+IsUnbuiltRefusal meaning decls (Static fault) = IsUnbuilt meaning decls fault
+IsUnbuiltRefusal meaning decls Memory = ⊤
 
 -- the fault of the declarations, or no memory
 abbrev pub IsDeclsRefusal : LibraryMeaning → List Decl → CheckFault → Type 0
