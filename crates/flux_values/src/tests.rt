@@ -173,13 +173,37 @@ fn a_cell_remembers_by_name(rt: HostRuntime) -> Result<(), Fail> {
         b"b".as_slice()
     );
     assert!(rt; cell.name_at(2).is_none());
-    let kept = cell.copy(alloc)?;
+    let kept = cell.copy()?;
     cell.put(TextBytes::copy(alloc, b"b")?, None)?;
+    cell.put(
+        TextBytes::copy(alloc, b"c")?,
+        Some(Value::Text(TextBytes::copy(alloc, b"new")?)),
+    )?;
     assert!(rt; cell.get(b"b").is_none());
     assert!(rt; matches!(kept.get(b"b"), Some(Value::Int(3))));
+    assert!(rt; kept.get(b"c").is_none());
     assert!(rt; matches!(cell.get(b"a"), Some(Value::Int(2))));
     Ok(())
 }
+
+#[test]
+fn a_copy_of_a_cell_is_changed_by_itself(rt: HostRuntime) -> Result<(), Fail> {
+    let alloc = rt.alloc();
+    let empty = Cell::new(alloc);
+    let mut copied = empty.copy()?;
+    copied.put(TextBytes::copy(alloc, b"a")?, None)?;
+    assert!(rt; copied.name_at(0).is_none());
+    copied.put(TextBytes::copy(alloc, b"a")?, Some(Value::Bool(true)))?;
+    assert!(rt; empty.get(b"a").is_none());
+    let mut other = copied.copy()?;
+    other.put(TextBytes::copy(alloc, b"a")?, Some(Value::Bool(false)))?;
+    assert!(rt; matches!(copied.get(b"a"), Some(Value::Bool(true))));
+    assert!(rt; matches!(other.get(b"a"), Some(Value::Bool(false))));
+    crosses_threads(&other);
+    Ok(())
+}
+
+fn crosses_threads<T: Send + Sync>(_value: &T) {}
 
 #[test]
 fn a_list_gives_back_what_it_took(rt: HostRuntime) -> Result<(), Fail> {
