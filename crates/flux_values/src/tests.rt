@@ -1,7 +1,7 @@
 //! Spellings from the profile's tables, and each call that takes memory once.
 
 use crate::{
-    Bytes, Cell, Kind, List, Memory, TextBytes, TextFault, Value, ValueFault, append_number,
+    Bytes, CallResult, Cell, List, Memory, TextBytes, TextFault, Value, ValueFault, append_number,
     append_text, append_value, print_value, read_printed_value, read_value,
 };
 use std::test::Fail;
@@ -204,6 +204,28 @@ fn a_copy_of_a_cell_is_changed_by_itself(rt: HostRuntime) -> Result<(), Fail> {
 }
 
 fn crosses_threads<T: Send + Sync>(_value: &T) {}
+
+#[test]
+fn equal_values_are_equal_and_texts_are_in_bytewise_order(rt: HostRuntime) -> Result<(), Fail> {
+    let alloc = rt.alloc();
+    let text = TextBytes::copy(alloc, b"ab")?;
+    let longer = TextBytes::copy(alloc, b"ab\0")?;
+    assert!(rt; text == text.again(alloc)? && text != longer && text < longer);
+    assert!(rt; TextBytes::copy(alloc, b"b")? > longer);
+    assert!(rt; Bytes::copy(alloc, b"x")? == Bytes::copy(alloc, b"x")?);
+    let mut values = List::new(alloc);
+    values.add(Value::Text(text))?;
+    values.add(Value::Int(-1))?;
+    let mut others = List::new(alloc);
+    for value in &values {
+        assert!(rt; values != others);
+        others.add(value.copy(alloc)?)?;
+    }
+    assert!(rt; values == others && CallResult::Good(values) == CallResult::Good(others));
+    assert!(rt; CallResult::Bad(1) != CallResult::Bad(2));
+    assert!(rt; Value::Bool(true) != Value::Int(1));
+    Ok(())
+}
 
 #[test]
 fn a_list_gives_back_what_it_took(rt: HostRuntime) -> Result<(), Fail> {
