@@ -161,4 +161,4 @@ text_refused kind node text decls (causes.Static fault) declared f =
 
 pub reading_refused : (kind : Kinds) (node : Nodes) (text : List ℕ) (fault : CheckFault) → syntax.IsRefusalOf text fault → IsRefusalOf kind node text fault
 reading_refused kind node text causes.Memory f = tt
-reading_refused kind node text (causes.Static fault) (path, faulty, within, room) = (inl (faulty, path), within, room)
+reading_refused kind node text (causes.Static fault) (path, faulty, placed) = (inl (faulty, path), placed.0, placed.1)
