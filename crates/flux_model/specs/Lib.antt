@@ -23,3 +23,4 @@ pub mod Kinds
 pub mod Soundness
 pub mod Items
 pub mod Texts
+pub mod Types
