@@ -44,7 +44,7 @@ sites_many names (Signature name ins outs ∷ decls) = ap suc (sites_many names 
 sites_many names (Flow name patterns members ∷ decls) = ap suc (sites_many names decls)
 sites_many names (Source name target ∷ decls) = sites_many names decls
 sites_many names (Typedef name function ∷ decls) = sites_many names decls
-sites_many names (Handler node handler ∷ decls) = sites_many names decls
+sites_many names (Handler node codes handler ∷ decls) = sites_many names decls
 sites_many names (Atomic node constraints ∷ decls) = sites_many names decls
 sites_many names (Session source function ∷ decls) = sites_many names decls
 
@@ -161,4 +161,4 @@ text_refused kind node text decls (causes.Static fault) declared f =
 
 pub reading_refused : (kind : Kinds) (node : Nodes) (text : List ℕ) (fault : CheckFault) → syntax.IsRefusalOf text fault → IsRefusalOf kind node text fault
 reading_refused kind node text causes.Memory f = tt
-reading_refused kind node text (causes.Static fault) (path, faulty, within, room) = (inl (faulty, path), within, room)
+reading_refused kind node text (causes.Static fault) (path, faulty, placed) = (inl (faulty, path), placed.0, placed.1)

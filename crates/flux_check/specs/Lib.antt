@@ -1,4 +1,3 @@
 pub mod Rows
 pub mod Judgement
-pub mod Summing
-pub mod Steps
+pub mod steps

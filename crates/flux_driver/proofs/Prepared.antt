@@ -14,14 +14,15 @@ use Rattle.flux_model.specs.declared.journals.Item.{Item}
 use Rattle.flux_model.specs.Soundness.{NodeKinds, node_kinds, kinds_at}
 use Rattle.flux_model.specs.Texts.{printed_journal}
 use Rattle.flux_types.proofs.Written.{sig_is}
-use Rattle.flux_check.specs.Judgement.{program_of, IsChecked}
+use Rattle.flux_faults.specs.declared.faults.StaticFault.{StaticFault}
+use Rattle.flux_check.specs.Judgement.{program_of, IsTextFault, IsChecked}
 use Rattle.flux_driver.specs.declared.refusals.Refusal.{Refusal}
 use Rattle.flux_driver.specs.declared.refusals.Refusal.TheVariants as refusals
 use Rattle.flux_driver.specs.declared.statuses.Status.TheVariants as statuses
 use Rattle.flux_driver.specs.Items.{AreItemsOf, IsItemFault, AreNamedSources}
 use Rattle.flux_driver.specs.Running.{CanRun}
-use Rattle.flux_driver.specs.Commands.{Command, check, run, program_file, Files, Gives, HasProgram, HasItems, kinds_in, IsPrinted, IsRunOf}
-use Rattle.flux_driver.specs.Refusals.{status_of, IsUnread, IsRefused}
+use Rattle.flux_driver.specs.Commands.{Command, check, run, format, program_file, IsStaticOf, Files, Gives, HasProgram, HasItems, kinds_in, IsPrinted, IsRunOf}
+use Rattle.flux_driver.specs.Refusals.{status_of, IsUnread, IsTextRefused, IsCheckRefused, IsRefused}
 use Rattle.flux_driver.specs.Steps.{IsWritten, AreRefused, prepared_status, IsFirm}
 use Rattle.flux_driver.proofs.Named.{are_named}
 use Rattle.flux_driver.proofs.Walks.{walks, whole, right, excludes, free_of_cycles}
@@ -45,6 +46,27 @@ unread_items file items told decls before after refusals.Usage source u = absurd
 unread_items file items told decls before after (refusals.Static line) source u = absurd u
 unread_items file items told decls before after (refusals.Items place) source u = absurd u
 
+-- ---- what was refused
+
+-- a text with a fault refuses a command that looks for it
+pub check_refused : (command : Command) (told : Files) (text : List ℕ) (refusal : Refusal) → Gives told (program_file command) 2097152 (Found text) → ((fault : StaticFault) → IsTextFault basic_kind basic_sig text fault → IsStaticOf command text fault) → IsCheckRefused text refusal
+    → IsRefused command told refusal
+check_refused command told text (refusals.Static line) gives each (fault, is, said) = inl (record { text = text; gives = gives; fault = fault; stands = each fault is; said = said }, refl)
+check_refused command told text refusals.Memory gives each u = inr (inr refl)
+check_refused command told text refusals.Usage gives each u = absurd u
+check_refused command told text (refusals.Items place) gives each u = absurd u
+check_refused command told text refusals.Read gives each u = absurd u
+check_refused command told text (refusals.Missing name) gives each u = absurd u
+
+-- a text with one of the faults 1 to 4 isn't formatted
+pub read_refused : (file : List ℕ) (told : Files) (text : List ℕ) (refusal : Refusal) → Gives told file 2097152 (Found text) → IsTextRefused text refusal → IsRefused (format file) told refusal
+read_refused file told text (refusals.Static line) gives (fault, faulty, path, said) = inl (record { text = text; gives = gives; fault = fault; stands = (faulty, path); said = said }, refl)
+read_refused file told text refusals.Memory gives u = inr (inr refl)
+read_refused file told text refusals.Usage gives u = absurd u
+read_refused file told text (refusals.Items place) gives u = absurd u
+read_refused file told text refusals.Read gives u = absurd u
+read_refused file told text (refusals.Missing name) gives u = absurd u
+
 -- ---- statuses that rest on no text
 
 pub check_firm : (file : List ℕ) (told : Files) → IfSome told (λ files. IsFirm (check file) (Some files) statuses.Done)
@@ -63,7 +85,7 @@ nodes_free names (Signature name ins outs ∷ decls) = (refl, nodes_free names d
 nodes_free names (Flow name patterns members ∷ decls) = (refl, nodes_free names decls)
 nodes_free names (Source name target ∷ decls) = nodes_free names decls
 nodes_free names (Typedef name function ∷ decls) = nodes_free names decls
-nodes_free names (Handler node handler ∷ decls) = nodes_free names decls
+nodes_free names (Handler node codes handler ∷ decls) = nodes_free names decls
 nodes_free names (Atomic node constraints ∷ decls) = nodes_free names decls
 nodes_free names (Session source function ∷ decls) = nodes_free names decls
 

@@ -12,7 +12,7 @@ use Rattle.flux_syntax.specs.declared.declarations.Word.{Word}
 use Rattle.flux_syntax.specs.declared.declarations.Decl.{Decl}
 use Rattle.flux_syntax.specs.declared.declarations.Decl.TheVariants.{Signature, Flow, Source, Typedef, Handler, Atomic, Session}
 use Rattle.flux_syntax.specs.Words.{known, names_of, sourced, texts_of, defined}
-use Rattle.flux_syntax.specs.ProgramOfText.{place_of, number_of, node_of, source_of, handler_place, classes_of, places, program_of, sites_of, named_of}
+use Rattle.flux_syntax.specs.ProgramOfText.{decimal_value, place_of, number_of, node_of, source_of, handler_place, classes_of, places, program_of, sites_of, named_of}
 use Rattle.flux_syntax.specs.ProgramOfText.{arm_of as text_arm}
 use Rattle.flux_syntax.specs.Least.{sooner, soonest}
 use Rattle.flux_syntax.proofs.NumberedNames.{place_at, known_at}
@@ -139,7 +139,7 @@ least_words place (w ∷ words) = least_words (Some (sooner place w.at)) words
 
 -- the node of each `handle` line has a name among the nodes' names
 abbrev pub HasNode : List (List ℕ) → Decl → Type 0
-HasNode names (Handler node handler) = known names node.text ≡ true
+HasNode names (Handler node codes handler) = known names node.text ≡ true
 HasNode names other = Unit {0}
 
 module _ (sigs : ℕ → NodeSig) (names : List (List ℕ)) where
@@ -150,7 +150,7 @@ module _ (sigs : ℕ → NodeSig) (names : List (List ℕ)) where
   -- the places of one node's handlers
   abbrev own_places : ℕ → List ℕ → List Decl → List ℕ
   own_places number name [] = []
-  own_places number name (Handler node handler ∷ decls) =
+  own_places number name (Handler node codes handler ∷ decls) =
       (if bytes_eq node.text name then unless (fits number handler) handler.at else []) ++ own_places number name decls
   own_places number name (other ∷ decls) = own_places number name decls
 
@@ -158,7 +158,7 @@ module _ (sigs : ℕ → NodeSig) (names : List (List ℕ)) where
       → unlike_arms sigs (map (arm_of number) (filter_map (text_arm names name) decls) ++ arms) (filter_map (handler_place name) decls ++ sites)
       ≡ own_places number name decls ++ unlike_arms sigs arms sites
   own_arms number name [] arms sites = refl
-  own_arms number name (Handler node handler ∷ decls) arms sites = one (bytes_eq node.text name) (own_arms number name decls arms sites)
+  own_arms number name (Handler node codes handler ∷ decls) arms sites = one (bytes_eq node.text name) (own_arms number name decls arms sites)
     where
       rest_arms : List Arm
       rest_arms = map (arm_of number) (filter_map (text_arm names name) decls) ++ arms
@@ -168,7 +168,7 @@ module _ (sigs : ℕ → NodeSig) (names : List (List ℕ)) where
 
       one : (t : Bool) → unlike_arms sigs rest_arms rest_sites ≡ own_places number name decls ++ unlike_arms sigs arms sites
           → unlike_arms sigs
-              (map (arm_of number) (cons_option (if t then Some (record { codes = []; node = number_of names handler }) else None) (filter_map (text_arm names name) decls)) ++ arms)
+              (map (arm_of number) (cons_option (if t then Some (record { codes = map (λ code. decimal_value code.text) codes; node = number_of names handler }) else None) (filter_map (text_arm names name) decls)) ++ arms)
               (cons_option (if t then Some handler.at else None) (filter_map (handler_place name) decls) ++ sites)
           ≡ ((if t then unless (fits number handler) handler.at else []) ++ own_places number name decls) ++ unlike_arms sigs arms sites
       one true others = ap (λ (l : List ℕ). unless (fits number handler) handler.at ++ l) others ∙ sym (append_assoc (unless (fits number handler) handler.at) (own_places number name decls) (unlike_arms sigs arms sites))
@@ -215,20 +215,20 @@ module _ (sigs : ℕ → NodeSig) (names : List (List ℕ)) where
 
   own_in_row : (number : ℕ) (name : List ℕ) → StandsAt number name → (decls : List Decl) (at : ℕ) → Among at (own_places number name decls) → Among at (row_places decls)
   own_in_row number name stands [] at is = is
-  own_in_row number name stands (Handler node handler ∷ decls) at is =
-      subst (Among at) (sym (row_more (Handler node handler) decls)) (one (bytes_eq node.text name) refl is (own_in_row number name stands decls at))
+  own_in_row number name stands (Handler node codes handler ∷ decls) at is =
+      subst (Among at) (sym (row_more (Handler node codes handler) decls)) (one (bytes_eq node.text name) refl is (own_in_row number name stands decls at))
     where
       one : (t : Bool) → bytes_eq node.text name ≡ t → Among at ((if t then unless (fits number handler) handler.at else []) ++ own_places number name decls)
-          → (Among at (own_places number name decls) → Among at (row_places decls)) → Among at (places (unlike_handler sigs names (Handler node handler)) ++ row_places decls)
-      one false e is more = in_right at (places (unlike_handler sigs names (Handler node handler))) (row_places decls) (more is)
+          → (Among at (own_places number name decls) → Among at (row_places decls)) → Among at (places (unlike_handler sigs names (Handler node codes handler)) ++ row_places decls)
+      one false e is more = in_right at (places (unlike_handler sigs names (Handler node codes handler))) (row_places decls) (more is)
       one true e is more = pick (in_both at (unless (fits number handler) handler.at) (own_places number name decls) is)
         where
-          same : places (unlike_handler sigs names (Handler node handler)) ≡ unless (fits number handler) handler.at
+          same : places (unlike_handler sigs names (Handler node codes handler)) ≡ unless (fits number handler) handler.at
           same = unless_places (fits (place_of names node) handler) handler ∙ ap (λ (n : ℕ). unless (fits n handler) handler.at) (stands node.text e)
 
-          pick : Among at (unless (fits number handler) handler.at) ⊎ Among at (own_places number name decls) → Among at (places (unlike_handler sigs names (Handler node handler)) ++ row_places decls)
-          pick (inl own) = in_left at (places (unlike_handler sigs names (Handler node handler))) (row_places decls) (subst (Among at) (sym same) own)
-          pick (inr others) = in_right at (places (unlike_handler sigs names (Handler node handler))) (row_places decls) (more others)
+          pick : Among at (unless (fits number handler) handler.at) ⊎ Among at (own_places number name decls) → Among at (places (unlike_handler sigs names (Handler node codes handler)) ++ row_places decls)
+          pick (inl own) = in_left at (places (unlike_handler sigs names (Handler node codes handler))) (row_places decls) (subst (Among at) (sym same) own)
+          pick (inr others) = in_right at (places (unlike_handler sigs names (Handler node codes handler))) (row_places decls) (more others)
   own_in_row number name stands (Signature n ins outs ∷ decls) at is = own_in_row number name stands decls at is
   own_in_row number name stands (Flow n patterns members ∷ decls) at is = own_in_row number name stands decls at is
   own_in_row number name stands (Source n target ∷ decls) at is = own_in_row number name stands decls at is
@@ -269,7 +269,7 @@ module _ (sigs : ℕ → NodeSig) (names : List (List ℕ)) where
   wider d decls start (name ∷ others) at is = pick (in_both at (own_places start name decls) (all_places (suc start) others decls) is) (wider d decls (suc start) others at)
     where
       own : (e : Decl) → Among at (own_places start name decls) → Among at (own_places start name (e ∷ decls))
-      own (Handler node handler) i = in_right at (if bytes_eq node.text name then unless (fits start handler) handler.at else []) (own_places start name decls) i
+      own (Handler node codes handler) i = in_right at (if bytes_eq node.text name then unless (fits start handler) handler.at else []) (own_places start name decls) i
       own (Signature n ins outs) i = i
       own (Flow n patterns members) i = i
       own (Source n target) i = i
@@ -284,8 +284,8 @@ module _ (sigs : ℕ → NodeSig) (names : List (List ℕ)) where
 
   row_in_all : (decls : List Decl) → AllByRecursion (HasNode names) decls → (at : ℕ) → Among at (row_places decls) → Among at (all_places 0 names decls)
   row_in_all [] all at is = absurd is
-  row_in_all (Handler node handler ∷ decls) all at is =
-      pick (in_both at (places (unlike_handler sigs names (Handler node handler))) (row_places decls) (subst (Among at) (row_more (Handler node handler) decls) is)) (row_in_all decls all.1 at)
+  row_in_all (Handler node codes handler ∷ decls) all at is =
+      pick (in_both at (places (unlike_handler sigs names (Handler node codes handler))) (row_places decls) (subst (Among at) (row_more (Handler node codes handler) decls) is)) (row_in_all decls all.1 at)
     where
       number : ℕ
       number = place_of names node
@@ -293,15 +293,15 @@ module _ (sigs : ℕ → NodeSig) (names : List (List ℕ)) where
       self : bytes_eq node.text node.text ≡ true
       self = (bytes_eq-Decides node.text node.text).1 refl
 
-      own : Among at (places (unlike_handler sigs names (Handler node handler))) → Among at (own_places number node.text (Handler node handler ∷ decls))
+      own : Among at (places (unlike_handler sigs names (Handler node codes handler))) → Among at (own_places number node.text (Handler node codes handler ∷ decls))
       own i =
           let here : Among at (unless (fits number handler) handler.at) = subst (Among at) (unless_places (fits number handler) handler) i in
           subst (λ (t : Bool). Among at ((if t then unless (fits number handler) handler.at else []) ++ own_places number node.text decls)) (sym self)
           (in_left at (unless (fits number handler) handler.at) (own_places number node.text decls) here)
 
-      pick : Among at (places (unlike_handler sigs names (Handler node handler))) ⊎ Among at (row_places decls) → (Among at (row_places decls) → Among at (all_places 0 names decls)) → Among at (all_places 0 names (Handler node handler ∷ decls))
-      pick (inl i) more = in_own number node.text (Handler node handler ∷ decls) names 0 number at (omega arith) (known_at names node.text all.0) (own i)
-      pick (inr i) more = wider (Handler node handler) decls 0 names at (more i)
+      pick : Among at (places (unlike_handler sigs names (Handler node codes handler))) ⊎ Among at (row_places decls) → (Among at (row_places decls) → Among at (all_places 0 names decls)) → Among at (all_places 0 names (Handler node codes handler ∷ decls))
+      pick (inl i) more = in_own number node.text (Handler node codes handler ∷ decls) names 0 number at (omega arith) (known_at names node.text all.0) (own i)
+      pick (inr i) more = wider (Handler node codes handler) decls 0 names at (more i)
   row_in_all (Signature n ins outs ∷ decls) all at is = wider (Signature n ins outs) decls 0 names at (row_in_all decls all.1 at is)
   row_in_all (Flow n patterns members ∷ decls) all at is = wider (Flow n patterns members) decls 0 names at (row_in_all decls all.1 at is)
   row_in_all (Source n target ∷ decls) all at is = wider (Source n target) decls 0 names at (row_in_all decls all.1 at is)

@@ -19,7 +19,7 @@ word_unless holds word = if holds then [] else word ∷ []
 
 -- 21: a handler's inputs differ from its node's; `sigs` has what nodes take and give, by number
 abbrev pub unlike_handler : (ℕ → NodeSig) → List (List ℕ) → Decl → List Word
-unlike_handler sigs names (Handler node handler) =
+unlike_handler sigs names (Handler node codes handler) =
     let own = sigs (place_of names node) in let their = sigs (place_of names handler) in
     word_unless (same_types own.ins their.ins) handler
 unlike_handler sigs names other = []

@@ -6,6 +6,9 @@ use flux_graph::Order;
 use flux_model::{Program, Sigs};
 use flux_values::List;
 
+/// The most that the sizes of a program's sources sum to.
+pub const SIZE_LIMIT: u32 = 65_536;
+
 /// A program that was checked, with what was found of it.
 #[derive(Debug, Drop)]
 pub struct Checked {

@@ -6,4 +6,4 @@
 
 mod checked;
 
-pub use checked::Checked;
+pub use checked::{Checked, SIZE_LIMIT};

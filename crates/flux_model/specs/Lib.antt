@@ -24,3 +24,4 @@ pub mod Soundness
 pub mod Items
 pub mod Texts
 pub mod Types
+pub mod Examples

@@ -5,6 +5,7 @@
 #![tactic(auto)]
 
 mod journals;
+mod laws;
 mod modes;
 mod named;
 mod programs;
@@ -14,6 +15,7 @@ mod tests;
 
 pub use flux_values::{Answer, CallResult, Cell, Mode, Put};
 pub use journals::{CallMade, Entry, Event, FlowNo, Item, Journal, Key, Outcome};
+pub use laws::{hoisting_law, worked_examples};
 pub use modes::{at_least, class_order, conflict};
 pub use named::{Named, Sites};
 pub use programs::{

@@ -15,14 +15,14 @@ pub enum Role {
 }
 
 /// A cell that a node uses, and how.
-#[derive(Debug, Drop)]
+#[derive(Debug, PartialEq, Eq, Drop)]
 pub struct CellUse {
     pub name: TextBytes,
     pub mode: Mode,
 }
 
 /// What a library says of a node.
-#[derive(Debug, Drop)]
+#[derive(Debug, PartialEq, Eq, Drop)]
 pub struct Sig {
     pub ins: List<Kind>,
     pub outs: List<Kind>,

@@ -1,8 +1,8 @@
 //! Spellings from the profile's tables, and each call that takes memory once.
 
 use crate::{
-    Bytes, Cell, Kind, List, Memory, TextBytes, TextFault, Value, ValueFault, append_number,
-    append_text, append_value, print_value, read_value,
+    Bytes, CallResult, Cell, List, Memory, TextBytes, TextFault, Value, ValueFault, append_number,
+    append_text, append_value, print_value, read_printed_value, read_value,
 };
 use std::test::Fail;
 
@@ -39,37 +39,103 @@ fn values_have_their_printed_spellings(rt: HostRuntime) -> Result<(), Fail> {
 }
 
 #[test]
-fn a_printed_value_is_read_with_its_length(rt: HostRuntime) -> Result<(), Fail> {
+fn the_longest_spelling_is_read_with_its_length(rt: HostRuntime) -> Result<(), Fail> {
     let alloc = rt.alloc();
     let table = [
-        (b"12, 3)".as_slice(), Kind::Int, 2),
-        (b"-7x", Kind::Int, 2),
-        (b"truth", Kind::Bool, 0),
-        (b"trueness", Kind::Bool, 4),
-        (b"\"a\\x00\" b", Kind::Text, 7),
-        (b"\"aA\"\"", Kind::Text, 4),
-        (b"-0 x", Kind::Int, 0),
-        (b"007", Kind::Int, 0),
-        (b"\"a\\x41\"", Kind::Text, 0),
-        (b"9223372036854775807", Kind::Int, 19),
-        (b"9223372036854775808", Kind::Int, 0),
-        (b"tru", Kind::Bool, 0),
-        (b"\"open", Kind::Text, 0),
-        (b"", Kind::Int, 0),
+        (b"12, 3)".as_slice(), b"12".as_slice(), 2),
+        (b"-7x", b"-7", 2),
+        (b"-0 x", b"0", 2),
+        (b"007", b"7", 3),
+        (b"-000000000000000000000000000012", b"-12", 31),
+        (b"9223372036854775807", b"9223372036854775807", 19),
+        (b"-9223372036854775808", b"-9223372036854775808", 20),
+        (b"truex", b"true", 4),
+        (b"false9", b"false", 5),
+        (b"\"\"", b"\"\"", 2),
+        (b"\"a\\x41\"", b"\"aA\"", 7),
+        (b"\"aA\"\"", b"\"aA\"", 4),
+        (b"\"\\x0A\\xfF\\x7e\" b", b"\"\\n\\xff~\"", 14),
+        (b"\"\x00\t\xe9\"", b"\"\\x00\\t\\xe9\"", 5),
+        (b"\"\\\"\\\\\\n\\r\\t\"", b"\"\\\"\\\\\\n\\r\\t\"", 12),
     ];
-    for (bytes, kind, length) in table {
-        match read_value(alloc, bytes) {
-            Ok((value, read)) => {
-                assert_eq!(rt; (value.kind(), read), (kind, length), "{bytes:?}");
-                let copied = value.copy(alloc)?;
-                assert_eq!(rt;
-                    print_value(alloc, &copied)?.as_bytes(),
-                    bytes.get(..length).ok_or("length")?
-                );
-            }
-            Err(ValueFault::BadValue { .. }) => assert_eq!(rt; length, 0, "{bytes:?}"),
-            Err(fault) => assert!(rt; false, "{bytes:?} gave {fault:?}"),
+    for (bytes, printed, length) in table {
+        let (value, read) = read_value(alloc, bytes).expect(&rt, "a value");
+        assert_eq!(rt;
+            print_value(alloc, &value)?.as_bytes(),
+            printed,
+            "{bytes:?}"
+        );
+        assert_eq!(rt; read, length, "{bytes:?}");
+        let again = read_printed_value(alloc, bytes).is_ok();
+        assert_eq!(rt; again, &bytes[..length] == printed, "{bytes:?}");
+    }
+    Ok(())
+}
+
+#[test]
+fn a_refusal_names_the_first_byte_that_no_spelling_has(rt: HostRuntime) -> Result<(), Fail> {
+    let alloc = rt.alloc();
+    let table = [
+        (b"".as_slice(), 0),
+        (b"x", 0),
+        (b" 1", 0),
+        (b"+1", 0),
+        (b".", 0),
+        (b"tru", 3),
+        (b"trux", 3),
+        (b"fAlse", 1),
+        (b"-", 1),
+        (b"--1", 1),
+        (b"-x", 1),
+        (b"9223372036854775808", 18),
+        (b"99999999999999999999999", 18),
+        (b"-9223372036854775809", 19),
+        (b"0009223372036854775808x", 21),
+        (b"92233720368547758070", 19),
+        (b"\"", 1),
+        (b"\"open", 5),
+        (b"\"a\n\"", 2),
+        (b"\"\\q\"", 2),
+        (b"\"\\", 2),
+        (b"\"\\x", 3),
+        (b"\"\\xg0\"", 3),
+        (b"\"\\x4", 4),
+        (b"\"\\x4\"", 4),
+        (b"\"\\X41\"", 2),
+    ];
+    for (bytes, at) in table {
+        assert_eq!(rt;
+            read_value(alloc, bytes).err(),
+            Some(ValueFault::BadValue { at }),
+            "{bytes:?}"
+        );
+        assert!(rt; read_printed_value(alloc, bytes).is_err());
+    }
+    Ok(())
+}
+
+#[test]
+fn a_text_is_read_up_to_65536_bytes(rt: HostRuntime) -> Result<(), Fail> {
+    let alloc = rt.alloc();
+    let full = 65_537;
+    let mut bytes = vec![in alloc; b'a'; full]?;
+    bytes[0] = b'"';
+    let ends = ValueFault::BadValue { at: full };
+    assert_eq!(rt; read_value(alloc, &bytes).err(), Some(ends));
+    for (rest, answer) in [
+        (b"\"".as_slice(), None),
+        (b"a", Some(ValueFault::TooLong { at: full })),
+        (b"\\", Some(ValueFault::TooLong { at: full })),
+        (b"\n\"", Some(ValueFault::TooLong { at: full })),
+    ] {
+        let mut longer = Vec::from_slice(alloc, &bytes)?;
+        longer.extend_from_slice(rest)?;
+        let read = read_value(alloc, &longer);
+        match &read {
+            Ok((_, length)) => assert_eq!(rt; *length, full + 1),
+            Err(_) => {}
         }
+        assert_eq!(rt; read.err(), answer, "{rest:?}");
     }
     Ok(())
 }
@@ -107,11 +173,57 @@ fn a_cell_remembers_by_name(rt: HostRuntime) -> Result<(), Fail> {
         b"b".as_slice()
     );
     assert!(rt; cell.name_at(2).is_none());
-    let kept = cell.copy(alloc)?;
+    let kept = cell.copy()?;
     cell.put(TextBytes::copy(alloc, b"b")?, None)?;
+    cell.put(
+        TextBytes::copy(alloc, b"c")?,
+        Some(Value::Text(TextBytes::copy(alloc, b"new")?)),
+    )?;
     assert!(rt; cell.get(b"b").is_none());
     assert!(rt; matches!(kept.get(b"b"), Some(Value::Int(3))));
+    assert!(rt; kept.get(b"c").is_none());
     assert!(rt; matches!(cell.get(b"a"), Some(Value::Int(2))));
+    Ok(())
+}
+
+#[test]
+fn a_copy_of_a_cell_is_changed_by_itself(rt: HostRuntime) -> Result<(), Fail> {
+    let alloc = rt.alloc();
+    let empty = Cell::new(alloc);
+    let mut copied = empty.copy()?;
+    copied.put(TextBytes::copy(alloc, b"a")?, None)?;
+    assert!(rt; copied.name_at(0).is_none());
+    copied.put(TextBytes::copy(alloc, b"a")?, Some(Value::Bool(true)))?;
+    assert!(rt; empty.get(b"a").is_none());
+    let mut other = copied.copy()?;
+    other.put(TextBytes::copy(alloc, b"a")?, Some(Value::Bool(false)))?;
+    assert!(rt; matches!(copied.get(b"a"), Some(Value::Bool(true))));
+    assert!(rt; matches!(other.get(b"a"), Some(Value::Bool(false))));
+    crosses_threads(&other);
+    Ok(())
+}
+
+fn crosses_threads<T: Send + Sync>(_value: &T) {}
+
+#[test]
+fn equal_values_are_equal_and_texts_are_in_bytewise_order(rt: HostRuntime) -> Result<(), Fail> {
+    let alloc = rt.alloc();
+    let text = TextBytes::copy(alloc, b"ab")?;
+    let longer = TextBytes::copy(alloc, b"ab\0")?;
+    assert!(rt; text == text.again(alloc)? && text != longer && text < longer);
+    assert!(rt; TextBytes::copy(alloc, b"b")? > longer);
+    assert!(rt; Bytes::copy(alloc, b"x")? == Bytes::copy(alloc, b"x")?);
+    let mut values = List::new(alloc);
+    values.add(Value::Text(text))?;
+    values.add(Value::Int(-1))?;
+    let mut others = List::new(alloc);
+    for value in &values {
+        assert!(rt; values != others);
+        others.add(value.copy(alloc)?)?;
+    }
+    assert!(rt; values == others && CallResult::Good(values) == CallResult::Good(others));
+    assert!(rt; CallResult::Bad(1) != CallResult::Bad(2));
+    assert!(rt; Value::Bool(true) != Value::Int(1));
     Ok(())
 }
 

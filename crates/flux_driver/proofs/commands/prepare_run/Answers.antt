@@ -2,7 +2,7 @@ use Rattle.flux_driver.specs.Commands.{run, IsPrinted}
 use Rattle.flux_driver.specs.Refusals.{IsRefused}
 use Rattle.flux_driver.specs.Steps.{IsWritten, AreRefused}
 use Rattle.flux_driver.proofs.Steps.{if_ok, if_err}
-use Rattle.flux_driver.proofs.Prepared.{unread_program, unread_items, can_run, sources_are_named, has_program, is_printed, is_refused, firm}
+use Rattle.flux_driver.proofs.Prepared.{unread_program, check_refused, unread_items, can_run, sources_are_named, has_program, is_printed, is_refused, firm}
 use Rattle.flux_driver.proofs.commands.prepare_run.Goals as goal
 
 pub returns-in-Err-clause-refused : goal.returns-in-Err-clause-refused
@@ -51,3 +51,7 @@ returns-clause-firm g c =
     let fault = rw c.as_bytes-2.ensures at c.carry_out.ensures.fault in
     let told = g.S.Store.files c.args.store.now in
     firm c.args.file.now c.in-Ok.text c.in-Ok-check_text.checked.program c.in-Ok-check_text.checked.sigs.nodes c.in-Ok-check_text.checked.order.nodes c.in-Ok-check_text.checked.sizes checked c.args.items.now told c.in-Ok-load.text c.carry_out.result c.in-Ok.ensures.found more items fault
+
+pub returns-in-Err-check_text-clause-refused : goal.returns-in-Err-check_text-clause-refused
+returns-in-Err-check_text-clause-refused g c =
+    check_refused (run c.args.file.now c.args.items.now) (g.S.Store.files c.args.store.now) c.in-Ok.text c.in-Err-check_text.refusal c.in-Ok.ensures.found (λ fault is. is) (rw c.as_bytes.ensures at c.in-Err-check_text.ensures.refused)

@@ -1,0 +1,24 @@
+# What the benches share; each reads it with its own words. It sets
+# - program: the first word, or the built program, which is proved and built first where it isn't;
+# - folder: an empty folder that goes when the bench ends;
+# - least: a command that gives the least time of five runs of its words, in microseconds, without what they print.
+set -euo pipefail
+top="$(cd "$(dirname "${BASH_SOURCE[0]}")/.." && pwd)"
+program="${1-}"
+if [ -z "$program" ]; then
+    "$top/flux" prove
+    program="$top/crates/flux_program/out/flux_program"
+fi
+folder="$(mktemp -d)"
+trap 'rm -rf "$folder"' EXIT
+
+least() {
+    local best= start end
+    for _ in 1 2 3 4 5; do
+        start="${EPOCHREALTIME/./}"
+        "$@" >/dev/null
+        end="${EPOCHREALTIME/./}"
+        if [ -z "$best" ] || [ $((end - start)) -lt "$best" ]; then best=$((end - start)); fi
+    done
+    echo "$best"
+}

@@ -1,0 +1,5 @@
+pub mod Holding
+pub mod Standing
+pub mod Blocking
+pub mod Keys
+pub mod Trials
