@@ -4,6 +4,8 @@ pub mod Limits
 pub mod Rowless
 pub mod Spelled
 pub mod Numbered
+pub mod Roles
+pub mod Joins
 pub mod Soundness
 pub mod Places
 pub mod Judged
