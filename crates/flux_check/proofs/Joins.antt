@@ -1,14 +1,12 @@
 -- Kinds agree within cases, and at handlers, sources, patterns and session functions.
-use Rattle.std.proofs.Common.{◌≡◌, ℕ, zero, suc, ◌+◌, Bool, true, false, ◌&&◌, not, eqb, cond, if◌then◌else◌, List, [], ◌∷◌, ◌++◌, length, map, Option, Some, None, refl, sym, ap, subst, ◌∙◌, arith}
-use Rattle.std.specs.List.{slice_get, filter_map, position_or_len, AllByRecursion}
+use Rattle.std.proofs.Common.{◌≡◌, ℕ, suc, ◌+◌, Bool, true, false, not, cond, if◌then◌else◌, List, [], ◌∷◌, length, map, Option, Some, None, refl, sym, ap, subst, ◌∙◌, arith}
+use Rattle.std.specs.List.{slice_get, filter_map, AllByRecursion}
 use Rattle.std.specs.Str.{bytes_eq}
 use Rattle.std.proofs.lemmas.Bool.Decides.{nat_tests}
 use Rattle.flux_values.specs.declared.values.Kind.{Kind}
 use Rattle.flux_values.specs.Meanings.{LibraryMeaning}
-use Rattle.flux_model.specs.declared.programs.NodeNo.{NodeNo}
 use Rattle.flux_model.specs.declared.programs.Case.{Case}
 use Rattle.flux_model.specs.declared.programs.HandleArm.{HandleArm}
-use Rattle.flux_model.specs.declared.programs.SourceLine.{SourceLine}
 use Rattle.flux_model.specs.declared.signatures.TypeText.{TypeText}
 use Rattle.flux_model.specs.declared.signatures.NodeSig.{NodeSig}
 use Rattle.flux_model.specs.Leading.{handlers_of}
@@ -23,7 +21,7 @@ use Rattle.flux_syntax.specs.ProgramOfText.{place_of, number_of, pattern_of, pat
 use Rattle.flux_syntax.proofs.NumberedNames.{place_at}
 use Rattle.flux_edges.specs.Rows.{word_unless}
 use Rattle.flux_types.specs.Signatures.{last_of, sig_of}
-use Rattle.flux_types.specs.Rows.{WordSigs, sigs_of, unless, unjoined_after, unjoined, is_like_node, has_count, function_named, taken_by, predicates_of, takes, unlike_input, unlike_inputs, unlike_patterns, have_kinds, takes_all, same_kind}
+use Rattle.flux_types.specs.Rows.{sigs_of, unless, unjoined_after, unjoined, is_like_node, has_count, function_named, taken_by, predicates_of, takes, unlike_input, unlike_inputs, unlike_patterns, takes_all}
 use Rattle.flux_check.proofs.Rowless.{nil_append, IsClean}
 use Rattle.flux_check.proofs.Spelled.{both_true, kinds_same, type_kind_is, types_are, sig_spelled}
 use Rattle.flux_check.proofs.Numbered.{place_same}

@@ -7,6 +7,7 @@ pub mod Numbered
 pub mod Roles
 pub mod Joins
 pub mod Soundness
+pub mod Identified
 pub mod Places
 pub mod Judged
 pub mod Exclusive

@@ -1,5 +1,5 @@
 -- The nodes of declarations, by number and by name.
-use Rattle.std.proofs.Common.{◌≡◌, ◌+◌, ℕ, zero, suc, Bool, true, false, ◌||◌, not, cond, List, [], ◌∷◌, map, Option, Some, None, refl, sym, ap, subst, ◌∙◌, arith}
+use Rattle.std.proofs.Common.{◌≡◌, ◌+◌, ℕ, zero, suc, Bool, true, false, ◌||◌, not, cond, List, [], ◌∷◌, map, Some, refl, sym, ap, ◌∙◌, arith}
 use Rattle.std.specs.List.{slice_get, position_or_len}
 use Rattle.std.specs.Str.{bytes_eq}
 use Rattle.std.proofs.lemmas.Slice.Eq.{bytes_eq-Decides}
@@ -8,34 +8,40 @@ use Rattle.flux_syntax.specs.declared.declarations.Word.{Word}
 use Rattle.flux_syntax.specs.declared.declarations.Decl.{Decl}
 use Rattle.flux_syntax.specs.Words.{known, defined, names_of, texts_of}
 use Rattle.flux_syntax.specs.ProgramOfText.{place_of, classes_of, node_of}
-use Rattle.flux_syntax.proofs.NumberedNames.{place_at, known_at}
+use Rattle.flux_syntax.proofs.NumberedNames.{known_at}
 use Rattle.flux_names.specs.Rows.{among, not_among}
 use Rattle.flux_types.specs.Signatures.{nodes_of}
 
 -- ---- tests
 
+-- texts that the test finds the same are one
 pub same_text : (a b : List ℕ) → bytes_eq a b ≡ true → a ≡ b
 same_text a b e = (bytes_eq-Decides a b).0 e
 
+-- and one text is the same by the test
 pub text_same : (a b : List ℕ) → a ≡ b → bytes_eq a b ≡ true
 text_same a b e = (bytes_eq-Decides a b).1 e
 
--- a test and its other way about
+-- the test goes both ways
 pub text_back : (a b : List ℕ) → bytes_eq a b ≡ true → bytes_eq b a ≡ true
 text_back a b e = text_same b a (sym (same_text a b e))
 
+-- no test is both
 pub not_both : (t : Bool) → t ≡ true → t ≡ false → ⊥
 not_both true a b = absurd cc
 not_both false a b = absurd cc
 
+-- one of two holds where the first does
 pub first_true : (a b : Bool) → a ≡ true → (a || b) ≡ true
 first_true true b e = refl
 first_true false b e = absurd cc
 
+-- and where the second does
 pub second_true : (a b : Bool) → b ≡ true → (a || b) ≡ true
 second_true true b e = refl
 second_true false b e = e
 
+-- neither of two holds
 pub both_false : (a b : Bool) → (a || b) ≡ false → (a ≡ false) × (b ≡ false)
 both_false true b e = absurd cc
 both_false false b e = (refl, e)
@@ -65,6 +71,7 @@ place_same names a b e = ap (λ (t : List ℕ). position_or_len (bytes_eq t) nam
 
 -- ---- words among names, and not
 
+-- where no word is unknown the first is known
 pub first_known : (names : List (List ℕ)) (w : Word) (words : List Word) → not_among names (w ∷ words) ≡ [] → (known names w.text ≡ true) × (not_among names words ≡ [])
 first_known names w words e = one (known names w.text) refl e
   where
@@ -72,6 +79,7 @@ first_known names w words e = one (known names w.text) refl e
     one true i e = (i, e)
     one false i e = absurd cc
 
+-- where none is among names the first isn't
 pub first_unknown : (names : List (List ℕ)) (w : Word) (words : List Word) → among names (w ∷ words) ≡ [] → (known names w.text ≡ false) × (among names words ≡ [])
 first_unknown names w words e = one (known names w.text) refl e
   where
@@ -96,6 +104,7 @@ pub record IsImage {X Y : Type 0} (f : X → Y) (xs : List X) (k : ℕ) (y : Y) 
   pub at : slice_get xs k ≡ Some from
   pub is : f from ≡ y
 
+-- each element of a mapped list has one
 pub map_get : {X Y : Type 0} (f : X → Y) (xs : List X) (k : ℕ) (y : Y) → slice_get (map f xs) k ≡ Some y → IsImage f xs k y
 map_get f [] k y e = absurd cc
 map_get f (x ∷ xs) zero y e = record { from = x; at = refl; is = cc }

@@ -1,5 +1,5 @@
 -- Items come from source nodes, flows come to plain ones, and each signed node is like its library node.
-use Rattle.std.proofs.Common.{◌≡◌, ◌≢◌, ℕ, zero, suc, inl, inr, Bool, true, false, ◌&&◌, ◌||◌, not, eqb, if◌then◌else◌, List, [], ◌∷◌, ◌++◌, map, Option, Some, None, IfSome, refl, sym, ap, subst, ◌∙◌, arith}
+use Rattle.std.proofs.Common.{◌≡◌, ℕ, Bool, true, false, ◌||◌, not, eqb, if◌then◌else◌, List, [], ◌∷◌, Option, Some, None, IfSome, refl, sym, ap, subst, ◌∙◌, arith}
 use Rattle.std.specs.List.{slice_get, list_any, AllByRecursion}
 use Rattle.std.specs.Option.{is_none}
 use Rattle.std.specs.Str.{bytes_eq}
@@ -10,7 +10,7 @@ use Rattle.flux_values.specs.declared.meanings.Role.{Role}
 use Rattle.flux_values.specs.declared.meanings.Role.TheVariants as roles
 use Rattle.flux_values.specs.Meanings.{LibraryMeaning}
 use Rattle.flux_model.specs.Soundness.{IsLike, IsSourceSig}
-use Rattle.flux_model.specs.Kinds.{NodeKinds, kinds_of, node_kinds}
+use Rattle.flux_model.specs.Kinds.{node_kinds}
 use Rattle.flux_syntax.specs.declared.declarations.Word.{Word}
 use Rattle.flux_syntax.specs.declared.declarations.Param.{Param}
 use Rattle.flux_syntax.specs.declared.declarations.Decl.{Decl}
@@ -20,10 +20,10 @@ use Rattle.flux_syntax.specs.ProgramOfText.{place_of, library_name, is_signed}
 use Rattle.flux_syntax.proofs.NumberedNames.{place_at}
 use Rattle.flux_names.specs.Rows.{word_if, library_node, have_kinds, are_like, is_source_role, is_source, source_nodes}
 use Rattle.flux_names.specs.Building.{has_cells, uses_cell}
-use Rattle.flux_types.specs.Signatures.{line_sig, types_of, written}
+use Rattle.flux_types.specs.Signatures.{line_sig, written}
 use Rattle.flux_check.proofs.Rowless.{IsClean}
 use Rattle.flux_check.proofs.Spelled.{both_true, params_are}
-use Rattle.flux_check.proofs.Numbered.{same_text, text_same, text_back, not_both, first_true, second_true, both_false, place_name}
+use Rattle.flux_check.proofs.Numbered.{same_text, text_back, not_both, first_true, second_true, both_false, place_name}
 
 -- ---- roles
 

@@ -7,10 +7,10 @@ use Rattle.flux_syntax.specs.declared.declarations.Word.{Word}
 use Rattle.flux_syntax.specs.declared.declarations.Decl.{Decl}
 use Rattle.flux_syntax.specs.Words.{sourced, names_of, texts_of}
 use Rattle.flux_syntax.specs.Least.{Row, sooner, soonest, fault_or, first_fault}
-use Rattle.flux_names.specs.Rows.{used_names, inner_names, among, not_among, not_in, unlike, source_nodes, not_sources_in, unknown_nodes, twice_named, unknown_types, not_in_library, unlike_library, unknown_predicates, unknown_sessions, not_sources, misused_sources, rows}
+use Rattle.flux_names.specs.Rows.{used_names, inner_names, among, not_among, not_in, unlike, source_nodes, not_sources_in, rows}
 use Rattle.flux_names.specs.Building.{place_or, first_place, constrained}
 use Rattle.flux_types.specs.Signatures.{sig_of}
-use Rattle.flux_types.specs.Rows.{sigs_of, predicates_of, no_signatures, unjoined_in, miscounted_in, unlike_node_in, unlike_predicates_in, unlike_target, unlike_source}
+use Rattle.flux_types.specs.Rows.{sigs_of, predicates_of, unjoined_in, miscounted_in, unlike_node_in, unlike_predicates_in, unlike_target, unlike_source}
 use Rattle.flux_edges.specs.Rows.{unlike_handler}
 use Rattle.flux_check.specs.Rows.{later_rows}
 use Rattle.flux_check.specs.Judgement.{AreSound}
@@ -96,9 +96,10 @@ module _ (meaning : LibraryMeaning) (all : List Decl) where
       let predicates = parts (unlike_predicates_in (sigs_of meaning all) (predicates_of meaning all)) d decls r.predicates in
       let handlers = parts (unlike_handler (sig_of meaning.kind all) (names_of all)) d decls r.handlers in
       let targets = parts (unlike_target (sigs_of meaning all)) d decls r.targets in
-      let sessions = parts (unlike_source meaning.session (sigs_of meaning all)) d decls r.sessions in
-      (record { built = built.0; named = named.0; present = present.0; like = like.0; origins = origins.0; plain = plain.0; joined = joined.0; counted = counted.0; like_node = like_node.0; predicates = predicates.0; handlers = handlers.0; targets = targets.0; sessions = sessions.0 },
-       clean_each decls (record { built = built.1; named = named.1; present = present.1; like = like.1; origins = origins.1; plain = plain.1; joined = joined.1; counted = counted.1; like_node = like_node.1; predicates = predicates.1; handlers = handlers.1; targets = targets.1; sessions = sessions.1 }))
+      let sessions = parts (unlike_source meaning.session (sigs_of meaning all)) d decls r.sessions in (
+        record { built = built.0; named = named.0; present = present.0; like = like.0; origins = origins.0; plain = plain.0; joined = joined.0; counted = counted.0; like_node = like_node.0; predicates = predicates.0; handlers = handlers.0; targets = targets.0; sessions = sessions.0 },
+        clean_each decls (record { built = built.1; named = named.1; present = present.1; like = like.1; origins = origins.1; plain = plain.1; joined = joined.1; counted = counted.1; like_node = like_node.1; predicates = predicates.1; handlers = handlers.1; targets = targets.1; sessions = sessions.1 }),
+      )
 
 -- no row stands at any of sound declarations
 pub all_clean : (meaning : LibraryMeaning) (decls : List Decl) → AreSound meaning decls → AllByRecursion (IsClean meaning decls) decls

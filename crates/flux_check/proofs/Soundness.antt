@@ -1,11 +1,9 @@
 -- The program of sound declarations is sound for the library.
-use Rattle.std.proofs.Common.{◌≡◌, ℕ, inl, inr, ◌⊎◌, Bool, true, false, if◌then◌else◌, List, [], ◌∷◌, ◌++◌, map, Option, Some, None, refl, sym, ap, subst, ◌∙◌}
+use Rattle.std.proofs.Common.{◌≡◌, ℕ, inl, inr, ◌⊎◌, Bool, true, false, if◌then◌else◌, List, [], ◌∷◌, ◌++◌, map, Option, Some, None, refl, sym, ap, subst}
 use Rattle.std.specs.List.{slice_get, list_any, filter_map, flat_map, AllByRecursion}
 use Rattle.std.specs.Str.{bytes_eq}
-use Rattle.flux_values.specs.declared.meanings.CellUse.{CellUse}
 use Rattle.flux_values.specs.Meanings.{LibraryMeaning}
 use Rattle.flux_model.specs.declared.programs.Class.{Class}
-use Rattle.flux_model.specs.declared.programs.Program.{Program}
 use Rattle.flux_model.specs.declared.programs.NodeNo.{NodeNo}
 use Rattle.flux_model.specs.declared.programs.Node.{Node}
 use Rattle.flux_model.specs.declared.programs.Case.{Case}
@@ -19,7 +17,7 @@ use Rattle.flux_model.specs.Children.{IsIn}
 use Rattle.flux_model.specs.Numbered.{IsNumbered}
 use Rattle.flux_model.specs.Ordering.{IsOrder}
 use Rattle.flux_model.specs.Kinds.{NodeKinds, node_kinds, kinds_at, AreCasesJoined, AreHandlersJoined}
-use Rattle.flux_model.specs.Soundness.{IsLike, IsBodyLike, IsPlain, IsSourceNode, FitBody, IsProtected, AreCellsProtected, HasOneScope, HasSession, AreKindsOf, IsSound}
+use Rattle.flux_model.specs.Soundness.{IsLike, IsBodyLike, IsPlain, IsSourceNode, FitBody, IsProtected, AreCellsProtected, HasSession, IsSound}
 use Rattle.flux_model.proofs.NodeLists.{in_either}
 use Rattle.flux_syntax.specs.declared.declarations.Word.{Word}
 use Rattle.flux_syntax.specs.declared.declarations.Decl.{Decl}
@@ -31,7 +29,7 @@ use Rattle.flux_types.specs.Signatures.{written, body_sig, nodes_of, sig_of, Are
 use Rattle.flux_types.proofs.Written.{sig_rule, sigs_same}
 use Rattle.flux_check.specs.Judgement.{AreSound}
 use Rattle.flux_check.proofs.Rowless.{nil_append, IsClean, all_clean}
-use Rattle.flux_check.proofs.Numbered.{same_text, first_known, first_unknown, node_named, map_get, known_node}
+use Rattle.flux_check.proofs.Numbered.{first_known, first_unknown, node_named, map_get, known_node}
 use Rattle.flux_check.proofs.Roles.{signed_plain, source_signed, written_like, signed_free}
 use Rattle.flux_check.proofs.Joins.{K, cases_joined, cases_fit, handlers_joined, sources_fit, sessions_like}
 
@@ -50,7 +48,8 @@ unconstrained meaning all (Session source function ∷ decls) clean = unconstrai
 pub no_classes : (meaning : LibraryMeaning) (decls : List Decl) → AreSound meaning decls → classes_of decls ≡ []
 no_classes meaning decls sound = ap classes_among (unconstrained meaning decls decls (all_clean meaning decls sound))
 
-no_class : (classes : List Class) (number : ℕ) (class : Class) → classes ≡ [] → slice_get classes number ≡ Some class → ⊥
+-- and no number has one
+pub no_class : (classes : List Class) (number : ℕ) (class : Class) → classes ≡ [] → slice_get classes number ≡ Some class → ⊥
 no_class [] number class none at = absurd cc
 no_class (c ∷ classes) number class none at = absurd cc
 

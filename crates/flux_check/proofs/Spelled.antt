@@ -25,6 +25,7 @@ use Rattle.flux_names.specs.Rows.{same_kind, is_kind, have_kinds}
 use Rattle.flux_types.specs.Signatures.{Kinds, with_kind, type_of, types_of, line_sig, nothing, written, last_of, case_sig, cases_sig, body_sig, sig_by, nodes_of, sig_of}
 use Rattle.flux_types.specs.Rows.{same_kind as type_kind, have_kinds as types_have}
 
+-- both of two hold
 pub both_true : (p q : Bool) → (p && q) ≡ true → (p ≡ true) × (q ≡ true)
 both_true true q e = (refl, e)
 both_true false q e = absurd cc
@@ -36,9 +37,11 @@ module _ (kind : Kinds) where
   abbrev IsSpelled : TypeText → Type 0
   IsSpelled ty = kind ty.words ≡ Some ty.kind
 
+  -- and so has each of these
   abbrev pub AreSpelled : List TypeText → Type 0
   AreSpelled types = AllByRecursion IsSpelled types
 
+  -- and so have those of a signature
   pub record IsSigSpelled (sig : NodeSig) : Type 0 where
     pub ins : AreSpelled sig.ins
     pub outs : AreSpelled sig.outs
