@@ -8,6 +8,7 @@ pub mod Roles
 pub mod Joins
 pub mod Soundness
 pub mod Identified
+pub mod Kept
 pub mod Places
 pub mod Judged
 pub mod Exclusive
