@@ -17,7 +17,8 @@ use flux_values::{List, Memory};
 use std::alloc::Global;
 
 fn visit_cases(visits: &mut Visits, cases: &[Case]) -> Result<(), Memory>
-    ensures { OnOk result (visits.new ≡ with_all visits.old (flat_map (λ case. case.members) cases.now)) }
+    ensures { OnOk result
+        (visits.new ≡ with_all visits.old (flat_map (λ case. case.members) cases.now)) }
 {
     for case in cases {
         visits.add_all(case.members.as_slice())?;

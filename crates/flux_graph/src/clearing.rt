@@ -29,7 +29,8 @@ fn visit_from(
     nodes: &[Node],
     place: usize,
 ) -> Result<(), Memory>
-    ensures { OnOk result (visits.new ≡ with_all visits.old (leads_at nodes.now (slice_get visits.old place))) }
+    ensures { OnOk result
+        (visits.new ≡ with_all visits.old (leads_at nodes.now (slice_get visits.old place))) }
 {
     match visits.get(place) {
         Some(number) => visits.add_all(leads_in(alloc, nodes, NodeNo(number))?.as_slice()),

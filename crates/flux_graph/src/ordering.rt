@@ -70,7 +70,8 @@ impl Search {
 
     /// The next node that is to be entered. Nodes with nothing left to enter are left on the way.
     fn next(&mut self, nodes: &[Node]) -> Result<Option<NodeNo>, Stop>
-        ensures found { Holds nodes.now self.old → IfOk result (IsNext nodes.now self.old self.new) }
+        ensures found { Holds nodes.now self.old
+            → IfOk result (IsNext nodes.now self.old self.new) }
         ensures cycle { Holds nodes.now self.old → IfErr result (IsCyclic nodes.now) }
     {
         while let Some(step) = self.steps.pop() {
