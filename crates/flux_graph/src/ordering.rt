@@ -1,6 +1,7 @@
 //! An order of a program's nodes, or a cycle.
 
 ghost use Rattle.std.specs.Prelude.{◌≡◌, ◌≤◌, OnOk, IfOk, IfErr};
+ghost use Rattle.flux_model.specs.declared.programs.TheConstants.{COUNT_LIMIT};
 ghost use Rattle.flux_model.specs.Numbered.{IsNumbered};
 ghost use Rattle.flux_model.specs.Ordering.{IsOrder, HasCycle};
 ghost use Rattle.flux_graph.specs.declared.ordering.Stop.TheVariants as stops;
@@ -42,7 +43,7 @@ struct Search {
 impl Search {
     /// All nodes are still to be entered.
     fn begin(alloc: Global, count: usize) -> Result<Search, Memory>
-        requires few { count ≤ 1048576 }
+        requires few { count ≤ COUNT_LIMIT }
         ensures { IfOk result (IsBegun count) }
     {
         Ok(Search {

@@ -1,6 +1,7 @@
 //! The way from a node back to it, and the cycle with the lowest number of all.
 
 ghost use Rattle.std.specs.Prelude.{◌≡◌, ◌≤◌, ◌<◌, ◌++◌, ◌∷◌, [], length, OnOk, IfOk};
+ghost use Rattle.flux_model.specs.declared.programs.TheConstants.{COUNT_LIMIT};
 ghost use Rattle.flux_graph.specs.steps.Searching.{leaves_of};
 ghost use Rattle.flux_graph.specs.steps.Search.{LeadToNodes};
 ghost use Rattle.flux_model.specs.Ordering.{HasCycle, IsLowestCycle};
@@ -108,7 +109,7 @@ fn way_back_unless_cleared(
 
 /// A cycle through the lowest-numbered node that is on any cycle.
 pub fn lowest_cycle(alloc: Global, nodes: &[Node]) -> Result<List<NodeNo>, Memory>
-    requires few { length nodes.now ≤ 1048576 }
+    requires few { length nodes.now ≤ COUNT_LIMIT }
     requires numbered { LeadToNodes nodes.now }
     requires cycle { HasCycle nodes.now }
     ensures { IfOk result (IsLowestCycle nodes.now) }
