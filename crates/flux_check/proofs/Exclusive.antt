@@ -26,7 +26,7 @@ fault_pair x y o a b = let e = sym a ∙ b in cc
 place_is : (x y : ℕ) (o : Option ℕ) → o ≡ Some x → o ≡ Some y → x ≡ y
 place_is x y o a b = let e = sym a ∙ b in cc
 
-around : (nodes : List Node) (path : List NodeNo) → IsCycle nodes path → HasCycle nodes
+abbrev around : (nodes : List Node) (path : List NodeNo) → IsCycle nodes path → HasCycle nodes
 around nodes path c = let first = c.first in (first.0, record { between = c.others; led = c.led })
 
 pub sound_no_fault : (meaning : LibraryMeaning) (decls : List Decl) (fault : StaticFault) → AreSound meaning decls → IsDeclsFault meaning decls fault → ⊥

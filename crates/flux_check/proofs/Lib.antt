@@ -1,3 +1,4 @@
+pub mod Firsts
 pub mod Capped
 pub mod Sized
 pub mod Limits
@@ -9,6 +10,7 @@ pub mod Joins
 pub mod Soundness
 pub mod Identified
 pub mod Kept
+pub mod Handled
 pub mod Places
 pub mod Judged
 pub mod Exclusive

@@ -9,7 +9,7 @@ ghost use Rattle.flux_names.specs.Building.{first_constrained};
 ghost use Rattle.flux_faults.specs.declared.faults.StaticFault.{StaticFault};
 ghost use Rattle.flux_faults.specs.declared.faults.CheckFault.TheVariants as causes;
 ghost use Rattle.flux_check.specs.Judgement.{AreChecked, IsChecked, IsRefusalOf, IsSoundText, IsTextFault, IsThatFault};
-ghost use Rattle.flux_check.specs.steps.Checking.{IsUnbuiltRefusal, IsCycleRefusal, IsDeclsRefusal, site_of};
+ghost use Rattle.flux_check.specs.steps.Checking.{IsDeclared, IsUnbuiltRefusal, IsCycleRefusal, IsDeclsRefusal, site_of};
 
 use crate::sizing::sizes;
 use flux_edges::{handler_types, session_edges};
@@ -97,6 +97,7 @@ fn built<L: Library>(alloc: Global, decls: &List<Decl>, library: &L) -> Result<(
 
 /// A checked program of declarations, or their fault.
 fn judge<L: Library>(alloc: Global, decls: &List<Decl>, library: &L) -> Result<Checked, CheckFault>
+    requires declared { IsDeclared decls.now }
     requires few { words_of decls.now ≤ COUNT_LIMIT }
     ensures checked { IfOk result (λ checked. AreChecked (L.meaning library.now) decls.now
         checked.program checked.sigs.nodes checked.order.nodes checked.sizes) }

@@ -10,10 +10,15 @@ use Rattle.flux_model.specs.declared.named.Named.{Named}
 use Rattle.flux_model.specs.Locks.{no_locks}
 use Rattle.flux_model.specs.Sizes.{source_size, total_size}
 use Rattle.flux_syntax.specs.declared.declarations.Decl.{Decl}
+use Rattle.flux_syntax.specs.Declares.{Declares}
 use Rattle.flux_syntax.specs.Least.{first_fault}
 use Rattle.flux_hoist.specs.declared.checked.TheConstants.{SIZE_LIMIT}
 use Rattle.flux_check.specs.Rows.{size_rows}
 use Rattle.flux_check.specs.Judgement.{IsUnbuilt, IsCycleOf, IsDeclsFault}
+
+-- the declarations are those of some text
+abbrev pub IsDeclared : List Decl → Type 0
+IsDeclared decls = (text : List ℕ) × Declares decls text
 
 -- the sizes of the sources, which are within the limit
 pub record AreSizes (decls : List Decl) (program : Program) (sizes : List ℕ) : Type 0 where
