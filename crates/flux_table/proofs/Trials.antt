@@ -1,5 +1,5 @@
 -- What the tests' own checks of a call's condition stand on.
-use Rattle.std.proofs.Common.{◌≡◌, ◌≢◌, ℕ, zero, suc, ◌<◌, Bool, true, false, cond, eqb, List, [], ◌∷◌, ◌++◌, length, get_or, Option, Some, None, refl, sym, ap, subst, ◌∙◌, inl, inr, arith, option_map, unwrap_or, is_some}
+use Rattle.std.proofs.Common.{◌≡◌, ◌≢◌, ℕ, Bool, true, false, cond, List, [], ◌∷◌, ◌++◌, Option, Some, None, refl, sym, ap, subst, ◌∙◌, inl, inr, option_map, unwrap_or, is_some}
 use Rattle.std.proofs.lemmas.Bool.{false≢true}
 use Rattle.std.specs.List.{Contains, All}
 use Rattle.std.proofs.lemmas.List.Elements.{All-contains, Contains-push, Contains-push_cases, Contains-append_left}
@@ -17,23 +17,7 @@ use Rattle.flux_table.specs.Blockers.{StandsOnlyAt}
 use Rattle.flux_table.specs.Changes.{line_without, Takes, Waits, Follows}
 use Rattle.flux_table.specs.steps.Stood.{HaveStood}
 use Rattle.flux_table.proofs.Keys.{same_key_is}
-
-contains_later : (first : Waiter) (line : List Waiter) (waiter : Waiter) → Contains line waiter → Contains (first ∷ line) waiter
-contains_later first line waiter is = (suc is.0, omega (arith, is.1), is.2)
-
-contains_first : (first : Waiter) (line less : List Waiter) (waiter : Waiter) → (Contains less waiter → Contains line waiter) → Contains (first ∷ less) waiter → Contains (first ∷ line) waiter
-contains_first first line less waiter rest is = placed is.0 is.1 is.2 where
-  placed : (k : ℕ) → k < length (first ∷ less) → get_or (first ∷ less) k waiter ≡ waiter → Contains (first ∷ line) waiter
-  placed zero within at = (zero, omega arith, at)
-  placed (suc k) within at = contains_later first line waiter (rest (k, omega (arith, within), at))
-
-contains_without : (line : List Waiter) (flow : ℕ) (waiter : Waiter) → Contains (line_without line flow) waiter → Contains line waiter
-contains_without [] flow waiter = λ is. is
-contains_without (first ∷ line) flow waiter =
-    elim (eqb first.flow.0 flow) as (λ b. Contains (cond b line (first ∷ line_without line flow)) waiter → Contains (first ∷ line) waiter) [
-      | true ↦ contains_later first line waiter
-      | false ↦ contains_first first line (line_without line flow) waiter (contains_without line flow waiter)
-    ]
+use Rattle.flux_table.proofs.Orderly.{contains_without}
 
 -- a line that has no new waiters
 line_less : (old : Locks) (key k : Key) (line : List Waiter) (waiter : Waiter) → (Contains line waiter → Contains (lines_of old key) waiter)

@@ -3,7 +3,7 @@
 ghost use Rattle.std.specs.Prelude.{◌≡◌, ◌++◌, ◌∷◌, [], ◌↔◌, IfOk, OnOk, OnErr, Some, None, IsTrue};
 ghost use Rattle.std.specs.Prelude.{◌==◌};
 ghost use Rattle.std.specs.List.{position};
-ghost use Rattle.flux_table.specs.Locks.{held_by};
+ghost use Rattle.flux_table.specs.Locks.{held_by, StandsNowhere};
 ghost use Rattle.flux_table.specs.Blockers.{Blocks, HoldsAgainst, StandsAgainst, IsLowestOf, IsEither, line_before};
 ghost use Rattle.flux_table.specs.Changes.{one_more, one_less, with_held, line_without};
 
@@ -27,7 +27,8 @@ pub struct Waiter {
     pub mode: Mode,
 }
 
-/// The holders of a key, no two of them in conflict, and its line, first come first.
+/// The holders of a key, no two of them in conflict, and its line, first come first. Each flow stands there once, and
+/// no holder does.
 #[derive(Drop)]
 pub struct Lock {
     holders: BTreeMap<FlowNo, Held>,
@@ -35,13 +36,13 @@ pub struct Lock {
 }
 
 impl Model for Lock {
-    ghost use Rattle.flux_table.specs.Locks.{LockState, IsPeaceful, held_by};
+    ghost use Rattle.flux_table.specs.Locks.{LockState, IsOrderly, held_by};
 
     ghost Value = { LockState };
 
     ghost view = { λ l. record { holders = l.holders.entries; line = l.line.items } };
 
-    ghost invariant = { λ l. IsPeaceful (held_by l.holders.entries) };
+    ghost invariant = { λ l. IsOrderly (held_by l.holders.entries) l.line.items };
 }
 
 impl Lock {
@@ -104,14 +105,17 @@ impl Lock {
         ensures line { OnOk result (self.new.line ≡ line_without self.old.line flow.0) }
         ensures err { OnErr result (self.new ≡ self.old) }
     {
-        let held = more(self.held_by(flow), mode)?;
+        let old = self.held_by(flow);
+        let held = more(old, mode)?;
         self.holders.insert(flow, held)?;
-        leave(&mut self.line, flow);
+        leave(&mut self.line, flow, old.is_some());
         Ok(())
     }
 
     /// The flow stands at the end of the line.
     pub fn wait(&mut self, flow: FlowNo, mode: Mode) -> Result<(), Memory>
+        requires free { held_by self.old.holders flow.0 ≡ None }
+        requires stands { StandsNowhere self.old.line flow.0 }
         ensures holders { self.new.holders ≡ self.old.holders }
         ensures line { OnOk result (self.new.line ≡ self.old.line ++ record { flow = flow; mode = mode } ∷ []) }
         ensures err { OnErr result (self.new ≡ self.old) }
@@ -191,10 +195,14 @@ fn fewer(held: Option<Held>) -> Option<Held>
     }
 }
 
-/// Takes the first waiter of a flow out of a line.
-fn leave(line: &mut Vec<Waiter>, flow: FlowNo)
+/// Takes a flow out of a line. Who holds the key stands in no line.
+fn leave(line: &mut Vec<Waiter>, flow: FlowNo, is_holder: bool)
+    requires { IsTrue is_holder → StandsNowhere line.old.items flow.0 }
     ensures { line.new.items ≡ line_without line.old.items flow.0 }
 {
+    if is_holder {
+        return;
+    }
     if let Some(place) = place_of(line, flow) {
         let _ = line.remove(place);
     }

@@ -14,4 +14,4 @@ pub returns-else-conflict : goal.returns-else-conflict
 returns-else-conflict c =
     let first = c.in_ok-flow.ensures in
     subst (λ s. IsLowestOf (λ other. HoldsAgainst (held_by s.holders) other c.args.mode) None) c.self.view_is
-    (none_against c.self.inside.holders.entries c.in_ok-flow.flow.now c.in_ok-flow.held.now c.args.mode first.value c.self.invariant (sym c.if-conflict.ensures))
+    (none_against c.self.inside.holders.entries c.in_ok-flow.flow.now c.in_ok-flow.held.now c.args.mode first.value c.self.invariant.peaceful (sym c.if-conflict.ensures))

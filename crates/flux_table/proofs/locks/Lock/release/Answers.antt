@@ -1,7 +1,8 @@
 use Rattle.std.proofs.Common.{◌≡◌, ◌∙◌, sym, ap, subst, refl, IsSome, Some, None}
-use Rattle.flux_table.specs.Locks.{held_by, IsPeaceful}
+use Rattle.flux_table.specs.Locks.{held_by, IsOrderly}
 use Rattle.flux_table.specs.Changes.{with_held, one_less}
-use Rattle.flux_table.proofs.Holding.{changed_is, peaceful_less}
+use Rattle.flux_table.proofs.Holding.{changed_is}
+use Rattle.flux_table.proofs.Orderly.{orderly_less}
 use Rattle.flux_table.proofs.locks.Lock.release.Goals as goal
 
 removed : (c : goal.After-remove) → held_by c.remove.new.self.entries
@@ -16,8 +17,8 @@ returns-in-None-clause-holders c = removed c
 
 pub invariant_of-self-in-None : goal.invariant_of-self-in-None
 invariant_of-self-in-None c =
-    peaceful_less (held_by c.args.self.now.holders) (held_by c.remove.new.self.entries) c.args.flow.0
-    (subst (λ s. IsPeaceful (held_by s.holders)) c.self.view_is c.self.invariant) (removed c)
+    orderly_less (held_by c.args.self.now.holders) (held_by c.remove.new.self.entries) c.self.inside.line.items c.args.flow.0
+    (subst (λ s. IsOrderly (held_by s.holders) c.self.inside.line.items) c.self.view_is c.self.invariant) (removed c)
 
 written : (c : goal.After-self-in-Some-get_mut-1) → held_by (c.get_mut.follows.lender c.in-Some.fewer).entries
     ≡ with_held (held_by c.args.self.now.holders) c.args.flow.0 (one_less (held_by c.args.self.now.holders c.args.flow.0))
@@ -31,5 +32,5 @@ returns-in-Some-get_mut-clause-holders c = written c
 
 pub invariant_of-self : goal.invariant_of-self
 invariant_of-self c =
-    peaceful_less (held_by c.args.self.now.holders) (held_by (c.get_mut.follows.lender c.in-Some.fewer).entries) c.args.flow.0
-    (subst (λ s. IsPeaceful (held_by s.holders)) c.self.view_is c.self.invariant) (written c)
+    orderly_less (held_by c.args.self.now.holders) (held_by (c.get_mut.follows.lender c.in-Some.fewer).entries) c.self.inside.line.items c.args.flow.0
+    (subst (λ s. IsOrderly (held_by s.holders) c.self.inside.line.items) c.self.view_is c.self.invariant) (written c)

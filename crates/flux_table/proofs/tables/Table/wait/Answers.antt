@@ -1,10 +1,21 @@
 use Rattle.std.proofs.Common.{◌≡◌, ◌++◌, ◌∷◌, [], ◌∙◌, sym, ap, subst, refl, IsSome, Some, None}
 use Rattle.std.proofs.lemmas.Result.{on_ok_weaker, on_err_weaker}
-use Rattle.flux_table.specs.Locks.{held_by}
-use Rattle.flux_table.specs.Tables.{lock_at}
+use Rattle.flux_table.specs.Locks.{held_by, StandsNowhere}
+use Rattle.flux_table.specs.Tables.{lock_at, holding_in, line_in}
 use Rattle.flux_table.specs.Changes.{Waits}
 use Rattle.flux_table.proofs.Keys.{found_is, changed_is, waits_is, unchanged}
 use Rattle.flux_table.proofs.tables.Table.wait.Goals as goal
+
+-- the lock of the key
+there : (c : goal.In-Some) → lock_at c.args.self.now c.args.key ≡ Some c.in-Some.lock.now
+there c =
+    subst (λ locks. lock_at locks c.args.key ≡ Some c.in-Some.lock.now) c.self.view_is (sym (c.in-Some.ensures.value ∙ found_is c.self.inside.locks.entries c.args.key))
+
+pub wait-requires-clause-free : goal.wait-requires-clause-free
+wait-requires-clause-free c = subst (λ o. holding_in o c.args.flow.0 ≡ None) (there c) c.requires.free
+
+pub wait-requires-clause-stands : goal.wait-requires-clause-stands
+wait-requires-clause-stands c = subst (λ o. StandsNowhere (line_in o) c.args.flow.0) (there c) (c.requires.stands c.args.key)
 
 pub returns-in-Some-clause-ok : goal.returns-in-Some-clause-ok
 returns-in-Some-clause-ok c =
