@@ -129,7 +129,8 @@ fn edit_shared(
     value: Option<Value>,
 ) -> Result<(), Memory>
     requires { AreInOrder (arc_value shared.old).items }
-    ensures ok { OnOk result ((arc_value shared.new).items ≡ edited (arc_value shared.old).items name value) }
+    ensures ok { let before = (arc_value shared.old).items in
+        OnOk result ((arc_value shared.new).items ≡ edited before name value) }
     ensures err { OnErr result ((arc_value shared.new).items ≡ (arc_value shared.old).items) }
 {
     match Arc::get_mut(shared) {
