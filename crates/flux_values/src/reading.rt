@@ -1,6 +1,6 @@
 //! Values read from the front of bytes.
 
-ghost use Rattle.std.specs.Prelude.{◌≡◌, ◌≢◌, ◌<◌, ◌≤◌, ◌++◌, ◌*◌, ◌+◌, ◌-◌, ◌^◌, ◌∷◌, ◌⊎◌, ℕ, ℤ, [], length, drop, take, IfSome, Ok, Err, slice_index, slice_get};
+ghost use Rattle.std.specs.Prelude.{◌≡◌, ◌<◌, ◌≤◌, ◌*◌, ◌+◌, ◌-◌, ◌∷◌, ℕ, length, drop, IfSome, Ok, Err, slice_index, slice_get};
 ghost use Rattle.flux_values.specs.declared.values.Value.{Value};
 ghost use Rattle.flux_values.specs.declared.failures.ValueFault.TheVariants as faults;
 ghost use Rattle.flux_values.specs.Texts.{printed_bool};
