@@ -1,5 +1,5 @@
 -- What `==` says of values, kinds and results of calls, and of lists of these: whether they are equal.
-use Rattle.std.proofs.Common.{◌≡◌, Bool, List, Decides, rules}
+use Rattle.std.proofs.Common.{◌≡◌, List, Decides, rules}
 use Rattle.std.specs.Cmp.Lexicographic.{pointwise, pointwise_decides}
 use Rattle.flux_values.specs.declared.values.Value.{Value}
 use Rattle.flux_values.specs.declared.values.Kind.{Kind}

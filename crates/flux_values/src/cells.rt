@@ -1,6 +1,6 @@
 //! Cells: what a session or the whole program remembers, by name.
 
-ghost use Rattle.std.specs.Prelude.{◌≡◌, ◌↔◌, ◌<◌, ◌≤◌, IfOk, OnOk, OnErr, IsNone, IfSome, Some, None, option_copied, length, slice_get, map as mapped};
+ghost use Rattle.std.specs.Prelude.{◌≡◌, ◌<◌, IfOk, OnOk, OnErr, Some, None, option_copied, slice_get};
 ghost use Rattle.std.specs.Ordering.{nat_cmp};
 ghost use Rattle.std.specs.Cmp.Lexicographic.{slice_cmp};
 ghost use Rattle.std.specs.FinMap as map;
@@ -129,7 +129,8 @@ fn edit_shared(
     value: Option<Value>,
 ) -> Result<(), Memory>
     requires { AreInOrder (arc_value shared.old).items }
-    ensures ok { OnOk result ((arc_value shared.new).items ≡ edited (arc_value shared.old).items name value) }
+    ensures ok { let before = (arc_value shared.old).items in
+        OnOk result ((arc_value shared.new).items ≡ edited before name value) }
     ensures err { OnErr result ((arc_value shared.new).items ≡ (arc_value shared.old).items) }
 {
     match Arc::get_mut(shared) {

@@ -1,6 +1,6 @@
 //! A list that contracts see as a list.
 
-ghost use Rattle.std.specs.Prelude.{◌≡◌, ◌<◌, ◌^◌, [], ◌∷◌, ◌++◌, length, slice_get, slice_set, OnOk, IfErr, OnErr, IfSome, IsNone, OnSome, IfNone, IsTrue, ◌↔◌};
+ghost use Rattle.std.specs.Prelude.{◌≡◌, ◌<◌, ◌^◌, [], ◌∷◌, ◌++◌, length, slice_get, slice_set, OnOk, IfErr, OnErr, IfSome, IsNone, IfNone, IsTrue, ◌↔◌};
 ghost use Rattle.std.specs.Prelude.{◌-◌, option_copied};
 ghost use Rattle.std.specs.Cmp.Lexicographic.{pointwise, lists_per, lists_equiv};
 ghost use Rattle.std.specs.Slice.Iter.{iter_rest, iter_steps};

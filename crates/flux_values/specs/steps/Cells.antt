@@ -24,19 +24,25 @@ held None = []
 
 -- how the name of the entry at a place compares with a name
 abbrev pub compared : Entries → List ℕ → ℕ → List ℕ × Value → Ordering
-compared entries name place default = let entry = slice_index_or entries place default in slice_cmp nat_cmp entry.0 name
+compared entries name place default =
+    let entry = slice_index_or entries place default in slice_cmp nat_cmp entry.0 name
 
--- where a name is among entries in order, or where it would go: smaller names before it, greater ones from it on
+-- where a name is among entries in order, or where it would go: smaller names before it, greater
+-- ones from it on
 abbrev pub IsPlaceOf : Entries → List ℕ → Result ℕ ℕ → Type 0
-IsPlaceOf entries name (Ok place) = (place < length entries) × ((d : List ℕ × Value) → compared entries name place d ≡ Equal)
+IsPlaceOf entries name (Ok place) =
+    (place < length entries)
+    × ((d : List ℕ × Value) → compared entries name place d ≡ Equal)
 IsPlaceOf entries name (Err place) =
     (place ≤ length entries)
     × ((k : ℕ) (d : List ℕ × Value) → k < place → compared entries name k d ≡ Less)
-    × ((k : ℕ) (d : List ℕ × Value) → place ≤ k → k < length entries → compared entries name k d ≡ Greater)
+    × ((k : ℕ) (d : List ℕ × Value) → place ≤ k → k < length entries
+    → compared entries name k d ≡ Greater)
 
 -- the entries of all other names
 abbrev pub without : List ℕ → Entries → Entries
-without name entries = where_key (slice_cmp nat_cmp) (λ other. not (eq_by_cmp (slice_cmp nat_cmp) name other)) entries
+without name entries =
+    where_key (slice_cmp nat_cmp) (λ other. not (eq_by_cmp (slice_cmp nat_cmp) name other)) entries
 
 -- the entries with a name set to a value, or without it
 abbrev pub edited : Entries → List ℕ → Option Value → Entries

@@ -1,4 +1,4 @@
-use Rattle.std.proofs.Common.{◌≡◌, ap, sym, subst, ◌∙◌, [], refl}
+use Rattle.std.proofs.Common.{◌≡◌, ap, subst, ◌∙◌, [], refl}
 use Rattle.std.specs.FinMap.{from_sorted}
 use Rattle.std.proofs.lemmas.Result.{on_ok_weaker}
 use Rattle.flux_values.specs.steps.Cells.{held, AreInOrder, edited}
