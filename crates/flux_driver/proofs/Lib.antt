@@ -13,5 +13,6 @@ pub mod ItemLines
 pub mod Sourced
 pub mod Named
 pub mod Once
+pub mod AskedNames
 pub mod Prepared
 pub mod Answered

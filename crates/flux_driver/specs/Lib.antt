@@ -3,6 +3,7 @@ pub mod Running
 pub mod Items
 pub mod Statuses
 pub mod Commands
+pub mod Asking
 pub mod Writing
 pub mod Refusals
 pub mod Steps

@@ -22,3 +22,8 @@ abbrev pub Decides : Status → Status → ℕ → ℕ → ℕ → ℕ → Type 
 Decides status due store_count store_later out_count out_later =
     (status ≡ due) ⊎ ((status ≡ statuses.Memory) ⊎ (((status ≡ statuses.Read) × Rose store_count store_later)
     ⊎ ((status ≡ statuses.Write) × (due ≡ statuses.Done) × Rose out_count out_later)))
+
+-- the status is this one where the count rose, and else another one, and the count stands as before
+abbrev pub IsFaultOf : Status → Status → ℕ → ℕ → Type 0
+IsFaultOf own status before now = ((status ≡ own) × Rose before now)
+    ⊎ ((status ≡ own → ⊥) × (now ≡ before))

@@ -8,12 +8,14 @@ ghost use Rattle.flux_model.specs.Soundness.{kinds_at};
 ghost use Rattle.flux_syntax.specs.Declares.{Declares};
 ghost use Rattle.flux_model.specs.declared.journals.Item.{Item};
 ghost use Rattle.flux_outside.specs.Causes.{Rose};
+ghost use Rattle.flux_outside.specs.Stores.{AskedFor};
 ghost use Rattle.flux_outside.specs.declared.stores.File.TheVariants as files;
 ghost use Rattle.flux_driver.specs.declared.statuses.Status.TheVariants as statuses;
 ghost use Rattle.flux_driver.specs.declared.refusals.Refusal.TheVariants as refusals;
 ghost use Rattle.flux_driver.specs.Items.{AreItemsOf, IsItemFault, AreNamedSources};
 ghost use Rattle.flux_driver.specs.Running.{CanRun};
 ghost use Rattle.flux_driver.specs.Commands.{IsName, Command, check, run, format, Asks, AsksNothing, Gives, IsPrinted, IsDue, IsAnswer, fault_text, write_line};
+ghost use Rattle.flux_driver.specs.Asking.{HasAsked, HaveAsked};
 ghost use Rattle.flux_driver.specs.Refusals.{status_of, line_of, IsUnread, IsTextRefused, IsCheckRefused, IsLineOrMemory, IsRefused};
 ghost use Rattle.flux_driver.specs.Steps.{asked, IsWritten, AreRefused, prepared_status, IsFirm};
 ghost use Rattle.flux_driver.specs.Writing.{Gained, Failed, GainedOrFailed};
@@ -107,6 +109,8 @@ fn load<'a, S: Store>(
     ensures kept { S.files store.new ≡ S.files store.old }
     ensures later { S.faults store.old ≤ S.faults store.new }
     ensures found { IfOk result (λ text. Gives (S.files store.old) name.now max (files.Found text)) }
+    ensures asked { AskedFor (S.asked store.old) (S.asked store.new) name.now }
+    ensures steady { (prepared_status result ≡ statuses.Read → ⊥) → S.faults store.new ≡ S.faults store.old }
     ensures unread { IfErr result (IsUnread (S.files store.old) name.now max (S.faults store.old) (S.faults store.new)) }
 {
     match store.read_file(alloc, name, max) {
@@ -192,6 +196,8 @@ fn prepare_check<'a, S: Store>(
     ensures later { S.faults store.old ≤ S.faults store.new }
     ensures done { IfOk result (IsPrinted (check file.now) (S.files store.old)) }
     ensures refused { IfErr result (IsRefused (check file.now) (S.files store.old)) }
+    ensures asked { HasAsked (check file.now) (S.files store.old) (S.asked store.old) (S.asked store.new) }
+    ensures steady { (prepared_status result ≡ statuses.Read → ⊥) → S.faults store.new ≡ S.faults store.old }
     ensures read { IfErr result (λ refusal. status_of refusal ≡ statuses.Read → Rose (S.faults store.old) (S.faults store.new)) }
     ensures firm { IfSome (S.files store.old) (λ told. IsFirm (check file.now) (Some told) (prepared_status result)) }
 {
@@ -220,6 +226,8 @@ fn prepare_run<'a, S: Store>(
     ensures later { S.faults store.old ≤ S.faults store.new }
     ensures done { IfOk result (IsPrinted (run file.now items.now) (S.files store.old)) }
     ensures refused { IfErr result (IsRefused (run file.now items.now) (S.files store.old)) }
+    ensures asked { HasAsked (run file.now items.now) (S.files store.old) (S.asked store.old) (S.asked store.new) }
+    ensures steady { (prepared_status result ≡ statuses.Read → ⊥) → S.faults store.new ≡ S.faults store.old }
     ensures read { IfErr result (λ refusal. status_of refusal ≡ statuses.Read → Rose (S.faults store.old) (S.faults store.new)) }
     ensures firm { IfSome (S.files store.old) (λ told. IsFirm (run file.now items.now) (Some told) (prepared_status result)) }
 {
@@ -248,6 +256,8 @@ fn prepare_format<'a, S: Store>(
     ensures later { S.faults store.old ≤ S.faults store.new }
     ensures done { IfOk result (IsPrinted (format file.now) (S.files store.old)) }
     ensures refused { IfErr result (IsRefused (format file.now) (S.files store.old)) }
+    ensures asked { HasAsked (format file.now) (S.files store.old) (S.asked store.old) (S.asked store.new) }
+    ensures steady { (prepared_status result ≡ statuses.Read → ⊥) → S.faults store.new ≡ S.faults store.old }
     ensures read { IfErr result (λ refusal. status_of refusal ≡ statuses.Read → Rose (S.faults store.old) (S.faults store.new)) }
     ensures firm { IfSome (S.files store.old) (λ told. IsFirm (format file.now) (Some told) (prepared_status result)) }
 {
@@ -275,6 +285,8 @@ pub fn prepare<'a, S: Store>(
     ensures later { S.faults store.old ≤ S.faults store.new }
     ensures done { IfOk result (λ text. (command : Command) × Asks words.now command × IsPrinted command (S.files store.old) text) }
     ensures refused { IfErr result (λ refusal. IsAnswer words.now (S.files store.old) (status_of refusal) [] (line_of refusal)) }
+    ensures asked { HaveAsked words.now (S.files store.old) (S.asked store.old) (S.asked store.new) }
+    ensures steady { (prepared_status result ≡ statuses.Read → ⊥) → S.faults store.new ≡ S.faults store.old }
     ensures read { IfErr result (λ refusal. status_of refusal ≡ statuses.Read → Rose (S.faults store.old) (S.faults store.new)) }
     ensures firm { IfSome (S.files store.old) (λ told. (command : Command) → Asks words.now command → IsFirm command (Some told) (prepared_status result)) }
 {
@@ -299,7 +311,12 @@ pub fn refuse<E: Sink>(alloc: Global, err: &mut E, refusal: Refusal) -> Status
     ensures later { E.faults err.old ≤ E.faults err.new }
     ensures said { ((result ≡ status_of refusal.entry) × GainedOrFailed (E.written err.old) (E.written err.new) (E.faults err.old) (E.faults err.new) (line_of refusal.entry))
         ⊎ ((result ≡ Status.Memory) × Gained (E.written err.old) (E.written err.new) []) }
+    ensures read { (result ≡ Status.Read) ↔ (status_of refusal.entry ≡ Status.Read) }
 {
+    if let Refusal::Read = refusal {
+        say(err, b"flux: read failed\n");
+        return Status::Read;
+    }
     match refusal.line(alloc) {
         Ok(line) => {
             say(err, line.as_bytes());
@@ -315,6 +332,7 @@ pub fn print<O: Sink, E: Sink>(out: &mut O, err: &mut E, text: &[u8]) -> Status
     ensures printed { ((result ≡ Status.Done) × Gained (O.written out.old) (O.written out.new) text.now × Gained (E.written err.old) (E.written err.new) [])
         ⊎ ((result ≡ Status.Write) × Failed (O.written out.old) (O.written out.new) (O.faults out.old) (O.faults out.new) text.now
         × GainedOrFailed (E.written err.old) (E.written err.new) (E.faults err.old) (E.faults err.new) write_line) }
+    ensures steady { result ≡ Status.Done → O.faults out.new ≡ O.faults out.old }
 {
     match write_all(out, text) {
         Ok(()) => Status::Done,

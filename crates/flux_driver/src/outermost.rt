@@ -1,11 +1,11 @@
 //! All that the program does, as one call.
 
 ghost use Rattle.std.specs.Prelude.{◌≡◌, ◌≤◌, ◌⊎◌, List, ℕ, IfSome, Some};
-ghost use Rattle.flux_outside.specs.Causes.{Rose};
 ghost use Rattle.flux_driver.specs.declared.statuses.Status.{Status};
 ghost use Rattle.flux_driver.specs.declared.statuses.Status.TheVariants as statuses;
 ghost use Rattle.flux_driver.specs.Commands.{AsksNothing, IsDue};
-ghost use Rattle.flux_driver.specs.Top.{Answers, Decides};
+ghost use Rattle.flux_driver.specs.Asking.{HaveAsked};
+ghost use Rattle.flux_driver.specs.Top.{Answers, Decides, IsFaultOf};
 
 use crate::commands::{prepare, print, refuse};
 use crate::statuses::Status;
@@ -38,9 +38,11 @@ pub fn top<S: Store, O: Sink, E: Sink>(
     ensures answer { Answers words.now (S.files world.old.store) result
         (O.written world.old.out) (O.written world.new.out) (O.faults world.old.out) (O.faults world.new.out)
         (E.written world.old.err) (E.written world.new.err) (E.faults world.old.err) (E.faults world.new.err) }
-    // Reading and writing failed only where a count rose.
-    ensures read { result ≡ statuses.Read → Rose (S.faults world.old.store) (S.faults world.new.store) }
-    ensures write { result ≡ statuses.Write → Rose (O.faults world.old.out) (O.faults world.new.out) }
+    // Reading and writing failed exactly where a count rose.
+    ensures read { IsFaultOf statuses.Read result (S.faults world.old.store) (S.faults world.new.store) }
+    ensures write { IsFaultOf statuses.Write result (O.faults world.old.out) (O.faults world.new.out) }
+    // The files of a command were asked for, and no other.
+    ensures asked { HaveAsked words.now (S.files world.old.store) (S.asked world.old.store) (S.asked world.new.store) }
     // Words that are no command are refused, unless memory is short.
     ensures usage { AsksNothing words.now → (result ≡ statuses.Usage) ⊎ (result ≡ statuses.Memory) }
     // What words and told files decide is answered, unless memory is short or a count rose.

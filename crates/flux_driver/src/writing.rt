@@ -1,6 +1,6 @@
 //! Writing all of some bytes to a sink.
 
-ghost use Rattle.std.specs.Prelude.{◌≤◌, OnOk, OnErr};
+ghost use Rattle.std.specs.Prelude.{◌≡◌, ◌≤◌, OnOk, OnErr};
 ghost use Rattle.flux_driver.specs.Writing.{Gained, GainedPart};
 ghost use Rattle.flux_outside.specs.Causes.{Rose};
 
@@ -11,6 +11,7 @@ pub fn write_all<O: Sink>(out: &mut O, bytes: &[u8]) -> Result<(), Failed>
     ensures later { O.faults out.old ≤ O.faults out.new }
     ensures written { OnOk result (Gained (O.written out.old) (O.written out.new) bytes.now) }
     ensures part { OnErr result (GainedPart (O.written out.old) (O.written out.new) bytes.now) }
+    ensures steady { OnOk result (O.faults out.new ≡ O.faults out.old) }
     ensures cause { OnErr result (Rose (O.faults out.old) (O.faults out.new)) }
 {
     let mut rest = bytes;

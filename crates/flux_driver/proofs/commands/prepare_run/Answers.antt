@@ -2,7 +2,8 @@ use Rattle.flux_driver.specs.Commands.{run, IsPrinted}
 use Rattle.flux_driver.specs.Refusals.{IsRefused}
 use Rattle.flux_driver.specs.Steps.{IsWritten, AreRefused}
 use Rattle.flux_driver.proofs.Steps.{if_ok, if_err}
-use Rattle.flux_driver.proofs.Prepared.{unread_program, check_refused, unread_items, can_run, sources_are_named, has_program, is_printed, is_refused, firm}
+use Rattle.flux_driver.proofs.Prepared.{unread_program, unread_items, can_run, sources_are_named, has_program, is_printed, is_refused, firm}
+use Rattle.flux_driver.proofs.AskedNames.{asked_both}
 use Rattle.flux_driver.proofs.commands.prepare_run.Goals as goal
 
 pub returns-in-Err-clause-refused : goal.returns-in-Err-clause-refused
@@ -52,6 +53,18 @@ returns-clause-firm g c =
     let told = g.S.Store.files c.args.store.now in
     firm c.args.file.now c.in-Ok.text c.in-Ok-check_text.checked.program c.in-Ok-check_text.checked.sigs.nodes c.in-Ok-check_text.checked.order.nodes c.in-Ok-check_text.checked.sizes checked c.args.items.now told c.in-Ok-load.text c.carry_out.result c.in-Ok.ensures.found more items fault
 
-pub returns-in-Err-check_text-clause-refused : goal.returns-in-Err-check_text-clause-refused
-returns-in-Err-check_text-clause-refused g c =
-    check_refused (run c.args.file.now c.args.items.now) (g.S.Store.files c.args.store.now) c.in-Ok.text c.in-Err-check_text.refusal c.in-Ok.ensures.found (λ fault is. is) (rw c.as_bytes.ensures at c.in-Err-check_text.ensures.refused)
+pub returns-in-Err-load-clause-asked : goal.returns-in-Err-load-clause-asked
+returns-in-Err-load-clause-asked g c =
+    let checked = rw c.as_bytes.ensures at c.in-Ok-check_text.ensures.checked in
+    let told = g.S.Store.files c.args.store.now in
+    asked_both c.args.file.now c.args.items.now told _ (g.S.Store.asked c.args.store.now) (g.S.Store.asked c.load.new.store) (g.S.Store.asked c.load-2.new.store)
+    (has_program c.args.file.now c.in-Ok.text c.in-Ok-check_text.checked.program c.in-Ok-check_text.checked.sigs.nodes c.in-Ok-check_text.checked.order.nodes c.in-Ok-check_text.checked.sizes checked told c.in-Ok.ensures.found)
+    c.load.ensures.asked c.load-2.ensures.asked
+
+pub returns-clause-asked : goal.returns-clause-asked
+returns-clause-asked g c =
+    let checked = rw c.as_bytes.ensures at c.in-Ok-check_text.ensures.checked in
+    let told = g.S.Store.files c.args.store.now in
+    asked_both c.args.file.now c.args.items.now told _ (g.S.Store.asked c.args.store.now) (g.S.Store.asked c.load.new.store) (g.S.Store.asked c.load-2.new.store)
+    (has_program c.args.file.now c.in-Ok.text c.in-Ok-check_text.checked.program c.in-Ok-check_text.checked.sigs.nodes c.in-Ok-check_text.checked.order.nodes c.in-Ok-check_text.checked.sizes checked told c.in-Ok.ensures.found)
+    c.load.ensures.asked c.load-2.ensures.asked
