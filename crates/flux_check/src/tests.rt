@@ -92,7 +92,12 @@ fn rows_on_cases_and_handlers_stand_at_their_words(rt: HostRuntime) -> Result<()
     assert_parts(&rt, alloc, &parts, FaultKind::CaseTypes, 58)?;
     let parts = [PASS, ECHO, b"handle error Pass => Echo;"];
     assert_parts(&rt, alloc, &parts, FaultKind::HandlerTypes, 72)?;
-    let parts = [TICK, PASS, SHOW, b"source Tick => A; A = Pass; handle error A:(1) => Show;"];
+    let parts = [
+        TICK,
+        PASS,
+        SHOW,
+        b"source Tick => A; A = Pass; handle error A:(1) => Show;",
+    ];
     let text = joined(alloc, &parts)?;
     assert_sizes(&rt, alloc, text.as_bytes(), &[10]);
     Ok(())
