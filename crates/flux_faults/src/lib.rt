@@ -12,4 +12,4 @@ mod tests;
 
 pub use faults::{CheckFault, FaultKind, Place, StaticFault};
 pub use lines::fault_line;
-pub use places::place;
+pub use places::{PLACE_LIMIT, place};
