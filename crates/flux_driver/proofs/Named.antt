@@ -11,7 +11,7 @@ use Rattle.flux_model.specs.Texts.{name_in, source_name}
 use Rattle.flux_syntax.specs.declared.declarations.Decl.{Decl}
 use Rattle.flux_syntax.specs.declared.declarations.Decl.TheVariants.{Signature, Flow, Source, Typedef, Handler, Atomic, Session}
 use Rattle.flux_syntax.specs.Declares.{Declares}
-use Rattle.flux_syntax.specs.Standing.{IsName, AllStandIn}
+use Rattle.flux_syntax.proofs.Standing.{IsName, AllStandIn}
 use Rattle.flux_syntax.specs.Words.{sourced, inner, and_name, names_of, listed}
 use Rattle.flux_syntax.specs.ProgramOfText.{source_of}
 use Rattle.flux_syntax.proofs.Printed.{word_of_name}
@@ -84,7 +84,7 @@ texts_new before (Source name target ∷ decls) e =
 texts_new before (Signature name ins outs ∷ decls) e = texts_new before decls e
 texts_new before (Flow name patterns members ∷ decls) e = texts_new before decls e
 texts_new before (Typedef name function ∷ decls) e = texts_new before decls e
-texts_new before (Handler node handler ∷ decls) e = texts_new before decls e
+texts_new before (Handler node codes handler ∷ decls) e = texts_new before decls e
 texts_new before (Atomic node constraints ∷ decls) e = texts_new before decls e
 texts_new before (Session source function ∷ decls) e = texts_new before decls e
 
@@ -94,7 +94,7 @@ texts_clean text (Source name target ∷ decls) all = let own = all.0.0 in (name
 texts_clean text (Signature name ins outs ∷ decls) all = texts_clean text decls all.1
 texts_clean text (Flow name patterns members ∷ decls) all = texts_clean text decls all.1
 texts_clean text (Typedef name function ∷ decls) all = texts_clean text decls all.1
-texts_clean text (Handler node handler ∷ decls) all = texts_clean text decls all.1
+texts_clean text (Handler node codes handler ∷ decls) all = texts_clean text decls all.1
 texts_clean text (Atomic node constraints ∷ decls) all = texts_clean text decls all.1
 texts_clean text (Session source function ∷ decls) all = texts_clean text decls all.1
 
@@ -121,7 +121,7 @@ module _ (decls : List Decl) (rowless : NoNames basic_kind basic_sig decls) wher
   lines_named (Signature name ins outs ∷ ds) e = lines_named ds e
   lines_named (Flow name patterns members ∷ ds) e = lines_named ds (nil_append (all_among false names members) (flat_map (λ d. all_among false names (listed (sourced d) ++ inner d)) ds) e).1
   lines_named (Typedef name function ∷ ds) e = lines_named ds e
-  lines_named (Handler node handler ∷ ds) e = lines_named ds e
+  lines_named (Handler node codes handler ∷ ds) e = lines_named ds e
   lines_named (Atomic node constraints ∷ ds) e = lines_named ds e
   lines_named (Session source function ∷ ds) e = lines_named ds e
 

@@ -63,7 +63,7 @@ nodes_free names (Signature name ins outs ∷ decls) = (refl, nodes_free names d
 nodes_free names (Flow name patterns members ∷ decls) = (refl, nodes_free names decls)
 nodes_free names (Source name target ∷ decls) = nodes_free names decls
 nodes_free names (Typedef name function ∷ decls) = nodes_free names decls
-nodes_free names (Handler node handler ∷ decls) = nodes_free names decls
+nodes_free names (Handler node codes handler ∷ decls) = nodes_free names decls
 nodes_free names (Atomic node constraints ∷ decls) = nodes_free names decls
 nodes_free names (Session source function ∷ decls) = nodes_free names decls
 

@@ -1,7 +1,8 @@
 //! The line that is written about a fault.
 
-ghost use Rattle.std.specs.Prelude.{◌≡◌, ◌≤◌, ◌<◌, ◌++◌, [], if◌then◌else◌, codes, length, IfOk, OnOk};
+ghost use Rattle.std.specs.Prelude.{◌≡◌, ◌≤◌, ◌<◌, ◌++◌, length, IfOk, OnOk};
 ghost use Rattle.flux_faults.specs.Faults.{printed_fault, printed_path, arrows};
+ghost use Rattle.flux_faults.specs.steps.Arrows.{arrow_before};
 
 use crate::faults::{FaultKind, StaticFault};
 use crate::places::{PLACE_LIMIT, place};
@@ -49,7 +50,7 @@ fn append_arrows(line: &mut Bytes, names: &[TextBytes]) -> Result<(), Memory>
 }
 
 fn append_next(line: &mut Bytes, first: bool, name: &TextBytes) -> Result<(), Memory>
-    ensures { OnOk result (line.new ≡ line.old ++ ((if first then [] else codes " -> ") ++ name.now)) }
+    ensures { OnOk result (line.new ≡ line.old ++ (arrow_before first ++ name.now)) }
 {
     line.append(if first { b"" } else { b" -> " })?;
     line.append(name.as_bytes())

@@ -6,7 +6,7 @@ ghost use Rattle.flux_faults.specs.steps.Places.{next_place};
 
 use crate::faults::Place;
 
-/// A place that is shown is below this byte of the text, so that its line and column can be counted.
+/// A place that is shown is below this byte of the text: so its line and column can be counted.
 pub const PLACE_LIMIT: u32 = 4_294_967_295;
 
 /// The place of a byte of the text, or of its end. A byte is counted from 0.

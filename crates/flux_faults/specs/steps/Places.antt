@@ -1,4 +1,5 @@
--- Steps of the code: how the count of lines and columns moves on by one byte. No public clause cites it.
+-- Steps of the code: how the count of lines and columns moves on by one byte.
+-- No public clause cites it.
 use Rattle.std.specs.Prelude.{ℕ, ◌+◌, ◌==◌, if◌then◌else◌}
 use Rattle.flux_faults.specs.declared.faults.Place.{Place}
 
