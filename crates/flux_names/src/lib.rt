@@ -19,6 +19,8 @@ mod rows;
 mod signatures;
 mod sorts;
 mod tables;
+#[cfg(test)]
+mod tests;
 mod uses;
 
 pub use building::{first_constrained, first_patterned, first_unbuilt};
