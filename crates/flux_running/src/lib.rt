@@ -1,0 +1,6 @@
+//! The flows of items.
+#![tactic(auto)]
+
+mod running;
+
+pub use running::run;
