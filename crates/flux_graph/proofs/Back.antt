@@ -5,24 +5,25 @@ use Rattle.std.proofs.lemmas.Map.Steps.{length-le_from_distinct_below}
 use Rattle.std.specs.List.{list_any, AllByRecursion}
 use Rattle.flux_model.specs.declared.programs.NodeNo.{NodeNo}
 use Rattle.flux_model.specs.declared.programs.Node.{Node}
-use Rattle.flux_model.specs.Leading.{AreBelow, leads_to}
+use Rattle.flux_model.specs.Leading.{leads_to, leads_in}
+use Rattle.flux_model.specs.Numbered.{AreBelow}
 use Rattle.flux_model.specs.Children.{IsIn}
 use Rattle.flux_graph.specs.declared.steps.Step.{Step}
 use Rattle.flux_graph.specs.declared.steps.Step.TheVariants.{Enter, Leave}
 use Rattle.flux_graph.specs.declared.returning.Return.{Return}
 use Rattle.flux_graph.specs.Visits.{with_number}
-use Rattle.flux_graph.specs.Reaching.{leads_in, IsKnown}
-use Rattle.flux_graph.specs.Ordering.{AreDistinct, IsLed, HasCycle, IsLowestCycle}
+use Rattle.flux_graph.specs.Reaching.{IsKnown}
+use Rattle.flux_model.specs.Ordering.{AreDistinct, IsLed, LeadsOn, HasCycle, IsLowestCycle}
 use Rattle.flux_graph.specs.Searching.{enters, leaves_of}
 use Rattle.flux_graph.specs.Search.{FollowsOn, AreLed}
-use Rattle.flux_graph.specs.Returning.{HasWay, IsAhead, BeginsWith, moved, and_step, Seeks, IsAfter, IsWayBack}
+use Rattle.flux_graph.specs.Returning.{IsAhead, BeginsWith, moved, and_step, Seeks, IsAfter, IsWayBack}
 use Rattle.flux_graph.proofs.Visiting.{known_or, known_more, known_new}
 use Rattle.flux_graph.proofs.Stepping as stepping
 use Rattle.flux_graph.proofs.Stepping.{last_of}
 use Rattle.flux_graph.proofs.Finding.{leaves_with, leaves_same}
 use Rattle.flux_graph.proofs.Moves.{follows_below, distinct_more, not_known}
-use Rattle.flux_graph.proofs.Circles.{First, first_of, end_of, led_both, path_led, last_from, turned_led, same_or_less}
-use Rattle.flux_graph.proofs.Ends.{leads_within, entered_grows, none_twice, none_known}
+use Rattle.flux_graph.proofs.Circles.{end_of, led_both, path_led, last_from, same_or_less}
+use Rattle.flux_graph.proofs.Ends.{leads_on_within, entered_grows, none_twice, none_known}
 
 -- ---- nodes ahead
 
@@ -190,8 +191,8 @@ way_found nodes start s node h same = from s.steps h.begins h.led (subst AreDist
         turn : Leave start ≡ step → AreLed nodes None ((step ∷ rest) ++ Enter node ∷ []) → AreDistinct (leaves_of (step ∷ rest)) → IsWayBack nodes start (leaves_of (step ∷ rest) ++ start ∷ [])
         turn e l d = subst (λ (t : Step). IsWayBack nodes start (leaves_of (t ∷ rest) ++ start ∷ [])) e (rest_of rest (subst (λ (t : Step). AreLed nodes None ((t ∷ rest) ++ Enter node ∷ [])) (sym e) l) (subst (λ (t : Step). AreDistinct (leaves_of (t ∷ rest))) (sym e) d))
 
-pub no_way_back : (nodes : List Node) (start : NodeNo) (s : Return) → Seeks nodes start s → s.steps ≡ [] → HasWay nodes start.0 → ⊥
-no_way_back nodes start s h empty w = ends start.0 h.started w.between w.led w.is_from
+pub no_way_back : (nodes : List Node) (start : NodeNo) (s : Return) → Seeks nodes start s → s.steps ≡ [] → LeadsOn nodes start.0 start.0 → ⊥
+no_way_back nodes start s h empty w = ends start.0 h.started w.between w.led
   where
     closed : (x y : ℕ) → IsKnown x s.entered → IsIn y (leads_in nodes x) → IsKnown y s.entered × (y ≡ start.0 → ⊥)
     closed x y k i = from (subst (λ (t : List Step). (IsKnown y s.entered × (y ≡ start.0 → ⊥)) ⊎ IsAhead y t) empty (h.covered x y k i))
@@ -200,21 +201,11 @@ no_way_back nodes start s h empty w = ends start.0 h.started w.between w.led w.i
         from (inl k) = k
         from (inr a) = absurd a
 
-    ends : (from : ℕ) → IsKnown from s.entered → (mid : List NodeNo) → IsLed nodes from (mid ++ w.back ∷ []) → w.back.0 ≡ start.0 → ⊥
-    ends from k [] (i, l) same = (closed from w.back.0 k i).1 same
-    ends from k (n ∷ mid) (i, l) same = ends n.0 (closed from n.0 k i).0 mid l same
+    ends : (from : ℕ) → IsKnown from s.entered → (mid : List NodeNo) → IsLed nodes from (mid ++ record { 0 = start.0 } ∷ []) → ⊥
+    ends from k [] (i, l) = (closed from start.0 k i).1 refl
+    ends from k (n ∷ mid) (i, l) = ends n.0 (closed from n.0 k i).0 mid l
 
 -- ---- the lowest of all
-
-way_of : (nodes : List Node) (c : HasCycle nodes) → HasWay nodes c.from
-way_of nodes c = record { between = c.between; back = c.back; is_from = c.is_from; led = c.led }
-
-cycle_within : (nodes : List Node) (c : HasCycle nodes) → c.from < length nodes
-cycle_within nodes c = begins c.between c.led
-  where
-    begins : (mid : List NodeNo) → IsLed nodes c.from (mid ++ c.back ∷ []) → c.from < length nodes
-    begins [] (j, r) = leads_within nodes c.from c.back.0 j
-    begins (m ∷ mid) (j, r) = leads_within nodes c.from m.0 j
 
 le_or_less : (a b : ℕ) → (a ≤ b) ⊎ (b < a)
 le_or_less zero b = inl (omega arith)
@@ -225,38 +216,24 @@ le_or_less (suc a) (suc b) = up (le_or_less a b)
     up (inl le) = inl (omega (arith, le))
     up (inr lt) = inr (omega (arith, lt))
 
-pub is_lowest : (nodes : List Node) (start : NodeNo) (path : List NodeNo) → ((x : ℕ) → x < start.0 → HasWay nodes x → ⊥) → IsWayBack nodes start path → IsLowestCycle nodes path
+pub is_lowest : (nodes : List Node) (start : NodeNo) (path : List NodeNo) → ((x : ℕ) → x < start.0 → LeadsOn nodes x x → ⊥) → IsWayBack nodes start path → IsLowestCycle nodes path
 is_lowest nodes start path none w = record {
-  cycle = record { first = start; others = w.others; is = w.is; led = w.led; distinct = w.distinct; lowest = λ x i. above x i (le_or_less start.0 x) };
-  lowest = λ other. reach other (le_or_less start.0 other.from);
+  cycle = record { first = start; others = w.others; is = w.is; led = w.led; distinct = w.distinct };
+  lowest = λ number on. reach number on (le_or_less start.0 number);
 }
   where
-    way : (x : ℕ) → IsIn x w.others → HasWay nodes x
-    way x i = from (first_of x (start ∷ w.others) (inr i))
-      where
-        from : First x (start ∷ w.others) → HasWay nodes x
-        from f = record { between = f.tail ++ f.front; back = f.node; is_from = f.same; led = subst (λ (n : ℕ). IsLed nodes n ((f.tail ++ f.front) ++ f.node ∷ [])) f.same (turned_led nodes start w.others f.front f.node f.tail w.led f.is) }
+    reach : (number : ℕ) → LeadsOn nodes number number → (start.0 ≤ number) ⊎ (number < start.0) → start.0 ≤ number
+    reach number on (inl le) = le
+    reach number on (inr lt) = absurd (none number lt on)
 
-    strict : (x : ℕ) → IsIn x w.others → (start.0 ≡ x) ⊎ (start.0 < x) → start.0 < x
-    strict x i (inl e) = absurd (w.distinct.0 (subst (λ (n : ℕ). IsIn n w.others) (sym e) i))
-    strict x i (inr lt) = lt
+pub none_at_all : (nodes : List Node) (number : ℕ) → length nodes ≤ number → ((x : ℕ) → x < number → LeadsOn nodes x x → ⊥) → HasCycle nodes → ⊥
+none_at_all nodes number over none (from, on) = none from (omega (arith, over, leads_on_within nodes from from on)) on
 
-    above : (x : ℕ) → IsIn x w.others → (start.0 ≤ x) ⊎ (x < start.0) → start.0 < x
-    above x i (inl le) = strict x i (same_or_less start.0 x le)
-    above x i (inr lt) = absurd (none x lt (way x i))
-
-    reach : (other : HasCycle nodes) → (start.0 ≤ other.from) ⊎ (other.from < start.0) → start.0 ≤ other.from
-    reach other (inl le) = le
-    reach other (inr lt) = absurd (none other.from lt (way_of nodes other))
-
-pub none_at_all : (nodes : List Node) (number : ℕ) → length nodes ≤ number → ((x : ℕ) → x < number → HasWay nodes x → ⊥) → HasCycle nodes → ⊥
-none_at_all nodes number over none c = none c.from (omega (arith, over, cycle_within nodes c)) (way_of nodes c)
-
-pub none_more : (nodes : List Node) (number m : ℕ) → m ≡ number → ((x : ℕ) → x < number → HasWay nodes x → ⊥) → (HasWay nodes m → ⊥) → (x : ℕ) → x < number + 1 → HasWay nodes x → ⊥
+pub none_more : (nodes : List Node) (number m : ℕ) → m ≡ number → ((x : ℕ) → x < number → LeadsOn nodes x x → ⊥) → (LeadsOn nodes m m → ⊥) → (x : ℕ) → x < number + 1 → LeadsOn nodes x x → ⊥
 none_more nodes number m same none own x lt way = from (same_or_less x number (omega (arith, lt)))
   where
     from : (x ≡ number) ⊎ (x < number) → ⊥
-    from (inl e) = own (subst (HasWay nodes) (e ∙ sym same) way)
+    from (inl e) = own (subst (λ (n : ℕ). LeadsOn nodes n n) (e ∙ sym same) way)
     from (inr less) = none x less way
 
 -- ---- the beginning
@@ -328,7 +305,7 @@ turned_less nodes start old mid new found node all after e other gives = from (s
 pub turned_back : (nodes : List Node) (start : NodeNo) (old mid : Return) (found : Option NodeNo) (node : NodeNo) → IsAfter nodes start old mid found → found ≡ Some node → node.0 ≡ start.0 → IsWayBack nodes start (leaves_of mid.steps ++ start ∷ [])
 turned_back nodes start old mid found node after e same = way_found nodes start mid node (subst (IsAfter nodes start old mid) e after).0 same
 
-pub turned_none : (nodes : List Node) (start : NodeNo) (old mid : Return) (found : Option NodeNo) → IsAfter nodes start old mid found → found ≡ None → HasWay nodes start.0 → ⊥
+pub turned_none : (nodes : List Node) (start : NodeNo) (old mid : Return) (found : Option NodeNo) → IsAfter nodes start old mid found → found ≡ None → LeadsOn nodes start.0 start.0 → ⊥
 turned_none nodes start old mid found after e w = from (subst (IsAfter nodes start old mid) e after)
   where
     from : IsAfter nodes start old mid None → ⊥

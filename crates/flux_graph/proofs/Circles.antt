@@ -1,5 +1,5 @@
 -- Nodes that follow one another in a circle.
-use Rattle.std.proofs.Common.{◌≡◌, ◌<◌, ◌≤◌, ℕ, zero, suc, ◌⊎◌, inl, inr, List, [], ◌∷◌, ◌++◌, Option, Some, None, refl, sym, ap, subst, ◌∙◌, arith, append_assoc}
+use Rattle.std.proofs.Common.{◌≡◌, ◌<◌, ◌≤◌, ℕ, zero, suc, ◌⊎◌, inl, inr, List, [], ◌∷◌, ◌++◌, Option, Some, None, refl, sym, ap, subst, ◌∙◌, arith}
 use Rattle.std.specs.Prelude.{⊤}
 use Rattle.std.proofs.lemmas.List.{append-nil}
 use Rattle.flux_model.specs.declared.programs.NodeNo.{NodeNo}
@@ -8,8 +8,9 @@ use Rattle.flux_model.specs.Children.{IsIn}
 use Rattle.flux_graph.specs.declared.steps.Step.{Step}
 use Rattle.flux_graph.specs.declared.steps.Step.TheVariants.{Enter, Leave}
 use Rattle.flux_graph.specs.declared.ordering.Search.{Search}
-use Rattle.flux_graph.specs.Reaching.{leads_in, IsKnown}
-use Rattle.flux_graph.specs.Ordering.{IsLed, HasCycle}
+use Rattle.flux_model.specs.Leading.{leads_in}
+use Rattle.flux_graph.specs.Reaching.{IsKnown}
+use Rattle.flux_model.specs.Ordering.{IsLed, HasCycle}
 use Rattle.flux_graph.specs.Searching.{leaves_of}
 use Rattle.flux_graph.specs.Search.{FollowsOn, AreLed, Holds, with_step}
 use Rattle.flux_graph.proofs.Stepping as stepping
@@ -108,36 +109,6 @@ same_or_less (suc k) (suc x) le = up (same_or_less k x (omega (arith, le)))
     up (inl e) = inl (ap (λ (n : ℕ). suc n) e)
     up (inr lt) = inr (omega (arith, lt))
 
--- ---- the circle, turned
-
-pub turned_led : (nodes : List Node) (first : NodeNo) (others a : List NodeNo) (k : NodeNo) (b : List NodeNo) → IsLed nodes first.0 (others ++ first ∷ []) → (first ∷ others) ≡ a ++ k ∷ b → IsLed nodes k.0 ((b ++ a) ++ k ∷ [])
-turned_led nodes first others [] k b l e = two (heads e) (tails e)
-  where
-    heads : (first ∷ others) ≡ k ∷ b → first ≡ k
-    heads e = cc
-
-    tails : (first ∷ others) ≡ k ∷ b → others ≡ b
-    tails e = cc
-
-    two : first ≡ k → others ≡ b → IsLed nodes k.0 ((b ++ []) ++ k ∷ [])
-    two i j = subst (λ (t : List NodeNo). IsLed nodes k.0 (t ++ k ∷ [])) (sym (append-nil b)) (subst (λ (n : NodeNo). IsLed nodes n.0 (b ++ n ∷ [])) i (subst (λ (t : List NodeNo). IsLed nodes first.0 (t ++ first ∷ [])) j l))
-turned_led nodes first others (m ∷ a) k b l e = two (heads e) (tails e)
-  where
-    heads : (first ∷ others) ≡ m ∷ a ++ k ∷ b → first ≡ m
-    heads e = cc
-
-    tails : (first ∷ others) ≡ m ∷ a ++ k ∷ b → others ≡ a ++ k ∷ b
-    tails e = cc
-
-    two : first ≡ m → others ≡ a ++ k ∷ b → IsLed nodes k.0 ((b ++ m ∷ a) ++ k ∷ [])
-    two i j =
-        let whole : IsLed nodes m.0 (a ++ ((k ∷ b) ++ m ∷ [])) = subst (IsLed nodes m.0) (append_assoc a (k ∷ b) (m ∷ [])) (subst (λ (n : NodeNo). IsLed nodes n.0 ((a ++ k ∷ b) ++ n ∷ [])) i (subst (λ (t : List NodeNo). IsLed nodes first.0 (t ++ first ∷ [])) j l)) in
-        let front = led_first nodes m.0 a ((k ∷ b) ++ m ∷ []) whole in
-        let back = led_then nodes m.0 a ((k ∷ b) ++ m ∷ []) whole in
-        let round : IsLed nodes m.0 (a ++ k ∷ []) = led_both nodes m.0 a (k ∷ []) front (back.0, tt) in
-        let all : IsLed nodes k.0 ((b ++ m ∷ []) ++ (a ++ k ∷ [])) = led_both nodes k.0 (b ++ m ∷ []) (a ++ k ∷ []) back.1 (subst (λ (n : ℕ). IsLed nodes n (a ++ k ∷ [])) (sym (end_last k.0 b m)) round) in
-        subst (IsLed nodes k.0) (append_assoc b (m ∷ []) (a ++ k ∷ []) ∙ sym (append_assoc b (m ∷ a) (k ∷ []))) all
-
 -- ---- the circle that a search finds
 
 pub cycle_found : (nodes : List Node) (s : Search) (node : NodeNo) → Holds nodes (with_step s (Enter node)) → IsKnown node.0 s.entered → (IsKnown node.0 s.done → ⊥) → HasCycle nodes
@@ -151,7 +122,7 @@ cycle_found nodes s node h known undone = from (first_of node.0 (leaves_of s.ste
     inside (inr i) = subst (IsIn node.0) same i
 
     from : First node.0 (leaves_of s.steps) → HasCycle nodes
-    from f = record { from = f.node.0; between = f.tail; back = f.node; is_from = refl; led = led_both nodes f.node.0 f.tail (f.node ∷ []) (path_from nodes f.front f.node f.tail path) (closes, tt) }
+    from f = (f.node.0, record { between = f.tail; led = led_both nodes f.node.0 f.tail (f.node ∷ []) (path_from nodes f.front f.node f.tail path) (closes, tt) })
       where
         path : IsPath nodes (f.front ++ f.node ∷ f.tail)
         path = subst (IsPath nodes) f.is (steps_path nodes s.steps (stepping.led_front nodes None s.steps (Enter node ∷ []) h.led))

@@ -8,8 +8,8 @@ use Rattle.flux_model.specs.declared.programs.NodeNo.{NodeNo}
 use Rattle.flux_model.specs.declared.programs.Node.{Node}
 use Rattle.flux_model.specs.Children.{IsIn}
 use Rattle.flux_model.specs.Nested.{Rule, for_node, nested, through, LooksDown}
-use Rattle.flux_graph.specs.Reaching.{leads_in}
-use Rattle.flux_graph.specs.Ordering.{ComeAfter, IsOrder}
+use Rattle.flux_model.specs.Leading.{leads_in}
+use Rattle.flux_model.specs.Ordering.{ComeAfter, IsOrder}
 
 -- ---- an order is no longer than the nodes
 
@@ -81,8 +81,8 @@ module _ {X : Type 0} (none : X) (rule : Rule X) (looks : LooksDown rule) (nodes
       one x (inl same) (suc f) (suc g) a b = settled_node depth before x settled (subst (λ (m : ℕ). (led : ℕ) → IsIn led (leads_in nodes m) → IsIn led before) (sym same) leads) f g (omega (arith, a)) (omega (arith, b)) (slice_get nodes x) refl
 
   -- through all nodes the rule is kept
-  pub kept : (order : List NodeNo) → IsOrder nodes order → (number : ℕ) (node : Node) → slice_get nodes number ≡ Some node → through none rule nodes number ≡ rule (through none rule nodes) number node
-  kept order is number node at =
+  pub through-rule : (order : List NodeNo) → IsOrder nodes order → (number : ℕ) (node : Node) → slice_get nodes number ≡ Some node → through none rule nodes number ≡ rule (through none rule nodes) number node
+  through-rule order is number node at =
       let few = few_more nodes [] order is.after (none_yet (length nodes)) in
       let inside : number < length nodes = slice_get_within nodes number node at in
       settled_all 0 [] order is.after (λ x i. absurd i) number (inl (is.each number inside)) (length nodes) (suc (length nodes)) (omega (arith, few)) (omega (arith, few))

@@ -4,26 +4,27 @@ use Rattle.std.specs.List.{list_any, slice_get}
 use Rattle.flux_model.specs.declared.programs.NodeNo.{NodeNo}
 use Rattle.flux_model.specs.declared.programs.Node.{Node}
 use Rattle.flux_model.specs.declared.programs.Program.{Program}
-use Rattle.flux_model.specs.Leading.{members_of, handler_of, leads_to, IsNumbered}
-use Rattle.flux_model.specs.Children.{IsIn, numbers_of, members, handlers, AreHandlers, IsChild, IsWay, IsBelow}
-use Rattle.flux_graph.specs.Reaching.{leads_in, IsTrail, IsReached, IsKnown, Reaches}
+use Rattle.flux_model.specs.Leading.{members_of, handlers_of, leads_to, leads_in, numbers_of}
+use Rattle.flux_model.specs.Numbered.{IsNumbered}
+use Rattle.flux_model.specs.Children.{IsIn, members, handlers, AreHandlers, IsChild, IsWay, IsBelow}
+use Rattle.flux_graph.specs.Reaching.{IsTrail, IsReached, IsKnown, Reaches}
 use Rattle.flux_graph.specs.Below.{IsRising, AreBelow, among}
 use Rattle.flux_graph.proofs.Stepping as stepping
 use Rattle.flux_graph.proofs.Moves.{leads_below, not_known}
 
 -- ---- leading is to members and to handlers
 
-parts : (x : ℕ) (node : Option Node) → IsIn x (numbers_of leads_to node) → IsIn x (numbers_of (λ node. members_of node.body) node) ⊎ IsIn x (numbers_of (λ node. handler_of node.on_fail) node)
+parts : (x : ℕ) (node : Option Node) → IsIn x (numbers_of leads_to node) → IsIn x (numbers_of (λ node. members_of node.body) node) ⊎ IsIn x (numbers_of (λ node. handlers_of node.on_fail) node)
 parts x None i = inl i
-parts x (Some node) i = stepping.in_either x (members_of node.body) (handler_of node.on_fail) i
+parts x (Some node) i = stepping.in_either x (members_of node.body) (handlers_of node.on_fail) i
 
 by_member : (x : ℕ) (node : Option Node) → IsIn x (numbers_of (λ node. members_of node.body) node) → IsIn x (numbers_of leads_to node)
 by_member x None i = i
-by_member x (Some node) i = stepping.in_before x (members_of node.body) (handler_of node.on_fail) i
+by_member x (Some node) i = stepping.in_before x (members_of node.body) (handlers_of node.on_fail) i
 
-by_handler : (x : ℕ) (node : Option Node) → IsIn x (numbers_of (λ node. handler_of node.on_fail) node) → IsIn x (numbers_of leads_to node)
+by_handler : (x : ℕ) (node : Option Node) → IsIn x (numbers_of (λ node. handlers_of node.on_fail) node) → IsIn x (numbers_of leads_to node)
 by_handler x None i = i
-by_handler x (Some node) i = stepping.in_behind x (members_of node.body) (handler_of node.on_fail) i
+by_handler x (Some node) i = stepping.in_behind x (members_of node.body) (handlers_of node.on_fail) i
 
 -- ---- what is reached is below
 

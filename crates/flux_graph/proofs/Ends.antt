@@ -4,13 +4,14 @@ use Rattle.std.specs.List.{list_any, IsDistinct, AllByRecursion}
 use Rattle.std.proofs.lemmas.Map.Steps.{length-le_from_distinct_below}
 use Rattle.flux_model.specs.declared.programs.NodeNo.{NodeNo}
 use Rattle.flux_model.specs.declared.programs.Node.{Node}
-use Rattle.flux_model.specs.Leading.{AreBelow, leads_to}
+use Rattle.flux_model.specs.Leading.{leads_to, leads_in}
+use Rattle.flux_model.specs.Numbered.{AreBelow}
 use Rattle.flux_model.specs.Children.{IsIn}
 use Rattle.flux_graph.specs.declared.steps.Step.{Step}
 use Rattle.flux_graph.specs.declared.ordering.Search.{Search}
 use Rattle.flux_graph.specs.Visits.{with_number}
-use Rattle.flux_graph.specs.Reaching.{leads_in, IsKnown}
-use Rattle.flux_graph.specs.Ordering.{ComeAfter, AreDistinct, IsOrder, IsLed, HasCycle}
+use Rattle.flux_graph.specs.Reaching.{IsKnown}
+use Rattle.flux_model.specs.Ordering.{ComeAfter, AreDistinct, IsOrder, IsLed, LeadsOn, HasCycle}
 use Rattle.flux_graph.specs.Searching.{enters, leaves_of, numbered}
 use Rattle.flux_graph.specs.Search.{HasStep, Covered, AreLed, Holds, IsBegun, IsNext, entered}
 use Rattle.flux_graph.proofs.Moves.{node_entered}
@@ -118,12 +119,15 @@ leads_within [] from x i = absurd i
 leads_within (node ∷ nodes) zero x i = omega arith
 leads_within (node ∷ nodes) (suc from) x i = omega (arith, leads_within nodes from x i)
 
-pub no_cycle : (nodes : List Node) (order : List NodeNo) → IsOrder nodes order → HasCycle nodes → ⊥
-no_cycle nodes order o c = no_way nodes [] order (λ x y i j. absurd i) o.after c.from (o.each c.from (begins c.between c.led)) c.between c.back c.is_from c.led
+pub leads_on_within : (nodes : List Node) (from to : ℕ) → LeadsOn nodes from to → from < length nodes
+leads_on_within nodes from to w = begins w.between w.led
   where
-    begins : (mid : List NodeNo) → IsLed nodes c.from (mid ++ c.back ∷ []) → c.from < length nodes
-    begins [] (j, r) = leads_within nodes c.from c.back.0 j
-    begins (m ∷ mid) (j, r) = leads_within nodes c.from m.0 j
+    begins : (mid : List NodeNo) → IsLed nodes from (mid ++ record { 0 = to } ∷ []) → from < length nodes
+    begins [] (j, r) = leads_within nodes from to j
+    begins (m ∷ mid) (j, r) = leads_within nodes from m.0 j
+
+pub no_cycle : (nodes : List Node) (order : List NodeNo) → IsOrder nodes order → HasCycle nodes → ⊥
+no_cycle nodes order o (from, w) = no_way nodes [] order (λ x y i j. absurd i) o.after from (o.each from (leads_on_within nodes from from w)) w.between (record { 0 = from }) refl w.led
 
 -- ---- a turn of the search
 

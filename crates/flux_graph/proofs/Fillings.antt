@@ -1,14 +1,13 @@
 -- A table that is filled in an order has each node's value, where a value needs no more than those of the nodes that the
 -- node leads to.
 use Rattle.std.proofs.Common.{◌≡◌, ◌<◌, ℕ, Bool, true, false, eqb, ◌⊎◌, inl, inr, List, [], ◌∷◌, length, Some, refl, sym, subst, ◌∙◌, arith}
-use Rattle.std.specs.List.{slice_get}
+use Rattle.std.specs.List.{fold, slice_get}
 use Rattle.std.proofs.lemmas.Bool.Decides.{nat_tests}
 use Rattle.flux_model.specs.declared.programs.NodeNo.{NodeNo}
 use Rattle.flux_model.specs.declared.programs.Node.{Node}
 use Rattle.flux_model.specs.Children.{IsIn}
-use Rattle.flux_graph.specs.Reaching.{leads_in}
-use Rattle.flux_graph.specs.Ordering.{ComeAfter, IsOrder}
-use Rattle.flux_graph.specs.Tables.{put_all}
+use Rattle.flux_model.specs.Leading.{leads_in}
+use Rattle.flux_model.specs.Ordering.{ComeAfter, IsOrder}
 
 -- what putting does: other places stay, and the node's place gets its value, where the nodes that it leads to have theirs
 pub record Puts {X : Type 0} (value : ℕ → X) (nodes : List Node) (start : List X) (put : List X → NodeNo → List X) : Type 0 where
@@ -44,7 +43,7 @@ module _ {X : Type 0} (value : ℕ → X) (nodes : List Node) (start : List X) (
       one number false e is = other number (λ (same : number ≡ node.0). grind (arith, nat_tests, e, same)) is
 
   filled_all : (before order : List NodeNo) (table : List X) → ComeAfter nodes before order → Filled before table
-      → (length (put_all put table order) ≡ length nodes) × ((number : ℕ) → IsIn number order ⊎ IsIn number before → slice_get (put_all put table order) number ≡ Some (value number))
+      → (length (fold put table order) ≡ length nodes) × ((number : ℕ) → IsIn number order ⊎ IsIn number before → slice_get (fold put table order) number ≡ Some (value number))
   filled_all before [] table come f = (f.many, λ number is. one number is)
     where
       one : (number : ℕ) → IsIn number [] ⊎ IsIn number before → slice_get table number ≡ Some (value number)
@@ -59,8 +58,8 @@ module _ {X : Type 0} (value : ℕ → X) (nodes : List Node) (start : List X) (
       place number (inl (inr i)) = inl i
       place number (inr i) = inr (inr i)
 
-  pub table_many : (order : List NodeNo) → IsOrder nodes order → length start ≡ length nodes → length (put_all put start order) ≡ length nodes
-  table_many order is many = (filled_all [] order start is.after (record { many = many; known = λ number i. absurd i; rest = λ number none. refl })).0
+  pub length-filled : (order : List NodeNo) → IsOrder nodes order → length start ≡ length nodes → length (fold put start order) ≡ length nodes
+  length-filled order is many = (filled_all [] order start is.after (record { many = many; known = λ number i. absurd i; rest = λ number none. refl })).0
 
-  pub table_is : (order : List NodeNo) → IsOrder nodes order → length start ≡ length nodes → (number : ℕ) → number < length nodes → slice_get (put_all put start order) number ≡ Some (value number)
-  table_is order is many number below = (filled_all [] order start is.after (record { many = many; known = λ n i. absurd i; rest = λ n none. refl })).1 number (inl (is.each number below))
+  pub slice_get-filled : (order : List NodeNo) → IsOrder nodes order → length start ≡ length nodes → (number : ℕ) → number < length nodes → slice_get (fold put start order) number ≡ Some (value number)
+  slice_get-filled order is many number below = (filled_all [] order start is.after (record { many = many; known = λ n i. absurd i; rest = λ n none. refl })).1 number (inl (is.each number below))

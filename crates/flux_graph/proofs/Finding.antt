@@ -5,8 +5,8 @@ use Rattle.flux_model.specs.declared.programs.Node.{Node}
 use Rattle.flux_model.specs.Children.{IsIn}
 use Rattle.flux_graph.specs.declared.steps.Step.{Step}
 use Rattle.flux_graph.specs.declared.steps.Step.TheVariants.{Enter, Leave}
-use Rattle.flux_graph.specs.Reaching.{leads_in}
-use Rattle.flux_graph.specs.Ordering.{ComeAfter}
+use Rattle.flux_model.specs.Leading.{leads_in}
+use Rattle.flux_model.specs.Ordering.{ComeAfter}
 use Rattle.flux_graph.specs.Searching.{enters, leaves_of, numbered}
 use Rattle.flux_graph.specs.Search.{HasStep}
 use Rattle.flux_graph.proofs.Stepping as stepping

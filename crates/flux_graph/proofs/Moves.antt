@@ -5,14 +5,15 @@ use Rattle.std.specs.List.{list_any, IsDistinct, AllByRecursion}
 use Rattle.std.proofs.lemmas.Bool.Decides.{nat_tests}
 use Rattle.flux_model.specs.declared.programs.NodeNo.{NodeNo}
 use Rattle.flux_model.specs.declared.programs.Node.{Node}
-use Rattle.flux_model.specs.Leading.{AreBelow, leads_to}
+use Rattle.flux_model.specs.Leading.{leads_to, leads_in}
+use Rattle.flux_model.specs.Numbered.{AreBelow}
 use Rattle.flux_model.specs.Children.{IsIn}
 use Rattle.flux_graph.specs.declared.steps.Step.{Step}
 use Rattle.flux_graph.specs.declared.steps.Step.TheVariants.{Enter, Leave}
 use Rattle.flux_graph.specs.declared.ordering.Search.{Search}
 use Rattle.flux_graph.specs.Visits.{with_number}
-use Rattle.flux_graph.specs.Reaching.{leads_in, IsKnown}
-use Rattle.flux_graph.specs.Ordering.{AreDistinct}
+use Rattle.flux_graph.specs.Reaching.{IsKnown}
+use Rattle.flux_model.specs.Ordering.{AreDistinct}
 use Rattle.flux_graph.specs.Searching.{enters, leaves_of}
 use Rattle.flux_graph.specs.Search.{HasStep, Covered, FollowsOn, AreLed, Holds, left, entered, with_step}
 use Rattle.flux_graph.proofs.Visiting.{known_or, known_more, known_new}

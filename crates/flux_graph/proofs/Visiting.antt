@@ -7,7 +7,8 @@ use Rattle.flux_model.specs.declared.programs.Node.{Node}
 use Rattle.flux_model.specs.declared.programs.Case.{Case}
 use Rattle.flux_model.specs.Children.{IsIn}
 use Rattle.flux_graph.specs.Visits.{with_number, with_all}
-use Rattle.flux_graph.specs.Reaching.{leads_in, leads_at, IsTrail, IsReached, IsKnown, Reaches}
+use Rattle.flux_model.specs.Leading.{leads_in}
+use Rattle.flux_graph.specs.Reaching.{leads_at, IsTrail, IsReached, IsKnown, Reaches}
 
 -- ---- lists of lists
 

@@ -5,7 +5,7 @@ use Rattle.flux_graph.specs.declared.orders.GraphFault.{GraphFault}
 use Rattle.flux_graph.specs.declared.orders.GraphFault.TheVariants.{Cycle, Memory}
 use Rattle.flux_graph.specs.declared.ordering.Stop.{Stop}
 use Rattle.flux_graph.specs.declared.ordering.Stop.TheVariants as stops
-use Rattle.flux_graph.specs.Ordering.{HasCycle, IsLowestCycle}
+use Rattle.flux_model.specs.Ordering.{HasCycle, IsLowestCycle}
 
 -- a cycle has such a path, and nothing else is a fault of the program
 abbrev pub IsFault : List Node → GraphFault → Type 0

@@ -1,9 +1,8 @@
 pub mod Visits
 pub mod Reaching
 pub mod Searching
-pub mod Ordering
 pub mod Faults
 pub mod Search
 pub mod Below
 pub mod Returning
-pub mod Tables
+pub mod steps

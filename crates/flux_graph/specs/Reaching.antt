@@ -1,14 +1,10 @@
 -- What is reached from nodes over what nodes lead to.
 use Rattle.std.specs.Prelude.{◌≡◌, ℕ, nat_eq, true, List, [], ◌∷◌, Option, Some, None}
-use Rattle.std.specs.List.{list_any, slice_get}
+use Rattle.std.specs.List.{list_any}
 use Rattle.flux_model.specs.declared.programs.NodeNo.{NodeNo}
 use Rattle.flux_model.specs.declared.programs.Node.{Node}
-use Rattle.flux_model.specs.Leading.{leads_to}
-use Rattle.flux_model.specs.Children.{IsIn, numbers_of}
-
--- what a number's node leads to
-abbrev pub leads_in : List Node → ℕ → List NodeNo
-leads_in nodes number = numbers_of leads_to (slice_get nodes number)
+use Rattle.flux_model.specs.Leading.{leads_in}
+use Rattle.flux_model.specs.Children.{IsIn}
 
 abbrev pub leads_at : List Node → Option ℕ → List NodeNo
 leads_at nodes None = []

@@ -7,18 +7,12 @@ use Rattle.flux_model.specs.Children.{IsIn}
 use Rattle.flux_graph.specs.declared.steps.Step.{Step}
 use Rattle.flux_graph.specs.declared.steps.Step.TheVariants.{Enter, Leave}
 use Rattle.flux_graph.specs.declared.returning.Return.{Return}
-use Rattle.flux_graph.specs.Reaching.{leads_in, IsKnown}
+use Rattle.flux_model.specs.Leading.{leads_in}
+use Rattle.flux_graph.specs.Reaching.{IsKnown}
 use Rattle.flux_graph.specs.Visits.{with_number}
-use Rattle.flux_graph.specs.Ordering.{AreDistinct, IsLed}
+use Rattle.flux_model.specs.Ordering.{AreDistinct, IsLed, LeadsOn}
 use Rattle.flux_graph.specs.Searching.{enters, leaves_of}
 use Rattle.flux_graph.specs.Search.{AreLed}
-
--- a way from a node back to it
-pub record HasWay (nodes : List Node) (from : ℕ) : Type 0 where
-  pub between : List NodeNo
-  pub back : NodeNo
-  pub is_from : back.0 ≡ from
-  pub led : IsLed nodes from (between ++ back ∷ [])
 
 -- a number's node is still to be entered
 abbrev pub IsAhead : ℕ → List Step → Type 0
@@ -60,5 +54,5 @@ pub record IsWayBack (nodes : List Node) (start : NodeNo) (path : List NodeNo) :
   pub distinct : AreDistinct (start ∷ others)
 
 abbrev pub IsBack : List Node → NodeNo → Option (List NodeNo) → Type 0
-IsBack nodes start None = HasWay nodes start.0 → ⊥
+IsBack nodes start None = LeadsOn nodes start.0 start.0 → ⊥
 IsBack nodes start (Some path) = IsWayBack nodes start path

@@ -7,9 +7,10 @@ use Rattle.flux_model.specs.Children.{IsIn}
 use Rattle.flux_graph.specs.declared.steps.Step.{Step}
 use Rattle.flux_graph.specs.declared.steps.Step.TheVariants.{Enter, Leave}
 use Rattle.flux_graph.specs.declared.ordering.Search.{Search}
-use Rattle.flux_graph.specs.Reaching.{leads_in, IsKnown}
+use Rattle.flux_model.specs.Leading.{leads_in}
+use Rattle.flux_graph.specs.Reaching.{IsKnown}
 use Rattle.flux_graph.specs.Visits.{with_number}
-use Rattle.flux_graph.specs.Ordering.{ComeAfter, AreDistinct}
+use Rattle.flux_model.specs.Ordering.{ComeAfter, AreDistinct}
 use Rattle.flux_graph.specs.Searching.{enters, leaves_of, numbered}
 
 -- ---- moves

@@ -1,7 +1,7 @@
 //! What is below a node.
 
 ghost use Rattle.std.specs.Prelude.{◌≡◌, ◌≤◌, ◌<◌, length, IfOk};
-ghost use Rattle.flux_model.specs.Leading.{IsNumbered};
+ghost use Rattle.flux_model.specs.Numbered.{IsNumbered};
 ghost use Rattle.flux_graph.specs.Below.{among, AreBelow};
 
 use crate::reaching::reach;

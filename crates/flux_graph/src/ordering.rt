@@ -1,8 +1,8 @@
 //! An order of a program's nodes, or a cycle.
 
 ghost use Rattle.std.specs.Prelude.{◌≡◌, ◌≤◌, OnOk, IfOk, IfErr};
-ghost use Rattle.flux_model.specs.Leading.{IsNumbered};
-ghost use Rattle.flux_graph.specs.Ordering.{IsOrder, HasCycle};
+ghost use Rattle.flux_model.specs.Numbered.{IsNumbered};
+ghost use Rattle.flux_model.specs.Ordering.{IsOrder, HasCycle};
 ghost use Rattle.flux_graph.specs.declared.ordering.Stop.TheVariants as stops;
 ghost use Rattle.flux_graph.specs.Faults.{IsCyclic, IsFault};
 ghost use Rattle.flux_graph.specs.Searching.{enters, numbered};

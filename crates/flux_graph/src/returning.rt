@@ -2,9 +2,10 @@
 
 ghost use Rattle.std.specs.Prelude.{◌≡◌, ◌≤◌, ◌<◌, ◌++◌, ◌∷◌, [], length, OnOk, IfOk};
 ghost use Rattle.std.specs.List.{AllByRecursion};
-ghost use Rattle.flux_model.specs.Leading.{AreBelow, leads_to};
+ghost use Rattle.flux_model.specs.Leading.{leads_to};
+ghost use Rattle.flux_model.specs.Numbered.{AreBelow};
 ghost use Rattle.flux_graph.specs.Searching.{leaves_of};
-ghost use Rattle.flux_graph.specs.Ordering.{HasCycle, IsLowestCycle};
+ghost use Rattle.flux_model.specs.Ordering.{HasCycle, IsLowestCycle};
 ghost use Rattle.flux_graph.specs.Returning.{moved, Seeks, IsAfter, IsBack};
 
 use crate::steps::{Step, add_step, enter_from, leaves};

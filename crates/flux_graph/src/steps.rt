@@ -2,7 +2,7 @@
 //! no room of the machine's stack.
 
 ghost use Rattle.std.specs.Prelude.{◌≡◌, ◌++◌, List, [], ◌∷◌, OnOk, IfOk};
-ghost use Rattle.flux_graph.specs.Reaching.{leads_in};
+ghost use Rattle.flux_model.specs.Leading.{leads_in};
 ghost use Rattle.flux_graph.specs.Searching.{enters, leaves_of};
 
 use flux_model::{Node, NodeNo};

@@ -1,12 +1,12 @@
-//! Orders, cycles and what is below, of small programs and of a long chain.
+//! Orders, cycles and what is below, of small programs and of large ones.
 
-ghost use Rattle.std.specs.Prelude.{IsTrue, ◌≤◌};
-ghost use Rattle.std.specs.List.{flat_map, AllByRecursion};
-ghost use Rattle.flux_model.specs.Leading.{AreBelow, leads_to, members_of, parts_of, IsNumbered};
+ghost use Rattle.std.specs.Prelude.{◌≡◌, IsTrue, IfOk};
+ghost use Rattle.flux_model.specs.Numbered.{AreBelow, ArePatternsBelow, IsNumbered};
+ghost use Rattle.flux_graph.specs.steps.Plain.{cases_of, AreUnpatterned, IsPlain, ArePlain};
 
 use crate::{GraphFault, below, order};
-use flux_model::{Body, Case, Node, NodeNo, Program};
-use flux_values::{List, TextBytes};
+use flux_model::{Body, COUNT_LIMIT, Case, HandleArm, Node, NodeNo, Program};
+use flux_values::{List, Memory, TextBytes};
 use std::alloc::Global;
 use std::process::Abort;
 use std::test::Fail;
@@ -24,12 +24,12 @@ fn are_below(numbers: &[NodeNo], count: usize) -> bool
     true
 }
 
-fn cases_below(cases: &[Case], count: usize) -> bool
-    ensures { IsTrue result → AreBelow count (flat_map (λ case. case.members) cases.now) }
+fn are_unpatterned(cases: &[Case]) -> bool
+    ensures { IsTrue result → AreUnpatterned cases.now }
 {
     let mut rest = cases;
     while let [case, others @ ..] = rest {
-        if !are_below(case.members.as_slice(), count) {
+        if !case.patterns.is_empty() {
             return false;
         }
         rest = others;
@@ -37,94 +37,112 @@ fn cases_below(cases: &[Case], count: usize) -> bool
     true
 }
 
-fn members_below(body: &Body, count: usize) -> bool
-    ensures { IsTrue result → AreBelow count (members_of body.now) }
+fn cases_of(body: &Body) -> &[Case]
+    ensures { cases_of body.now ≡ result.now }
 {
     match body {
-        Body::Concrete(_) => true,
-        Body::Abstract(cases) => cases_below(cases.as_slice(), count),
+        Body::Concrete(_) => &[],
+        Body::Abstract(cases) => cases.as_slice(),
     }
 }
 
-fn leads_below(node: &Node, count: usize) -> bool
-    ensures { IsTrue result → AreBelow count (leads_to node.now) }
+/// A node without classes and patterns, that leads to nodes below a count.
+fn is_plain(alloc: Global, node: &Node, count: usize) -> Result<bool, Memory>
+    ensures { IfOk result (λ plain. IsTrue plain → IsPlain count node.now) }
 {
-    if !members_below(&node.body, count) {
-        return false;
-    }
-    match node.on_fail {
-        Some(handler) => (handler.0 as usize) < count,
-        None => true,
-    }
+    let led = node.leads_to(alloc)?;
+    let cases = cases_of(&node.body);
+    Ok(
+        node.declared.is_empty()
+            && led.len() < COUNT_LIMIT / 2
+            && cases.len() < COUNT_LIMIT / 2
+            && are_unpatterned(cases)
+            && are_below(led.as_slice(), count),
+    )
 }
 
-fn nodes_below(nodes: &[Node], count: usize) -> bool
-    ensures { IsTrue result → AllByRecursion (λ node. AreBelow count (leads_to node)) nodes.now }
+fn are_plain(alloc: Global, nodes: &[Node], count: usize) -> Result<bool, Memory>
+    ensures { IfOk result (λ plain. IsTrue plain → ArePlain count nodes.now) }
 {
     let mut rest = nodes;
     while let [node, others @ ..] = rest {
-        if !leads_below(node, count) {
-            return false;
+        if !is_plain(alloc, node, count)? {
+            return Ok(false);
         }
         rest = others;
     }
-    true
+    Ok(true)
 }
 
-fn is_short(body: &Body) -> bool
-    ensures { IsTrue result → parts_of body.now ≤ 1048576 }
-{
-    match body {
-        Body::Concrete(_) => true,
-        Body::Abstract(cases) => match cases.as_slice() {
-            [] => true,
-            [case] => case.members.as_slice().len() < 1_048_576,
-            _ => false,
-        },
-    }
-}
-
-fn are_short(nodes: &[Node]) -> bool
-    ensures { IsTrue result → AllByRecursion (λ node. parts_of node.body ≤ 1048576) nodes.now }
-{
-    let mut rest = nodes;
-    while let [node, others @ ..] = rest {
-        if !is_short(&node.body) {
-            return false;
-        }
-        rest = others;
-    }
-    true
-}
-
-fn is_numbered(p: &Program) -> bool
-    ensures { IsTrue result → IsNumbered p.now }
+fn is_numbered(alloc: Global, p: &Program) -> Result<bool, Memory>
+    ensures { IfOk result (λ numbered. IsTrue numbered → IsNumbered p.now) }
 {
     let nodes = p.nodes.as_slice();
-    nodes.len() <= 1_048_576
-        && p.sources.as_slice().is_empty()
-        && are_short(nodes)
-        && nodes_below(nodes, nodes.len())
+    Ok(
+        nodes.len() <= COUNT_LIMIT
+            && p.classes.is_empty()
+            && p.sources.is_empty()
+            && p.predicates.is_empty()
+            && are_plain(alloc, nodes, nodes.len())?,
+    )
 }
 
-/// A node of one case with these members, and with a handler.
-fn node(alloc: Global, members: &[u32], handler: Option<u32>) -> Result<Node, Fail> {
+/// The nodes of a list of digits.
+fn numbers(alloc: Global, digits: &str) -> Result<List<NodeNo>, Memory> {
     let mut numbers = List::new(alloc);
-    for member in members {
-        numbers.push(NodeNo(*member))?;
+    for digit in digits.as_bytes() {
+        numbers.add(NodeNo(u32::from(digit.saturating_sub(b'0'))))?;
     }
+    Ok(numbers)
+}
+
+fn cases(alloc: Global, lists: &str) -> Result<List<Case>, Memory> {
     let mut cases = List::new(alloc);
-    cases.push(Case {
+    for list in lists.split('|') {
+        cases.add(Case {
+            patterns: List::new(alloc),
+            members: numbers(alloc, list)?,
+        })?;
+    }
+    Ok(cases)
+}
+
+fn one_case(alloc: Global, members: List<NodeNo>) -> Result<List<Case>, Memory> {
+    let mut cases = List::new(alloc);
+    cases.add(Case {
         patterns: List::new(alloc),
-        members: numbers,
+        members,
     })?;
+    Ok(cases)
+}
+
+fn add_arms(
+    alloc: Global,
+    arms: &mut List<HandleArm>,
+    handlers: &str,
+    code: Option<u16>,
+) -> Result<(), Memory> {
+    for handler in numbers(alloc, handlers)?.as_slice() {
+        let mut codes = List::new(alloc);
+        if let Some(code) = code {
+            codes.add(code)?;
+        }
+        arms.add(HandleArm {
+            codes,
+            node: *handler,
+        })?;
+    }
+    Ok(())
+}
+
+fn node(alloc: Global, cases: List<Case>, some_codes: &str, all_codes: &str) -> Result<Node, Fail> {
+    let mut arms = List::new(alloc);
+    add_arms(alloc, &mut arms, some_codes, Some(12))?;
+    add_arms(alloc, &mut arms, all_codes, None)?;
     Ok(Node {
         name: TextBytes::copy(alloc, b"N")?,
         body: Body::Abstract(cases),
-        on_fail: match handler {
-            Some(handler) => Some(NodeNo(handler)),
-            None => None,
-        },
+        on_fail: arms,
         declared: List::new(alloc),
     })
 }
@@ -138,111 +156,166 @@ fn program(alloc: Global, nodes: List<Node>) -> Program {
     }
 }
 
-fn small(alloc: Global, lines: &[(&[u32], Option<u32>)]) -> Result<Program, Fail> {
+/// A program of nodes, each up to `;`. First stand a node's members, with `|` between its cases; behind the first `!`
+/// the handlers for code 12; behind the second `!` those for all codes.
+fn small(alloc: Global, text: &str) -> Result<Program, Fail> {
     let mut nodes = List::new(alloc);
-    for (members, handler) in lines {
-        nodes.push(node(alloc, members, *handler)?)?;
+    for line in text.split(';') {
+        let mut parts = line.split('!');
+        let lists = parts.next().unwrap_or("");
+        let some_codes = parts.next().unwrap_or("");
+        let all_codes = parts.next().unwrap_or("");
+        nodes.push(node(alloc, cases(alloc, lists)?, some_codes, all_codes)?)?;
     }
     Ok(program(alloc, nodes))
 }
 
-fn assert_are(rt: &impl Abort, nodes: &[NodeNo], want: &[u32]) {
+fn assert_are(rt: &impl Abort, nodes: &List<NodeNo>, want: &List<NodeNo>) {
     assert_eq!(rt; nodes.len(), want.len());
     for (node, number) in nodes.iter().zip(want) {
-        assert_eq!(rt; node.0, *number);
+        assert_eq!(rt; node.0, number.0);
     }
 }
 
-fn assert_cycle(rt: &impl Abort, alloc: Global, p: &Program, want: &[u32]) {
-    assert!(rt; is_numbered(p));
+fn assert_cycle(
+    rt: &impl Abort,
+    alloc: Global,
+    p: &Program,
+    want: &List<NodeNo>,
+) -> Result<(), Memory> {
+    assert!(rt; is_numbered(alloc, p)?);
     match order(alloc, p) {
-        Err(GraphFault::Cycle { path }) => assert_are(rt, path.as_slice(), want),
-        Err(GraphFault::Memory) => assert!(rt; false, "memory for {want:?}"),
-        Ok(_) => assert!(rt; false, "no cycle {want:?}"),
+        Err(GraphFault::Cycle { path }) => assert_are(rt, &path, want),
+        Err(GraphFault::Memory) => return Err(Memory),
+        Ok(_order) => assert!(rt; false),
     }
+    Ok(())
 }
 
-fn assert_order(rt: &impl Abort, alloc: Global, p: &Program, want: &[u32]) {
-    assert!(rt; is_numbered(p));
+fn assert_order(
+    rt: &impl Abort,
+    alloc: Global,
+    p: &Program,
+    want: &List<NodeNo>,
+) -> Result<(), Memory> {
+    assert!(rt; is_numbered(alloc, p)?);
     match order(alloc, p) {
-        Ok(order) => assert_are(rt, order.nodes.as_slice(), want),
-        Err(_) => assert!(rt; false, "no order {want:?}"),
+        Ok(order) => assert_are(rt, &order.nodes, want),
+        Err(GraphFault::Memory) => return Err(Memory),
+        Err(GraphFault::Cycle { path: _path }) => assert!(rt; false),
     }
+    Ok(())
 }
 
-fn assert_below(rt: &impl Abort, alloc: Global, p: &Program, node: u32, want: &[u32]) {
-    assert!(rt; is_numbered(p));
-    assert!(rt; (node as usize) < p.nodes.as_slice().len());
-    match below(alloc, p, NodeNo(node)) {
-        Ok(nodes) => assert_are(rt, nodes.as_slice(), want),
-        Err(_) => assert!(rt; false, "memory below {node}"),
-    }
-}
-
-#[test]
-fn a_diamond_has_an_order(rt: HostRuntime) -> Result<(), Fail> {
-    let p = small(
-        rt.alloc(),
-        &[(&[1, 2], None), (&[3], None), (&[3], None), (&[], None)],
-    )?;
-    assert_order(&rt, rt.alloc(), &p, &[3, 2, 1, 0]);
-    assert_below(&rt, rt.alloc(), &p, 0, &[1, 2, 3]);
-    assert_below(&rt, rt.alloc(), &p, 1, &[3]);
-    assert_below(&rt, rt.alloc(), &p, 3, &[]);
+fn assert_below(
+    rt: &impl Abort,
+    alloc: Global,
+    p: &Program,
+    node: u32,
+    want: &List<NodeNo>,
+) -> Result<(), Memory> {
+    assert!(rt; is_numbered(alloc, p)?);
+    assert!(rt; (node as usize) < p.nodes.len());
+    assert_are(rt, &below(alloc, p, NodeNo(node))?, want);
     Ok(())
 }
 
 #[test]
-fn a_cycle_is_told_from_its_lowest_number(rt: HostRuntime) -> Result<(), Fail> {
-    let itself = small(rt.alloc(), &[(&[0], None)])?;
-    assert_cycle(&rt, rt.alloc(), &itself, &[0, 0]);
-    assert_below(&rt, rt.alloc(), &itself, 0, &[0]);
-    let behind = small(rt.alloc(), &[(&[1], None), (&[0], None), (&[1], None)])?;
-    assert_cycle(&rt, rt.alloc(), &behind, &[0, 1, 0]);
-    let two = small(
-        rt.alloc(),
-        &[
-            (&[1], None),
-            (&[0], None),
-            (&[4], None),
-            (&[2], None),
-            (&[3], None),
-        ],
-    )?;
-    assert_cycle(&rt, rt.alloc(), &two, &[0, 1, 0]);
-    assert_below(&rt, rt.alloc(), &two, 1, &[0, 1]);
-    assert_below(&rt, rt.alloc(), &two, 3, &[2, 3, 4]);
+fn each_node_stands_after_all_that_it_leads_to(rt: HostRuntime) -> Result<(), Fail> {
+    let alloc = rt.alloc();
+    let rows = [
+        ("12;3;31;", "3120"),
+        // several cases, the second of them empty
+        ("2||1;2;", "210"),
+        // handlers for code 12 and for all codes
+        ("1;!3!2;;!2", "2310"),
+    ];
+    for (text, want) in rows {
+        assert_order(&rt, alloc, &small(alloc, text)?, &numbers(alloc, want)?)?;
+    }
     Ok(())
 }
 
 #[test]
-fn handlers_are_led_to_and_stand_below_what_holds_their_node(rt: HostRuntime) -> Result<(), Fail> {
-    let p = small(rt.alloc(), &[(&[1], None), (&[], Some(2)), (&[], None)])?;
-    assert_order(&rt, rt.alloc(), &p, &[2, 1, 0]);
-    assert_below(&rt, rt.alloc(), &p, 0, &[1, 2]);
-    assert_below(&rt, rt.alloc(), &p, 1, &[]);
-    let back = small(rt.alloc(), &[(&[], Some(1)), (&[0], None)])?;
-    assert_cycle(&rt, rt.alloc(), &back, &[0, 1, 0]);
-    assert_below(&rt, rt.alloc(), &back, 1, &[0, 1]);
+fn a_cycle_is_told_from_the_lowest_node_on_any(rt: HostRuntime) -> Result<(), Fail> {
+    let alloc = rt.alloc();
+    let rows = [
+        // a node that leads to itself, as a member, as a handler for code 12 and as one for all codes
+        ("0", "00"),
+        (";!1", "11"),
+        (";!!1", "11"),
+        // the lowest node isn't on a cycle
+        ("2;2;1", "121"),
+        // two cycles, of which the search meets the higher one first
+        ("3;2;1;4;3", "121"),
+        // the lowest node stands between two cycles, and is on none
+        ("4;3;;10;5;4", "131"),
+        // through a handler for all codes, for code 12, and through the later of two
+        ("!!1;0", "010"),
+        ("!1;0", "010"),
+        ("!2!1;0;", "010"),
+        // through the second case
+        ("2|1;0;", "010"),
+    ];
+    for (text, want) in rows {
+        assert_cycle(&rt, alloc, &small(alloc, text)?, &numbers(alloc, want)?)?;
+    }
+    Ok(())
+}
+
+#[test]
+fn below_are_members_and_handlers_of_these(rt: HostRuntime) -> Result<(), Fail> {
+    let alloc = rt.alloc();
+    // node 0 has the handler 6, node 1 the handlers 2 and 3, and node 3 the handler 7
+    let p = small(alloc, "1|4!!6;!3!2;5;!!7;;;;")?;
+    let rows = [(0, "123457"), (1, ""), (2, "5"), (3, ""), (4, ""), (7, "")];
+    for (node, want) in rows {
+        assert_below(&rt, alloc, &p, node, &numbers(alloc, want)?)?;
+    }
     Ok(())
 }
 
 #[test]
 fn a_chain_of_4096_nodes_has_an_order(rt: HostRuntime) -> Result<(), Fail> {
-    let mut nodes = List::new(rt.alloc());
-    let mut backward = List::new(rt.alloc());
-    let mut forward = List::new(rt.alloc());
+    let alloc = rt.alloc();
+    let mut nodes = List::new(alloc);
+    let mut backward = List::new(alloc);
+    let mut forward = List::new(alloc);
     for number in 0..4096_u32 {
+        let mut members = List::new(alloc);
         if number < 4095 {
-            nodes.push(node(rt.alloc(), &[number + 1], None)?)?;
-            forward.push(number + 1)?;
-        } else {
-            nodes.push(node(rt.alloc(), &[], None)?)?;
+            members.push(NodeNo(number + 1))?;
+            forward.push(NodeNo(number + 1))?;
         }
-        backward.push(4095 - number)?;
+        nodes.push(node(alloc, one_case(alloc, members)?, "", "")?)?;
+        backward.push(NodeNo(4095 - number))?;
     }
-    let p = program(rt.alloc(), nodes);
-    assert_order(&rt, rt.alloc(), &p, backward.as_slice());
-    assert_below(&rt, rt.alloc(), &p, 0, forward.as_slice());
+    let p = program(alloc, nodes);
+    assert_order(&rt, alloc, &p, &backward)?;
+    assert_below(&rt, alloc, &p, 0, &forward)?;
+    Ok(())
+}
+
+/// Flows of 32 members, each of which leads to the 32 flows behind it; the last two lead to each other.
+#[test]
+fn the_one_cycle_at_the_end_of_4094_flows_is_found(rt: HostRuntime) -> Result<(), Fail> {
+    let alloc = rt.alloc();
+    let mut nodes = List::new(alloc);
+    for number in 0..4094_u32 {
+        let mut members = List::new(alloc);
+        for behind in 1..33 {
+            members.push(NodeNo(if number < 4093 {
+                (number + behind).min(4093)
+            } else {
+                4092
+            }))?;
+        }
+        nodes.push(node(alloc, one_case(alloc, members)?, "", "")?)?;
+    }
+    let mut path = List::new(alloc);
+    path.push(NodeNo(4092))?;
+    path.push(NodeNo(4093))?;
+    path.push(NodeNo(4092))?;
+    assert_cycle(&rt, alloc, &program(alloc, nodes), &path)?;
     Ok(())
 }

@@ -15,7 +15,7 @@ mod tests;
 
 pub use flux_values::{Answer, CallResult, Cell, Mode, Put};
 pub use journals::{CallMade, Entry, Event, FlowNo, Item, Journal, Key, Outcome};
-pub use laws::worked_examples;
+pub use laws::{hoisting_law, worked_examples};
 pub use modes::{at_least, class_order, conflict};
 pub use named::{Named, Sites};
 pub use programs::{

@@ -1,5 +1,5 @@
 use Rattle.std.proofs.Common.{length}
-use Rattle.flux_model.specs.Leading.{AreBelow}
+use Rattle.flux_model.specs.Numbered.{AreBelow}
 use Rattle.flux_graph.proofs.tests.are_below.Given as goal
 
 abbrev pub invariant-loop-rest : goal.invariant-loop-rest
