@@ -1,5 +1,5 @@
 -- What a store gives for a name.
-use Rattle.std.specs.Prelude.{ℕ, ◌≤◌, nat_le, if◌then◌else◌, List, length, Option, Some, None}
+use Rattle.std.specs.Prelude.{◌≡◌, ℕ, ◌≤◌, nat_le, if◌then◌else◌, List, [], ◌∷◌, ◌++◌, length, Option, Some, None}
 use Rattle.flux_outside.specs.declared.stores.File.{File}
 use Rattle.flux_outside.specs.declared.stores.File.TheVariants.{Found, Missing, Longer}
 
@@ -13,3 +13,7 @@ abbrev pub FitsIn : ℕ → File → Type 0
 FitsIn max (Found body) = length body ≤ max
 FitsIn max Missing = Unit {0}
 FitsIn max Longer = Unit {0}
+
+-- one name more was asked for, and nothing else
+abbrev pub AskedFor : List (List ℕ) → List (List ℕ) → List ℕ → Type 0
+AskedFor before after name = after ≡ before ++ name ∷ []

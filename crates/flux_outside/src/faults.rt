@@ -1,6 +1,7 @@
 //! The answers of calls that failed.
 
-ghost use Rattle.std.specs.Prelude.{◌≡◌};
+ghost use Rattle.std.specs.Prelude.{◌≡◌, ◌≤◌};
+ghost use Rattle.flux_outside.specs.Causes.{Rose};
 ghost use Rattle.flux_outside.specs.declared.faults.StoreFault.TheVariants as causes;
 
 use flux_values::Memory;
@@ -23,4 +24,21 @@ impl From<Memory> for StoreFault {
     fn from(_e: Memory) -> StoreFault {
         StoreFault::Memory
     }
+}
+
+impl From<Failed> for StoreFault {
+    ghost from_gives = { λ _ e. e ≡ causes.Failed };
+
+    fn from(_e: Failed) -> StoreFault {
+        StoreFault::Failed
+    }
+}
+
+/// Counts a failure. The count stops at its type's end.
+pub(crate) fn count(faults: &mut u64) -> Failed
+    ensures later { faults.old ≤ faults.new }
+    ensures rose { Rose faults.old faults.new }
+{
+    *faults = faults.saturating_add(1);
+    Failed
 }

@@ -6,14 +6,18 @@
 //! told where it is known: over memory it is, over real files and streams it isn't.
 #![tactic(auto)]
 
+mod asked;
+mod calls;
 mod faults;
 mod memory;
 mod real;
 mod sinks;
 mod stores;
+mod system;
 #[cfg(test)]
 mod tests;
 
+pub use asked::AskedNames;
 pub use faults::{Failed, StoreFault};
 pub use memory::{FileBytes, MemorySink, MemoryStore};
 pub use real::{RealSink, RealStore};

@@ -1,8 +1,10 @@
 //! A sink and a store in memory, whose calls fail where a test wants them to.
 
-ghost use Rattle.std.specs.Prelude.{◌≡◌, ◌≤◌, ◌<◌, [], length, vec_len, vec_capacity, IfOk, IfSome, Some, option_copied};
+ghost use Rattle.std.specs.Prelude.{◌≡◌, ◌≤◌, ◌<◌, ◌↔◌, [], length, vec_len, vec_capacity, IfOk, IfSome, Some, option_copied};
 
-use crate::faults::{Failed, StoreFault};
+use crate::asked::AskedNames;
+use crate::calls::Calls;
+use crate::faults::{Failed, StoreFault, count};
 use crate::sinks::Sink;
 use crate::stores::{File, Store};
 use flux_values::{Bytes, List, Memory};
@@ -21,8 +23,7 @@ pub struct MemorySink {
     written: Vec<u8>,
     room: usize,
     piece: usize,
-    fails: List<u64>,
-    calls: u64,
+    calls: Calls,
     faults: u64,
     ghost reserved: { room ≤ vec_capacity written },
     ghost within: { vec_len written ≤ room },
@@ -30,7 +31,7 @@ pub struct MemorySink {
 }
 
 impl MemorySink {
-    ghost use Rattle.flux_outside.specs.Memory.{sink_bytes, sink_faults, HasRoomFor, IsAsked};
+    ghost use Rattle.flux_outside.specs.Memory.{sink_bytes, sink_faults, IsNewSink};
 
     /// A sink that takes at most `piece` bytes a call and `room` bytes in all, for which it reserves memory.
     /// The calls whose numbers stand in `fails`, counted from 1, fail; so does a call that would pass the room.
@@ -43,16 +44,14 @@ impl MemorySink {
         requires { 0 < piece }
         ensures empty { IfOk result (λ sink. sink_bytes sink ≡ []) }
         ensures faultless { IfOk result (λ sink. sink_faults sink ≡ 0) }
-        ensures room { fails ≡ [] → IfOk result (λ sink. HasRoomFor sink room) }
-        ensures asked { IfOk result (λ sink. IsAsked sink piece fails) }
+        ensures made { IfOk result (λ sink. IsNewSink sink room piece fails) }
     {
         let written = Vec::with_capacity(alloc, room)?;
         Ok(MemorySink {
             written,
             room,
             piece,
-            fails,
-            calls: 0,
+            calls: Calls::new(fails),
             faults: 0,
         })
     }
@@ -66,10 +65,10 @@ impl MemorySink {
 }
 
 impl Sink for MemorySink {
-    ghost use Rattle.std.specs.Prelude.{Some, IfOk, IsErr, length, min};
+    ghost use Rattle.std.specs.Prelude.{Some, IfOk, IsOk, length};
     ghost use Rattle.flux_outside.specs.Causes.{HasCause};
     ghost use Rattle.flux_outside.specs.Sinks.{TakesSome, gained};
-    ghost use Rattle.flux_outside.specs.Memory.{sink_bytes, sink_faults, sink_piece, HasRoomFor, SinkIsToFail, IsAskedOn};
+    ghost use Rattle.flux_outside.specs.Memory.{sink_bytes, sink_faults, piece_of, SinkTakes, SinkWasCalled};
 
     ghost written = { λ sink. Some (sink_bytes sink) };
 
@@ -79,26 +78,19 @@ impl Sink for MemorySink {
         ensures bound { TakesSome result bytes.now }
         ensures bytes { Some (sink_bytes self.new) ≡ gained (Some (sink_bytes self.old)) result bytes.now }
         ensures cause { HasCause (sink_faults self.old) (sink_faults self.new) result }
-        // It takes as many bytes as a piece has, and a call that is to fail does.
-        ensures piece { IfOk result (λ count. count ≡ min (length bytes.now) (sink_piece self.old)) }
-        ensures fails { SinkIsToFail self.old → IsErr result }
-        ensures asked { IsAskedOn self.old self.new }
-        // With room and no call that is to fail, it doesn't fail.
-        ensures steady { HasRoomFor self.old (length bytes.now) → sink_faults self.new ≡ sink_faults self.old }
+        // It takes as many bytes as a piece has, unless the call is to fail or the room is too small.
+        ensures piece { IfOk result (λ taken. taken ≡ piece_of self.old (length bytes.now)) }
+        ensures takes { IsOk result ↔ SinkTakes self.old (length bytes.now) }
+        ensures called { SinkWasCalled self.old self.new }
     {
-        self.calls = self.calls.saturating_add(1);
-        let count = bytes.len().min(self.piece);
-        let refused = self.fails.as_slice().contains(&self.calls);
-        if refused || count > self.room - self.written.len() {
-            self.faults = self.faults.saturating_add(1);
-            return Err(Failed);
+        let refused = self.calls.count();
+        let taken = bytes.len().min(self.piece);
+        if refused || taken > self.room - self.written.len() {
+            return Err(count(&mut self.faults));
         }
-        match self.written.extend_from_slice(&bytes[..count]) {
-            Ok(()) => Ok(count),
-            Err(_) => {
-                self.faults = self.faults.saturating_add(1);
-                Err(Failed)
-            }
+        match self.written.extend_from_slice(&bytes[..taken]) {
+            Ok(()) => Ok(taken),
+            Err(_) => Err(count(&mut self.faults)),
         }
     }
 }
@@ -107,25 +99,26 @@ impl Sink for MemorySink {
 #[derive(Debug, Drop)]
 pub struct MemoryStore {
     files: List<FileBytes>,
-    fails: List<u64>,
-    calls: u64,
+    calls: Calls,
+    asked: AskedNames,
     faults: u64,
 }
 
 impl MemoryStore {
-    ghost use Rattle.flux_outside.specs.Memory.{first_of, store_files, store_faults, NeverFails, IsStoreAsked};
+    ghost use Rattle.flux_outside.specs.Stores.{file_of};
+    ghost use Rattle.flux_outside.specs.Memory.{first_of, store_files, store_asked, store_faults, IsNewStore};
 
     /// A store of these files. The calls whose numbers stand in `fails`, counted from 1, fail.
     pub fn new(files: List<FileBytes>, fails: List<u64>) -> MemoryStore
         ensures files { store_files result ≡ first_of files }
         ensures faultless { store_faults result ≡ 0 }
-        ensures steady { fails ≡ [] → NeverFails result }
-        ensures asked { IsStoreAsked result fails }
+        ensures asked { store_asked result ≡ [] }
+        ensures made { IsNewStore result fails }
     {
         MemoryStore {
             files,
-            fails,
-            calls: 0,
+            calls: Calls::new(fails),
+            asked: AskedNames::new(),
             faults: 0,
         }
     }
@@ -141,38 +134,49 @@ impl MemoryStore {
         }
         None
     }
-}
 
-impl Store for MemoryStore {
-    ghost use Rattle.std.specs.Prelude.{Some, IfOk, IsErr};
-    ghost use Rattle.flux_outside.specs.Causes.{HasStoreCause};
-    ghost use Rattle.flux_outside.specs.Stores.{FitsIn, file_of};
-    ghost use Rattle.flux_outside.specs.Memory.{store_files, store_faults, NeverFails, StoreIsToFail, IsStoreAskedOn};
-
-    ghost files = { λ store. Some (store_files store) };
-
-    ghost faults = { λ store. store_faults store };
-
-    fn read_file(&mut self, alloc: Global, name: &[u8], max: usize) -> Result<File, StoreFault>
-        ensures kept { Some (store_files self.new) ≡ Some (store_files self.old) }
-        ensures limit { IfOk result (FitsIn max) }
-        ensures told { IfSome (Some (store_files self.old)) (λ files. IfOk result (λ file. file ≡ file_of (files name.now) max)) }
-        ensures cause { HasStoreCause (store_faults self.old) (store_faults self.new) result }
-        // A call that is to fail does.
-        ensures fails { StoreIsToFail self.old → IsErr result }
-        ensures asked { IsStoreAskedOn self.old self.new }
-        // Where no call is to fail, none does.
-        ensures steady { NeverFails self.old → store_faults self.new ≡ store_faults self.old }
+    /// What is under a name.
+    fn find(&self, alloc: Global, name: &[u8], max: usize) -> Result<File, Memory>
+        ensures { IfOk result (λ file. file ≡ file_of (store_files self.now name.now) max) }
     {
-        self.calls = self.calls.saturating_add(1);
-        if self.fails.as_slice().contains(&self.calls) {
-            self.faults = self.faults.saturating_add(1);
-            return Err(StoreFault::Failed);
-        }
         Ok(match MemoryStore::body_of(self.files.as_slice(), name) {
             None => File::Missing,
             Some(body) if body.len() > max => File::Longer,
             Some(body) => File::Found(Bytes::copy(alloc, body)?),
         })
+    }
+}
+
+impl Store for MemoryStore {
+    ghost use Rattle.std.specs.Prelude.{Some, IfOk, IsErrOf};
+    ghost use Rattle.flux_outside.specs.Causes.{HasStoreCause};
+    ghost use Rattle.flux_outside.specs.Stores.{FitsIn, file_of, AskedFor};
+    ghost use Rattle.flux_outside.specs.Memory.{store_files, store_asked, store_faults, StoreIsToFail, StoreWasCalled};
+
+    ghost files = { λ store. Some (store_files store) };
+
+    ghost asked = { λ store. store_asked store };
+
+    ghost faults = { λ store. store_faults store };
+
+    fn read_file(&mut self, alloc: Global, name: &[u8], max: usize) -> Result<File, StoreFault>
+        ensures kept { Some (store_files self.new) ≡ Some (store_files self.old) }
+        ensures asked { AskedFor (store_asked self.old) (store_asked self.new) name.now }
+        ensures limit { IfOk result (FitsIn max) }
+        ensures told { IfSome (Some (store_files self.old)) (λ files. IfOk result (λ file. file ≡ file_of (files name.now) max)) }
+        ensures cause { HasStoreCause (store_faults self.old) (store_faults self.new) result }
+        // The calls that are to fail do, and no other.
+        ensures fails { StoreIsToFail self.old → IsErrOf result StoreFault.Failed }
+        ensures only { IsErrOf result StoreFault.Failed → StoreIsToFail self.old }
+        ensures called { StoreWasCalled self.old self.new }
+    {
+        self.asked.add(name);
+        if self.calls.count() {
+            return Err(count(&mut self.faults).into());
+        }
+        match self.find(alloc, name, max) {
+            Ok(file) => Ok(file),
+            Err(Memory) => Err(StoreFault::Memory),
+        }
     }
 }

@@ -1,16 +1,21 @@
 //! The real streams and files: thin adapters, which tell nothing of what they hold.
 
-ghost use Rattle.std.specs.Prelude.{◌≡◌, ◌≤◌, length, IfOk, IsErrOf};
+ghost use Rattle.std.specs.Prelude.{◌≡◌, ◌+◌, ◌≤◌, [], length, IfOk};
+ghost use Rattle.flux_outside.specs.Causes.{HasStoreCause};
 ghost use Rattle.flux_outside.specs.Stores.{FitsIn};
+ghost use Rattle.flux_outside.specs.Readers.{IsFileOf, TakesAtMost};
 
-use crate::faults::{Failed, StoreFault};
+use crate::faults::{Failed, StoreFault, count};
 use crate::sinks::Sink;
 use crate::stores::{File, Store};
+use crate::system::{NotOpened, OpenFile, SystemFiles};
 use flux_values::Bytes;
 use std::alloc::Global;
-use std::fs;
-use std::io::{ErrorKind, Read, Write};
+use std::io::{Read, Write};
 use std::rt::Files;
+
+/// How many bytes are read at once.
+const BLOCK: usize = 8192;
 
 /// A stream of std, as standard output.
 #[derive(Drop)]
@@ -29,18 +34,24 @@ impl<W> RealSink<W> {
 
 impl<W: Write> Sink for RealSink<W> {
     ghost use Rattle.std.specs.Prelude.{None};
+    ghost use Rattle.std.specs.Io.KnownBytes.{WriteAppends};
+    ghost use Rattle.flux_outside.specs.Causes.{HasCause};
+    ghost use Rattle.flux_outside.specs.Sinks.{TakesSome, gained};
 
     ghost written = { λ _. None };
 
     ghost faults = { λ sink. sink.faults };
 
-    fn write(&mut self, bytes: &[u8]) -> Result<usize, Failed> {
+    fn write(&mut self, bytes: &[u8]) -> Result<usize, Failed>
+        ensures bound { TakesSome result bytes.now }
+        ensures bytes { None ≡ gained None result bytes.now }
+        ensures cause { HasCause self.old.faults self.new.faults result }
+        // What std says that its stream has gained is the piece that was taken.
+        ensures stream { WriteAppends (W.contents self.old.stream) (W.contents self.new.stream) result bytes.now }
+    {
         match self.stream.write(bytes) {
-            Ok(count) if count > 0 || bytes.is_empty() => Ok(count),
-            _ => {
-                self.faults = self.faults.saturating_add(1);
-                Err(Failed)
-            }
+            Ok(taken) if taken > 0 || bytes.is_empty() => Ok(taken),
+            _ => Err(count(&mut self.faults)),
         }
     }
 }
@@ -48,15 +59,17 @@ impl<W: Write> Sink for RealSink<W> {
 /// The files of the system.
 #[derive(Drop)]
 pub struct RealStore<R> {
-    runtime: R,
-    faults: u64,
+    files: SystemFiles<R>,
 }
 
 impl<R> RealStore<R> {
     pub fn new(runtime: R) -> RealStore<R>
-        ensures { result ≡ record { runtime = runtime; faults = 0 } }
+        ensures asked { result.files.asked.names ≡ [] }
+        ensures faultless { result.files.faults ≡ 0 }
     {
-        RealStore { runtime, faults: 0 }
+        RealStore {
+            files: SystemFiles::new(runtime),
+        }
     }
 }
 
@@ -65,50 +78,43 @@ impl<R: Files> Store for RealStore<R> {
 
     ghost files = { λ _. None };
 
-    ghost faults = { λ store. store.faults };
+    ghost asked = { λ store. store.files.asked.names };
+
+    ghost faults = { λ store. store.files.faults };
 
     fn read_file(&mut self, alloc: Global, name: &[u8], max: usize) -> Result<File, StoreFault> {
-        let answer = load(&self.runtime, alloc, name, max);
-        if let Err(StoreFault::Failed) = &answer {
-            self.faults = self.faults.saturating_add(1);
+        match self.files.open(name) {
+            Ok(mut file) => read_up_to(&mut self.files, alloc, &mut file, max),
+            Err(NotOpened::Missing) => Ok(File::Missing),
+            Err(NotOpened::Memory) => Err(StoreFault::Memory),
+            Err(NotOpened::Failed) => Err(StoreFault::Failed),
         }
-        answer
     }
 }
 
-fn load<R: Files>(runtime: &R, alloc: Global, name: &[u8], max: usize) -> Result<File, StoreFault>
-    ensures { IfOk result (FitsIn max) }
-{
-    let Ok(path) = str::from_utf8(name) else {
-        return Err(StoreFault::Failed);
-    };
-    match fs::open(runtime, path) {
-        Ok(mut file) => read_up_to(alloc, &mut file, max),
-        Err(e) => match e.kind() {
-            ErrorKind::NotFound => Ok(File::Missing),
-            ErrorKind::OutOfMemory => Err(StoreFault::Memory),
-            _ => Err(StoreFault::Failed),
-        },
-    }
-}
-
-/// All that a reader gives, if that is at most `max` bytes.
-fn read_up_to<R: Read>(alloc: Global, reader: &mut R, max: usize) -> Result<File, StoreFault>
-    ensures { IfOk result (FitsIn max) }
+/// All that a file has left, if that is at most `max` bytes. It reads at most one block beyond them.
+fn read_up_to<R, F: Read>(
+    files: &mut SystemFiles<R>,
+    alloc: Global,
+    file: &mut OpenFile<F>,
+    max: usize,
+) -> Result<File, StoreFault>
+    ensures limit { IfOk result (FitsIn max) }
+    ensures whole { IsFileOf (F.remaining file.old.reader) max result }
+    ensures taken { TakesAtMost (max + BLOCK) (F.remaining file.old.reader) (F.remaining file.new.reader) }
+    ensures asked { files.new.asked ≡ files.old.asked }
+    ensures cause { HasStoreCause files.old.faults files.new.faults result }
 {
     let mut body = Bytes::new(alloc);
-    let mut buffer = [0u8; 8192];
-    for _ in 0..u64::MAX {
-        match reader.read(&mut buffer) {
-            Ok(0) => return Ok(File::Found(body)),
-            Ok(count) => {
-                if count > max - body.as_bytes().len() {
-                    return Ok(File::Longer);
-                }
-                body.append(&buffer[..count])?;
-            }
-            Err(_) => return Err(StoreFault::Failed),
+    let mut buffer = [0u8; BLOCK];
+    'reading: loop {
+        let taken = files.read(file, &mut buffer)?;
+        if taken == 0 {
+            return Ok(File::Found(body));
         }
+        if taken > max - body.as_bytes().len() {
+            return Ok(File::Longer);
+        }
+        body.append(&buffer[..taken])?;
     }
-    Err(StoreFault::Failed)
 }

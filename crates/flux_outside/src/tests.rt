@@ -1,8 +1,8 @@
-//! The forms in memory fail where they are asked to; the real ones read and write.
+//! The forms in memory fail where they are asked to.
 
-use crate::{
-    File, FileBytes, MemorySink, MemoryStore, RealSink, RealStore, Sink, Store, StoreFault,
-};
+mod real;
+
+use crate::{File, FileBytes, MemorySink, MemoryStore, Sink, Store, StoreFault};
 use flux_values::{Bytes, List, Memory};
 use std::alloc::Global;
 use std::test::Fail;
@@ -51,43 +51,5 @@ fn a_store_in_memory_tells_found_missing_and_longer(rt: HostRuntime) -> Result<(
     assert!(rt; matches!(store.read_file(alloc, b"a", 2), Ok(File::Longer)));
     assert!(rt; matches!(store.read_file(alloc, b"a", 3), Err(StoreFault::Failed)));
     assert!(rt; matches!(store.read_file(alloc, b"b", 3), Ok(File::Missing)));
-    Ok(())
-}
-
-#[test]
-fn the_real_store_reads_files(rt: HostRuntime) -> Result<(), Fail> {
-    let alloc = rt.alloc();
-    let mut store = RealStore::new(&rt);
-    assert!(rt;
-        matches!(
-            store.read_file(alloc, b"/proc/self/no such file", 9),
-            Ok(File::Missing)
-        )
-    );
-    assert!(rt;
-        matches!(
-            store.read_file(alloc, b"/proc/self/status", 9),
-            Ok(File::Longer)
-        )
-    );
-    match store.read_file(alloc, b"/proc/self/comm", 64) {
-        Ok(File::Found(body)) => assert!(rt; body.as_bytes().ends_with(b"\n")),
-        other => assert!(rt; false, "{other:?}"),
-    }
-    assert!(rt;
-        matches!(
-            store.read_file(alloc, b"/proc", 64),
-            Err(StoreFault::Failed)
-        ),
-        "a folder"
-    );
-    assert!(rt; matches!(store.read_file(alloc, b"\xff", 64), Err(StoreFault::Failed)));
-    Ok(())
-}
-
-#[test]
-fn the_real_sink_writes(rt: HostRuntime) -> Result<(), Fail> {
-    let mut sink = RealSink::new(rt.stdout());
-    assert_eq!(rt; sink.write(b"written\n").ok(), Some(8));
     Ok(())
 }

@@ -1,0 +1,99 @@
+//! The files of the system: each is opened and read here alone, where names are noted and failures counted.
+
+ghost use Rattle.std.specs.Prelude.{◌≡◌, ◌≤◌, []};
+ghost use Rattle.std.specs.Io.{ReadsAtMost};
+ghost use Rattle.std.specs.Io.KnownBytes.{ReadConsumes};
+ghost use Rattle.flux_outside.specs.Causes.{HasCause};
+ghost use Rattle.flux_outside.specs.Stores.{AskedFor};
+ghost use Rattle.flux_outside.specs.Opening.{why_not, CountsOpening};
+
+use crate::asked::AskedNames;
+use crate::faults::{Failed, count};
+use std::fs;
+use std::io::{ErrorKind, Read};
+use std::rt::Files;
+
+/// The files of the system, with the names that were asked for and the count of faults.
+#[derive(Drop)]
+pub struct SystemFiles<R> {
+    runtime: R,
+    asked: AskedNames,
+    faults: u64,
+}
+
+/// A file that is open for reading.
+#[derive(Drop)]
+pub struct OpenFile<F> {
+    reader: F,
+}
+
+/// Why a file was not opened.
+#[derive(Clone, Copy, Debug)]
+pub enum NotOpened {
+    Missing,
+    Memory,
+    /// The system failed, and the count of faults rose.
+    Failed,
+}
+
+impl<R> SystemFiles<R> {
+    pub fn new(runtime: R) -> SystemFiles<R>
+        ensures asked { result.asked.names ≡ [] }
+        ensures faultless { result.faults ≡ 0 }
+    {
+        SystemFiles {
+            runtime,
+            asked: AskedNames::new(),
+            faults: 0,
+        }
+    }
+
+    /// Reads on in a file.
+    pub fn read<F: Read>(
+        &mut self,
+        file: &mut OpenFile<F>,
+        buffer: &mut [u8],
+    ) -> Result<usize, Failed>
+        ensures bound { ReadsAtMost result buffer.new }
+        ensures bytes { ReadConsumes (F.remaining file.old.reader) (F.remaining file.new.reader) result buffer.new }
+        ensures asked { self.new.asked ≡ self.old.asked }
+        ensures cause { HasCause self.old.faults self.new.faults result }
+    {
+        match file.reader.read(buffer) {
+            Ok(count) => Ok(count),
+            Err(_) => Err(count(&mut self.faults)),
+        }
+    }
+}
+
+impl<R: Files> SystemFiles<R> {
+    /// Opens a file for reading. A name that is no UTF-8 fails, since std opens texts alone.
+    pub fn open(&mut self, name: &[u8]) -> Result<OpenFile<R::File>, NotOpened>
+        ensures asked { AskedFor self.old.asked.names self.new.asked.names name.now }
+        ensures later { self.old.faults ≤ self.new.faults }
+        ensures cause { CountsOpening self.old.faults self.new.faults result }
+    {
+        self.asked.add(name);
+        let reason = match str::from_utf8(name) {
+            Ok(path) => match fs::open(&self.runtime, path) {
+                Ok(reader) => return Ok(OpenFile { reader }),
+                Err(e) => why_not(e.kind()),
+            },
+            Err(_) => NotOpened::Failed,
+        };
+        if let NotOpened::Failed = reason {
+            let _ = count(&mut self.faults);
+        }
+        Err(reason)
+    }
+}
+
+fn why_not(kind: ErrorKind) -> NotOpened
+    ensures { result ≡ why_not kind }
+{
+    match kind {
+        ErrorKind::NotFound => NotOpened::Missing,
+        ErrorKind::OutOfMemory => NotOpened::Memory,
+        _ => NotOpened::Failed,
+    }
+}
