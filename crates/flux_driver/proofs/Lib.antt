@@ -3,15 +3,11 @@ pub mod Strips
 pub mod ValueLists
 pub mod Writes
 pub mod Thens
+pub mod Quiet
 pub mod Tasks
 pub mod Walkings
 pub mod Going
 pub mod Turns
-pub mod Quiet
 pub mod Walks
 pub mod ItemLines
 pub mod Sourced
-pub mod Named
-pub mod Once
-pub mod Prepared
-pub mod Answered

@@ -1,9 +1,5 @@
-pub mod Runs
-pub mod Running
-pub mod Items
+pub mod steps
 pub mod Statuses
-pub mod Commands
-pub mod Writing
-pub mod Refusals
-pub mod Steps
-pub mod Top
+pub mod Worlds
+pub mod Headline
+pub mod Items

@@ -8,13 +8,18 @@ ghost use Rattle.flux_values.specs.Texts.{printed_value};
 ghost use Rattle.flux_values.specs.Reading.{IsValue, EndsBefore};
 ghost use Rattle.flux_model.specs.declared.journals.Item.{Item};
 ghost use Rattle.flux_model.specs.Texts.{source_name};
-ghost use Rattle.flux_driver.specs.Items.{IsNext, IsClosed, IsLine, AreValues, closed, separator, line_of, item_line, IsItemOf, IsItemFor, IsItemLine, IsItemsRead, AreItemsOf, IsItemFault, IsNamed, AreNamedSources};
-ghost use Rattle.flux_model.specs.Soundness.{kinds_of, kinds_at};
+ghost use Rattle.flux_model.specs.Kinds.{kinds_of, kinds_at};
+ghost use Rattle.flux_model.specs.Items.{AreValues, IsItemOf, IsItemFor};
+ghost use Rattle.flux_driver.specs.Items.{item_line, AreItemsOf, IsItemFault};
+ghost use Rattle.flux_driver.specs.steps.ItemLines.{IsNext, IsClosed, IsLine, closed, separator, line_of, IsItemLine, IsItemsRead, IsNamed, AreNamedSources};
 
 use flux_hoist::Checked;
 use flux_model::{Item, NodeNo, NodeSig, Program, SourceLine, SourceNo, TypeText};
 use flux_values::{Kind, List, Memory, Value, ValueFault, read_value};
 use std::alloc::Global;
+
+/// The most items of an items text.
+pub const ITEM_LIMIT: usize = 64;
 
 /// What an items text is.
 #[derive(Debug, Drop)]
@@ -75,9 +80,7 @@ fn read_values(
     for kind in kinds {
         match read_next(alloc, separator(&values), *kind, &text[at..])? {
             Some((value, length)) => {
-                if values.push(value).is_err() {
-                    return Err(Memory);
-                }
+                values.add(value)?;
                 at += length;
             }
             None => return Ok(None),
@@ -166,12 +169,8 @@ fn kinds_of(alloc: Global, types: &[TypeText]) -> Result<List<Kind>, Memory>
     ensures { IfOk result (λ kinds. kinds ≡ kinds_of types.now) }
 {
     let mut kinds = List::new(alloc);
-    let mut rest = types;
-    while let [ty, others @ ..] = rest {
-        if kinds.push(ty.kind).is_err() {
-            return Err(Memory);
-        }
-        rest = others;
+    for ty in types {
+        kinds.add(ty.kind)?;
     }
     Ok(kinds)
 }
@@ -235,15 +234,13 @@ pub fn read_items(alloc: Global, checked: &Checked, text: &[u8]) -> Result<Items
 {
     let mut items = List::new(alloc);
     let mut rest = text;
-    for line in 1..65 {
+    for line in 1..ITEM_LIMIT as u64 + 1 {
         if rest.is_empty() {
             return Ok(ItemsRead::Items(items));
         }
         match read_item(alloc, checked, rest)? {
             Some((item, length)) => {
-                if items.push(item).is_err() {
-                    return Err(Memory);
-                }
+                items.add(item)?;
                 rest = &rest[length..];
             }
             None => return Ok(ItemsRead::Fault(line)),
@@ -252,6 +249,6 @@ pub fn read_items(alloc: Global, checked: &Checked, text: &[u8]) -> Result<Items
     if rest.is_empty() {
         Ok(ItemsRead::Items(items))
     } else {
-        Ok(ItemsRead::Fault(65))
+        Ok(ItemsRead::Fault(ITEM_LIMIT as u64 + 1))
     }
 }

@@ -16,9 +16,9 @@ use Rattle.flux_model.specs.declared.journals.Outcome.TheVariants.{Good, Over, B
 use Rattle.flux_model.specs.declared.journals.Event.{Event}
 use Rattle.flux_model.specs.declared.journals.Event.TheVariants.{Enter, Choose, Call, Exit}
 use Rattle.flux_model.specs.declared.journals.Item.{Item}
-use Rattle.flux_running.specs.declared.running.Task.{Task}
-use Rattle.flux_running.specs.declared.running.Task.TheVariants.{Visit, Leave}
-use Rattle.flux_running.specs.declared.running.Progress.{Progress}
+use Rattle.flux_driver.specs.declared.running.Task.{Task}
+use Rattle.flux_driver.specs.declared.running.Task.TheVariants.{Visit, Leave}
+use Rattle.flux_driver.specs.declared.running.Progress.{Progress}
 
 -- how a call's answer ends its node
 abbrev pub outcome_of : CallResult → Outcome

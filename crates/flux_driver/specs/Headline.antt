@@ -1,0 +1,35 @@
+-- The headline: what `run` prints is the journal of a run that really follows the program.
+use Rattle.std.specs.Prelude.{List}
+use Rattle.flux_values.specs.Meanings.{LibraryMeaning}
+use Rattle.flux_values.specs.Cells.{no_cell}
+use Rattle.flux_model.specs.declared.programs.Program.{Program}
+use Rattle.flux_model.specs.declared.journals.Entry.{Entry}
+use Rattle.flux_model.specs.declared.journals.Item.{Item}
+use Rattle.flux_model.specs.Locks.{Holds}
+use Rattle.flux_model.specs.Setup.{Setup}
+use Rattle.flux_model.specs.Legal.{IsLegal, IsWhole}
+use Rattle.flux_model.specs.Serial.{AreWalks}
+
+-- a program with its locks, items, a library, and cells that are all empty at the start
+abbrev pub setup_of : Program → Holds → List Item → LibraryMeaning → Setup
+setup_of program locks items meaning = record {
+  program = program;
+  locks = locks;
+  items = items;
+  opening = λ key. no_cell;
+  meaning = meaning;
+}
+
+-- The entries are a true run of the items:
+--   whole           each item's flow is one whole path of its walk, on the answers of its own calls;
+--   legal.answers   each call has the answer of its library node, on the cells as the entries before it left them;
+--   legal.excludes  no take and no section overlaps one of another flow that conflicts with it;
+--   legal.waits     each wait stands where a take is blocked, and nobody overtakes it;
+--   legal.free      at no moment do flows wait for each other in a circle;
+-- and the flows come one after the other, in the order of the items. `legal` says too that the locks are the program's.
+pub record IsTrueRun (program : Program) (items : List Item) (meaning : LibraryMeaning)
+    (entries : List Entry) : Type 0 where
+  pub locks : Holds
+  pub legal : IsLegal (setup_of program locks items meaning) entries
+  pub whole : IsWhole (setup_of program locks items meaning) entries
+  pub serial : AreWalks (setup_of program locks items meaning) 0 items entries

@@ -1,0 +1,4 @@
+pub mod ItemLines
+pub mod Running
+pub mod Flows
+pub mod Tasks

@@ -1,6 +1,0 @@
-//! The flows of items.
-#![tactic(auto)]
-
-mod running;
-
-pub use running::run;
