@@ -44,7 +44,7 @@ sites_many names (Signature name ins outs ∷ decls) = ap suc (sites_many names 
 sites_many names (Flow name patterns members ∷ decls) = ap suc (sites_many names decls)
 sites_many names (Source name target ∷ decls) = sites_many names decls
 sites_many names (Typedef name function ∷ decls) = sites_many names decls
-sites_many names (Handler node handler ∷ decls) = sites_many names decls
+sites_many names (Handler node codes handler ∷ decls) = sites_many names decls
 sites_many names (Atomic node constraints ∷ decls) = sites_many names decls
 sites_many names (Session source function ∷ decls) = sites_many names decls
 

@@ -44,7 +44,7 @@ names_are all names (Flow name patterns members ∷ decls) e =
     ∙ append_assoc names (name.text ∷ []) (node_names (flat_map (node_of all) decls))
 names_are all names (Source name target ∷ decls) e = names_are all names decls e
 names_are all names (Typedef name function ∷ decls) e = names_are all names decls e
-names_are all names (Handler node handler ∷ decls) e = names_are all names decls e
+names_are all names (Handler node codes handler ∷ decls) e = names_are all names decls e
 names_are all names (Atomic node constraints ∷ decls) e = names_are all names decls e
 names_are all names (Session source function ∷ decls) e = names_are all names decls e
 
@@ -102,7 +102,7 @@ module _ (R : Decl → Type 0) (kind : Kinds) (names : List (List ℕ)) where
   decl_found (Flow name patterns members ∷ decls) all (suc number) node at = let f = decl_found decls all.1 number node at in record { decl = f.decl; holds = f.holds; named = f.named; line = f.line }
   decl_found (Source name target ∷ decls) all number node at = decl_found decls all.1 number node at
   decl_found (Typedef name function ∷ decls) all number node at = decl_found decls all.1 number node at
-  decl_found (Handler n handler ∷ decls) all number node at = decl_found decls all.1 number node at
+  decl_found (Handler n codes handler ∷ decls) all number node at = decl_found decls all.1 number node at
   decl_found (Atomic n constraints ∷ decls) all number node at = decl_found decls all.1 number node at
   decl_found (Session source function ∷ decls) all number node at = decl_found decls all.1 number node at
 
@@ -160,7 +160,7 @@ sources_named library all names (Signature name ins outs ∷ decls) =
 sources_named library all names (Flow name patterns members ∷ decls) = (tt, sources_named library all names decls)
 sources_named library all names (Source name target ∷ decls) = sources_named library all names decls
 sources_named library all names (Typedef name function ∷ decls) = sources_named library all names decls
-sources_named library all names (Handler n handler ∷ decls) = sources_named library all names decls
+sources_named library all names (Handler n codes handler ∷ decls) = sources_named library all names decls
 sources_named library all names (Atomic n constraints ∷ decls) = sources_named library all names decls
 sources_named library all names (Session source function ∷ decls) = sources_named library all names decls
 
@@ -180,7 +180,7 @@ new_nodes all names (Flow name patterns members ∷ decls) e =
     (fresh names name both.0, subst (λ (ns : List (List ℕ)). AreNew ns (flat_map (node_of all) decls)) (name_added names name both.0) (new_nodes all (and_name names (Some name)) decls both.1))
 new_nodes all names (Source name target ∷ decls) e = new_nodes all names decls e
 new_nodes all names (Typedef name function ∷ decls) e = new_nodes all names decls e
-new_nodes all names (Handler node handler ∷ decls) e = new_nodes all names decls e
+new_nodes all names (Handler node codes handler ∷ decls) e = new_nodes all names decls e
 new_nodes all names (Atomic node constraints ∷ decls) e = new_nodes all names decls e
 new_nodes all names (Session source function ∷ decls) e = new_nodes all names decls e
 

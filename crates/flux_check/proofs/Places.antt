@@ -11,7 +11,7 @@ use Rattle.flux_syntax.specs.declared.declarations.Decl.{Decl}
 use Rattle.flux_syntax.specs.declared.declarations.Decl.TheVariants.{Signature, Flow, Source, Typedef, Handler, Atomic, Session}
 use Rattle.flux_syntax.specs.Words.{naming, sourced, inner, and_name, names_of, listed, spelling}
 use Rattle.flux_syntax.specs.ProgramOfText.{library_name, places}
-use Rattle.flux_syntax.specs.Standing.{StandsIn, fault_words, AllStandIn}
+use Rattle.flux_syntax.proofs.Standing.{StandsIn, fault_words, AllStandIn}
 use Rattle.flux_syntax.specs.Least.{Row, sooner, soonest, fault_or, first_fault}
 use Rattle.flux_names.specs.Rows.{Kinds, Nodes, known, same, among, all_among, again, twice_after, beyond, beyond_after, unknown_type, unknown_in, not_in, is_like, unlike, source_names, rows}
 use Rattle.flux_names.specs.Building.{unbuilt, place_or, first_unbuilt}
@@ -91,7 +91,7 @@ module _ (n : ℕ) where
   naming_in (Flow name patterns members) h = (h.0, tt)
   naming_in (Source name target) h = tt
   naming_in (Typedef name function) h = tt
-  naming_in (Handler node handler) h = tt
+  naming_in (Handler node codes handler) h = tt
   naming_in (Atomic node constraints) h = tt
   naming_in (Session source function) h = tt
 
@@ -100,7 +100,7 @@ module _ (n : ℕ) where
   sourced_in (Signature name ins outs) h = tt
   sourced_in (Flow name patterns members) h = tt
   sourced_in (Typedef name function) h = tt
-  sourced_in (Handler node handler) h = tt
+  sourced_in (Handler node codes handler) h = tt
   sourced_in (Atomic node constraints) h = tt
   sourced_in (Session source function) h = tt
 
@@ -109,7 +109,7 @@ module _ (n : ℕ) where
   inner_in (Flow name patterns members) h = h.1
   inner_in (Signature name ins outs) h = tt
   inner_in (Typedef name function) h = tt
-  inner_in (Handler node handler) h = tt
+  inner_in (Handler node codes handler) h = tt
   inner_in (Atomic node constraints) h = tt
   inner_in (Session source function) h = tt
 
@@ -150,7 +150,7 @@ module _ (n : ℕ) where
   types_in kind (Flow name patterns members) h = tt
   types_in kind (Source name target) h = tt
   types_in kind (Typedef name function) h = tt
-  types_in kind (Handler node handler) h = tt
+  types_in kind (Handler node codes handler) h = tt
   types_in kind (Atomic node constraints) h = tt
   types_in kind (Session source function) h = tt
 
@@ -159,7 +159,7 @@ module _ (n : ℕ) where
   missing_in node (Flow name patterns members) h = tt
   missing_in node (Source name target) h = tt
   missing_in node (Typedef name function) h = tt
-  missing_in node (Handler n handler) h = tt
+  missing_in node (Handler n codes handler) h = tt
   missing_in node (Atomic n constraints) h = tt
   missing_in node (Session source function) h = tt
 
@@ -168,7 +168,7 @@ module _ (n : ℕ) where
   unlike_in kind node (Flow name patterns members) h = tt
   unlike_in kind node (Source name target) h = tt
   unlike_in kind node (Typedef name function) h = tt
-  unlike_in kind node (Handler n handler) h = tt
+  unlike_in kind node (Handler n codes handler) h = tt
   unlike_in kind node (Atomic n constraints) h = tt
   unlike_in kind node (Session source function) h = tt
 
@@ -204,7 +204,7 @@ module _ (n : ℕ) where
   empty_in (Signature name ins outs) h = tt
   empty_in (Source name target) h = tt
   empty_in (Typedef name function) h = tt
-  empty_in (Handler node handler) h = tt
+  empty_in (Handler node codes handler) h = tt
   empty_in (Atomic node constraints) h = tt
   empty_in (Session source function) h = tt
 
@@ -224,7 +224,7 @@ module _ (n : ℕ) where
   joins_in sig (Signature name ins outs) h = tt
   joins_in sig (Source name target) h = tt
   joins_in sig (Typedef name function) h = tt
-  joins_in sig (Handler node handler) h = tt
+  joins_in sig (Handler node codes handler) h = tt
   joins_in sig (Atomic node constraints) h = tt
   joins_in sig (Session source function) h = tt
 
@@ -233,7 +233,7 @@ module _ (n : ℕ) where
   targets_in sig (Signature name ins outs) h = tt
   targets_in sig (Flow name patterns members) h = tt
   targets_in sig (Typedef name function) h = tt
-  targets_in sig (Handler node handler) h = tt
+  targets_in sig (Handler node codes handler) h = tt
   targets_in sig (Atomic node constraints) h = tt
   targets_in sig (Session source function) h = tt
 
@@ -244,7 +244,7 @@ module _ (n : ℕ) where
   large_in size total (Signature name ins outs ∷ decls) all = large_in size total decls all.1
   large_in size total (Flow name patterns members ∷ decls) all = large_in size total decls all.1
   large_in size total (Typedef name function ∷ decls) all = large_in size total decls all.1
-  large_in size total (Handler node handler ∷ decls) all = large_in size total decls all.1
+  large_in size total (Handler node codes handler ∷ decls) all = large_in size total decls all.1
   large_in size total (Atomic node constraints ∷ decls) all = large_in size total decls all.1
   large_in size total (Session source function ∷ decls) all = large_in size total decls all.1
 
@@ -266,7 +266,7 @@ module _ (n : ℕ) where
       one (Flow name (Some patterns) members) h more e = here name h.0 e
       one (Source name target) h more e = more e
       one (Typedef name function) h more e = here name h.0 e
-      one (Handler node handler) h more e = here node h.0 e
+      one (Handler node codes handler) h more e = here node h.0 e
       one (Atomic node constraints) h more e = here node h.0 e
       one (Session source function) h more e = here source h.0 e
 

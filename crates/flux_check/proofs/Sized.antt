@@ -45,7 +45,7 @@ module _ (decls : List Decl) (table : List ℕ) (stands : (number : ℕ) → siz
   large_is total t place (Signature name ins outs ∷ ds) is = large_is total t place ds is
   large_is total t place (Flow name patterns members ∷ ds) is = large_is total t place ds is
   large_is total t place (Typedef name function ∷ ds) is = large_is total t place ds is
-  large_is total t place (Handler node handler ∷ ds) is = large_is total t place ds is
+  large_is total t place (Handler node codes handler ∷ ds) is = large_is total t place ds is
   large_is total t place (Atomic node constraints ∷ ds) is = large_is total t place ds is
   large_is total t place (Session source function ∷ ds) is = large_is total t place ds is
 
@@ -69,7 +69,7 @@ module _ (decls : List Decl) (table : List ℕ) (stands : (number : ℕ) → siz
   small t (Signature name ins outs ∷ ds) le e = small t ds le e
   small t (Flow name patterns members ∷ ds) le e = small t ds le e
   small t (Typedef name function ∷ ds) le e = small t ds le e
-  small t (Handler node handler ∷ ds) le e = small t ds le e
+  small t (Handler node codes handler ∷ ds) le e = small t ds le e
   small t (Atomic node constraints ∷ ds) le e = small t ds le e
   small t (Session source function ∷ ds) le e = small t ds le e
 

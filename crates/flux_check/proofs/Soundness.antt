@@ -196,7 +196,7 @@ module _ (kind : Kinds) (library : Nodes) (decls : List Decl) (order : List Node
       empties (m ∷ ms) e = refl
   of_decl number node at (Source name target) c named line = absurd cc
   of_decl number node at (Typedef name function) c named line = absurd cc
-  of_decl number node at (Handler n handler) c named line = absurd cc
+  of_decl number node at (Handler n codes handler) c named line = absurd cc
   of_decl number node at (Atomic n constraints) c named line = absurd cc
   of_decl number node at (Session source function) c named line = absurd cc
 
@@ -215,7 +215,7 @@ module _ (kind : Kinds) (library : Nodes) (decls : List Decl) (order : List Node
   lines_fit (Signature name ins outs ∷ ds) all = lines_fit ds all.1
   lines_fit (Flow name patterns members ∷ ds) all = lines_fit ds all.1
   lines_fit (Typedef name function ∷ ds) all = lines_fit ds all.1
-  lines_fit (Handler n handler ∷ ds) all = lines_fit ds all.1
+  lines_fit (Handler n codes handler ∷ ds) all = lines_fit ds all.1
   lines_fit (Atomic n constraints ∷ ds) all = lines_fit ds all.1
   lines_fit (Session source function ∷ ds) all = lines_fit ds all.1
 
@@ -229,7 +229,7 @@ module _ (kind : Kinds) (library : Nodes) (decls : List Decl) (order : List Node
   targets_plain (Signature name ins outs ∷ ds) all = targets_plain ds all.1
   targets_plain (Flow name patterns members ∷ ds) all = targets_plain ds all.1
   targets_plain (Typedef name function ∷ ds) all = targets_plain ds all.1
-  targets_plain (Handler n handler ∷ ds) all = targets_plain ds all.1
+  targets_plain (Handler n codes handler ∷ ds) all = targets_plain ds all.1
   targets_plain (Atomic n constraints ∷ ds) all = targets_plain ds all.1
   targets_plain (Session source function ∷ ds) all = targets_plain ds all.1
 

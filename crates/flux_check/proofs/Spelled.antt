@@ -75,7 +75,7 @@ module _ (kind : Kinds) where
   lines_spelled (Flow name patterns members ∷ decls) = (nothing_spelled, lines_spelled decls)
   lines_spelled (Source name target ∷ decls) = lines_spelled decls
   lines_spelled (Typedef name function ∷ decls) = lines_spelled decls
-  lines_spelled (Handler node handler ∷ decls) = lines_spelled decls
+  lines_spelled (Handler node codes handler ∷ decls) = lines_spelled decls
   lines_spelled (Atomic node constraints ∷ decls) = lines_spelled decls
   lines_spelled (Session source function ∷ decls) = lines_spelled decls
 

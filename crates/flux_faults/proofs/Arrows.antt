@@ -20,6 +20,7 @@ mark_at names zero lt = refl
 mark_at [] (suc i) lt = absurd (omega arith)
 mark_at (name ∷ names) (suc i) lt = sym (ap (λ (b : Bool). cond b [] (codes " -> ")) (ne_eqb (suc i) 0 (λ (e : suc i ≡ 0). omega arith)))
 
+-- one name more has been written
 pub arrows_next : (names : List (List ℕ)) (i : ℕ) (d name : List ℕ) → i < length names → name ≡ get_or names i d → arrows (take (i + 1) names) ≡ arrows (take i names) ++ (cond (eqb i 0) [] (codes " -> ") ++ name)
 arrows_next names i d name lt is =
     ap arrows (take_more names i d lt ∙ ap (λ (n : List ℕ). take i names ++ n ∷ []) (sym is))

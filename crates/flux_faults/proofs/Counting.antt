@@ -7,7 +7,7 @@ use Rattle.std.proofs.lemmas.List.{take_more, reverse-append, length-append}
 use Rattle.std.proofs.lemmas.List.Elements.{filter-append}
 use Rattle.flux_faults.specs.declared.faults.Place.{Place}
 use Rattle.flux_faults.specs.Places.{line_of, column_of}
-use Rattle.flux_faults.specs.Steps.{next_place}
+use Rattle.flux_faults.specs.steps.Places.{next_place}
 
 -- so many bytes have been read
 pub record Counted (line column i : ℕ) (text : List ℕ) : Type 0 where
@@ -16,6 +16,7 @@ pub record Counted (line column i : ℕ) (text : List ℕ) : Type 0 where
   pub few : line ≤ i + 1
   pub short : column ≤ i + 1
 
+-- before the first byte
 pub counted_none : (text : List ℕ) → Counted 1 1 0 text
 counted_none text = record { lines = refl; columns = refl; few = omega arith; short = omega arith }
 
@@ -35,6 +36,7 @@ columns_next before b = ap (prefix_len (λ c. not (eqb c 10))) (reverse-append b
     one b bytes true e = rw e refl
     one b bytes false e = rw e refl
 
+-- an LF has been read
 pub counted_end : (text : List ℕ) (line column i : ℕ) → Counted line column i text → i < length text → get_or text i 0 ≡ 10 → Counted (line + 1) 1 (i + 1) text
 counted_end text line column i c lt is =
     let e : eqb (get_or text i 0) 10 ≡ true = grind (arith, nat_tests) in
@@ -46,6 +48,7 @@ counted_end text line column i c lt is =
       short = omega arith;
     }
 
+-- another byte has been read
 pub counted_byte : (text : List ℕ) (line column i : ℕ) → Counted line column i text → i < length text → (get_or text i 0 ≡ 10 → ⊥) → Counted line (column + 1) (i + 1) text
 counted_byte text line column i c lt other =
     let e : eqb (get_or text i 0) 10 ≡ false = ne_eqb (get_or text i 0) 10 other in
@@ -68,5 +71,6 @@ chosen text place i b false e c lt is = rw e (counted_byte text place.line place
     ten_is : (b : ℕ) → b ≡ 10 → eqb b 10 ≡ false → ⊥
     ten_is b same e = absurd (grind (arith, nat_tests))
 
+-- one byte more has been read
 pub counted_next : (text : List ℕ) (place : Place) (i b : ℕ) → Counted place.line place.column i text → i < length text → b ≡ get_or text i 0 → Counted (next_place place b).line (next_place place b).column (i + 1) text
 counted_next text place i b c lt is = chosen text place i b (eqb b 10) refl c lt is

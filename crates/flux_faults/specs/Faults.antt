@@ -1,11 +1,15 @@
 -- The numbers, names and lines of faults.
-use Rattle.std.specs.Prelude.{ℕ, ◌==◌, if◌then◌else◌, List, [], ◌∷◌, ◌++◌, codes}
+use Rattle.std.specs.Prelude.{ℕ, ◌≤◌, ◌<◌, ⊤, List, [], ◌∷◌, ◌++◌, length, codes}
 use Rattle.std.specs.Fmt.{decimal}
 use Rattle.flux_faults.specs.declared.faults.FaultKind.{FaultKind}
-use Rattle.flux_faults.specs.declared.faults.FaultKind.TheVariants.{NotBuilt, TooLong, BadByte, UnclosedComment, Unexpected, TwiceNamed, UnknownNode, UnknownType, NotInLibrary, UnlikeLibrary, UnknownPredicate, UnknownSession, NotASource, SourceMisused, TooMany, Cycle, NoSignature, JoinTypes, CaseCount, CaseTypes, PredicateType, HandlerTypes, SourceTypes, SessionTypes, BothScopes, Unprotected, NoSession, PlanTooLarge}
+use Rattle.flux_faults.specs.declared.faults.FaultKind.TheVariants.{NotBuilt, TooLong, BadByte, UnclosedComment, Unexpected, TwiceNamed, UnknownNode, UnknownType, NotInLibrary, UnlikeLibrary, UnknownPredicate, UnknownSession, NotASource, SourceMisused, TooMany, Cycle, NoSignature, JoinTypes, CaseCount, CaseTypes, PredicateType, HandlerTypes, SourceTypes, SessionTypes, BothScopes, Unprotected, NoSession, PlanTooLarge, BadCode}
 use Rattle.flux_faults.specs.declared.faults.StaticFault.{StaticFault}
+use Rattle.flux_faults.specs.declared.faults.CheckFault.{CheckFault}
+use Rattle.flux_faults.specs.declared.faults.CheckFault.TheVariants.{Static, Memory}
+use Rattle.flux_faults.specs.declared.places.TheConstants.{PLACE_LIMIT}
 use Rattle.flux_faults.specs.Places.{line_of, column_of}
 
+-- a fault's number in its line
 abbrev pub number_of : FaultKind → ℕ
 number_of NotBuilt = 0
 number_of TooLong = 1
@@ -35,7 +39,9 @@ number_of BothScopes = 24
 number_of Unprotected = 25
 number_of NoSession = 26
 number_of PlanTooLarge = 27
+number_of BadCode = 28
 
+-- a fault's name in its line
 abbrev pub name_of : FaultKind → List ℕ
 name_of NotBuilt = codes "NotBuilt"
 name_of TooLong = codes "TooLong"
@@ -65,6 +71,7 @@ name_of BothScopes = codes "BothScopes"
 name_of Unprotected = codes "Unprotected"
 name_of NoSession = codes "NoSession"
 name_of PlanTooLarge = codes "PlanTooLarge"
+name_of BadCode = codes "BadCode"
 
 -- names with ` -> ` between them
 abbrev pub arrows : List (List ℕ) → List ℕ
@@ -73,11 +80,18 @@ arrows (name ∷ []) = name
 arrows (name ∷ next ∷ names) = name ++ codes " -> " ++ arrows (next ∷ names)
 
 -- what stands behind the name: the path of a cycle
-abbrev pub printed_path : StaticFault → List ℕ
-printed_path fault = if number_of fault.kind == 15 then codes " " ++ arrows fault.path else []
+abbrev pub printed_path : FaultKind → List (List ℕ) → List ℕ
+printed_path Cycle path = codes " " ++ arrows path
+printed_path kind path = []
 
 -- `LINE:COLUMN: fault NUMBER NAME`, and the path
 abbrev pub printed_fault : List ℕ → StaticFault → List ℕ
 printed_fault text fault =
-    decimal (line_of text fault.at) ++ codes ":" ++ decimal (column_of text fault.at) ++ codes ": fault " ++ decimal (number_of fault.kind)
-    ++ codes " " ++ name_of fault.kind ++ printed_path fault
+    decimal (line_of text fault.at) ++ codes ":" ++ decimal (column_of text fault.at)
+    ++ codes ": fault " ++ decimal (number_of fault.kind)
+    ++ codes " " ++ name_of fault.kind ++ printed_path fault.kind fault.path
+
+-- a refusal's fault, if it is one, stands at a byte of the text or at its end, and has a line
+abbrev pub IsPlacedIn : List ℕ → CheckFault → Type 0
+IsPlacedIn text (Static fault) = (fault.at ≤ length text) × (fault.at < PLACE_LIMIT)
+IsPlacedIn text Memory = ⊤

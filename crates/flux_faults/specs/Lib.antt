@@ -1,3 +1,3 @@
 pub mod Places
 pub mod Faults
-pub mod Steps
+pub mod steps

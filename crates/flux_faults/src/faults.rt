@@ -1,9 +1,10 @@
 //! What can be wrong with a program's text.
 
 ghost use Rattle.std.specs.Prelude.{◌≡◌};
+ghost use Rattle.flux_faults.specs.declared.faults.CheckFault.TheVariants as faults;
 ghost use Rattle.flux_faults.specs.Faults.{name_of, number_of};
 
-use flux_values::{List, TextBytes};
+use flux_values::{List, Memory, TextBytes};
 
 /// The kinds of faults, each under its number.
 #[derive(Clone, Copy, Debug, PartialEq, Eq)]
@@ -64,6 +65,8 @@ pub enum FaultKind {
     NoSession,
     /// The sources' sizes sum to more than 65,536.
     PlanTooLarge,
+    /// A code isn't 1 to 256 in decimal without leading zeros, or stands for its node already.
+    BadCode,
 }
 
 impl FaultKind {
@@ -100,6 +103,7 @@ impl FaultKind {
             FaultKind::Unprotected => 25,
             FaultKind::NoSession => 26,
             FaultKind::PlanTooLarge => 27,
+            FaultKind::BadCode => 28,
         }
     }
 
@@ -136,6 +140,7 @@ impl FaultKind {
             FaultKind::Unprotected => b"Unprotected",
             FaultKind::NoSession => b"NoSession",
             FaultKind::PlanTooLarge => b"PlanTooLarge",
+            FaultKind::BadCode => b"BadCode",
         }
     }
 }
@@ -160,4 +165,12 @@ pub struct StaticFault {
 pub enum CheckFault {
     Static(StaticFault),
     Memory,
+}
+
+impl From<Memory> for CheckFault {
+    ghost from_gives = { λ _ fault. fault ≡ faults.Memory };
+
+    fn from(_e: Memory) -> CheckFault {
+        CheckFault::Memory
+    }
 }

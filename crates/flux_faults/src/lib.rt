@@ -1,7 +1,7 @@
 //! Faults of program texts, their places and their lines.
 //!
-//! A fault stands at a byte of the text. `place` gives its line and column, and `fault_line` the one line that is
-//! written about it.
+//! A fault stands at a byte of the text or at its end. `place` gives its line and column, and
+//! `fault_line` the one line that is written about it.
 #![tactic(auto)]
 
 mod faults;
@@ -12,4 +12,4 @@ mod tests;
 
 pub use faults::{CheckFault, FaultKind, Place, StaticFault};
 pub use lines::fault_line;
-pub use places::place;
+pub use places::{PLACE_LIMIT, place};

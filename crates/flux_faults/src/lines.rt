@@ -1,17 +1,18 @@
 //! The line that is written about a fault.
 
-ghost use Rattle.std.specs.Prelude.{◌≡◌, ◌≤◌, ◌<◌, ◌++◌, [], if◌then◌else◌, codes, length, IfOk, OnOk};
+ghost use Rattle.std.specs.Prelude.{◌≡◌, ◌≤◌, ◌<◌, ◌++◌, length, IfOk, OnOk};
 ghost use Rattle.flux_faults.specs.Faults.{printed_fault, printed_path, arrows};
+ghost use Rattle.flux_faults.specs.steps.Arrows.{arrow_before};
 
-use crate::faults::StaticFault;
-use crate::places::place;
+use crate::faults::{FaultKind, StaticFault};
+use crate::places::{PLACE_LIMIT, place};
 use flux_values::{Bytes, Memory, TextBytes, append_number};
 use std::alloc::Global;
 
 /// The line about a fault of the text, without a line end.
 pub fn fault_line(alloc: Global, text: &[u8], fault: &StaticFault) -> Result<Bytes, Memory>
     requires inside { fault.now.at ≤ length text.now }
-    requires room { fault.now.at < 4294967295 }
+    requires room { fault.now.at < PLACE_LIMIT }
     ensures { IfOk result (λ line. line ≡ printed_fault text.now fault.now) }
 {
     let place = place(text, fault.at);
@@ -28,13 +29,15 @@ pub fn fault_line(alloc: Global, text: &[u8], fault: &StaticFault) -> Result<Byt
 }
 
 fn append_path(line: &mut Bytes, fault: &StaticFault) -> Result<(), Memory>
-    ensures { OnOk result (line.new ≡ line.old ++ printed_path fault.now) }
+    ensures { OnOk result (line.new ≡ line.old ++ printed_path fault.now.kind fault.now.path) }
 {
-    if fault.kind.number() != 15 {
-        return Ok(());
+    match fault.kind {
+        FaultKind::Cycle => {
+            line.append(b" ")?;
+            append_arrows(line, fault.path.as_slice())
+        }
+        _ => Ok(()),
     }
-    line.append(b" ")?;
-    append_arrows(line, fault.path.as_slice())
 }
 
 fn append_arrows(line: &mut Bytes, names: &[TextBytes]) -> Result<(), Memory>
@@ -47,7 +50,7 @@ fn append_arrows(line: &mut Bytes, names: &[TextBytes]) -> Result<(), Memory>
 }
 
 fn append_next(line: &mut Bytes, first: bool, name: &TextBytes) -> Result<(), Memory>
-    ensures { OnOk result (line.new ≡ line.old ++ ((if first then [] else codes " -> ") ++ name.now)) }
+    ensures { OnOk result (line.new ≡ line.old ++ (arrow_before first ++ name.now)) }
 {
     line.append(if first { b"" } else { b" -> " })?;
     line.append(name.as_bytes())

@@ -1,7 +1,7 @@
 //! Texts with the places and lines of faults in them.
 
-use crate::{FaultKind, Place, StaticFault, fault_line, place};
-use flux_values::{List, TextBytes};
+use crate::{CheckFault, FaultKind, Place, StaticFault, fault_line, place};
+use flux_values::{List, Memory, TextBytes};
 use std::test::Fail;
 
 #[test]
@@ -30,6 +30,7 @@ fn lines_tell_place_number_and_name(rt: HostRuntime) -> Result<(), Fail> {
         (FaultKind::BadByte, 6, b"1:7: fault 2 BadByte"),
         (FaultKind::Unexpected, 14, b"1:15: fault 4 Unexpected"),
         (FaultKind::PlanTooLarge, 7, b"1:8: fault 27 PlanTooLarge"),
+        (FaultKind::BadCode, 3, b"1:4: fault 28 BadCode"),
     ];
     for (kind, at, line) in table {
         let fault = StaticFault {
@@ -63,4 +64,17 @@ fn the_line_of_a_cycle_has_its_path(rt: HostRuntime) -> Result<(), Fail> {
         b"3:1: fault 15 Cycle A -> B -> A".as_slice()
     );
     Ok(())
+}
+
+fn pass_on(refused: bool) -> Result<(), CheckFault> {
+    if refused {
+        Err(Memory)?;
+    }
+    Ok(())
+}
+
+#[test]
+fn want_of_memory_is_passed_on_as_it_is(rt: HostRuntime) {
+    assert!(rt; matches!(pass_on(true), Err(CheckFault::Memory)));
+    assert!(rt; pass_on(false).is_ok());
 }

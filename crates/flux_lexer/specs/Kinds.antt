@@ -3,21 +3,33 @@ use Rattle.std.specs.Prelude.{ℕ, ◌==◌, ◌&&◌, ◌||◌, nat_le, Bool, f
 use Rattle.std.specs.List.{list_all}
 use Rattle.std.specs.Str.{bytes_eq}
 use Rattle.flux_lexer.specs.declared.kinds.TokenKind.{TokenKind}
-use Rattle.flux_lexer.specs.declared.kinds.TokenKind.TheVariants.{Identifier, Source, Typedef, Handle, Error, Atomic, Session, Wildcard, OpenParen, CloseParen, OpenBracket, CloseBracket, OpenBrace, CloseBrace, Comma, Semicolon, Colon, Equals, Star, Question, Bang, ThinArrow, Arrow}
+use Rattle.flux_lexer.specs.declared.kinds.TokenKind.TheVariants.{Identifier, Number, Source, Typedef, Handle, Error, Atomic, Session, Wildcard, OpenParen, CloseParen, OpenBracket, CloseBracket, OpenBrace, CloseBrace, Comma, Semicolon, Colon, Equals, Star, Question, Bang, ThinArrow, Arrow}
 
+-- a letter: `A` to `Z`, or `a` to `z`
 abbrev pub is_letter : ℕ → Bool
 is_letter b = (nat_le 65 b && nat_le b 90) || (nat_le 97 b && nat_le b 122)
 
--- a word begins with a letter or `_`, and goes on with these and digits
+-- a digit: `0` to `9`
+abbrev pub is_digit : ℕ → Bool
+is_digit b = nat_le 48 b && nat_le b 57
+
+-- a word begins with a letter or `_`
 abbrev pub is_word_start : ℕ → Bool
 is_word_start b = is_letter b || b == 95
 
+-- and goes on with these and digits
 abbrev pub is_word_byte : ℕ → Bool
-is_word_byte b = is_word_start b || (nat_le 48 b && nat_le b 57)
+is_word_byte b = is_word_start b || is_digit b
 
+-- bytes that are a word
 abbrev pub is_word : List ℕ → Bool
 is_word [] = false
 is_word (b ∷ bytes) = is_word_start b && list_all is_word_byte bytes
+
+-- bytes that are a number: one digit or more
+abbrev pub is_number : List ℕ → Bool
+is_number [] = false
+is_number (b ∷ bytes) = is_digit b && list_all is_digit bytes
 
 -- the kind of a word: a reserved word's own, the wildcard, or an identifier
 abbrev pub word_kind : List ℕ → TokenKind
@@ -30,7 +42,7 @@ word_kind word =
     if bytes_eq word (codes "session") then Session else
     if bytes_eq word (codes "_") then Wildcard else Identifier
 
--- the kind of one byte that is no letter
+-- the kind of one byte that is no letter and no digit
 abbrev pub single : ℕ → Option TokenKind
 single b =
     if b == 40 then Some OpenParen else
@@ -48,15 +60,14 @@ single b =
     if b == 33 then Some Bang else
     None
 
--- the kind of two bytes that are no word
+-- the kind of two bytes that are no word and no number
 abbrev pub double : List ℕ → Option TokenKind
-double bytes = if bytes_eq bytes (codes "->") then Some ThinArrow else if bytes_eq bytes (codes "=>") then Some Arrow else None
+double bytes =
+    if bytes_eq bytes (codes "->") then Some ThinArrow else
+    if bytes_eq bytes (codes "=>") then Some Arrow else
+    None
 
--- one after the other
-abbrev pub or_else : Option TokenKind → Option TokenKind → Option TokenKind
-or_else (Some kind) other = Some kind
-or_else None other = other
-
+-- the kind of a mark: one or two bytes that are no word and no number
 abbrev pub mark_kind : List ℕ → Option TokenKind
 mark_kind [] = None
 mark_kind (b ∷ []) = single b
@@ -64,4 +75,7 @@ mark_kind (b ∷ c ∷ bytes) = double (b ∷ c ∷ bytes)
 
 -- the kind that bytes spell, if they do
 abbrev pub kind_of : List ℕ → Option TokenKind
-kind_of bytes = if is_word bytes then Some (word_kind bytes) else mark_kind bytes
+kind_of bytes =
+    if is_word bytes then Some (word_kind bytes) else
+    if is_number bytes then Some Number else
+    mark_kind bytes

@@ -1,5 +1,4 @@
 pub mod Kinds
 pub mod Pieces
-pub mod Fronts
 pub mod Texts
-pub mod Lexing
+pub mod steps

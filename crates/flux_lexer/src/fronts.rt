@@ -1,10 +1,10 @@
 //! What begins a text: a blank, a comment or a token.
 
-ghost use Rattle.std.specs.Prelude.{◌≡◌, ◌≤◌, true, Some, None, length, IfSome};
+ghost use Rattle.std.specs.Prelude.{◌≡◌, ◌≤◌, length, take, IfSome};
 ghost use Rattle.std.specs.List.{prefix_len};
-ghost use Rattle.flux_lexer.specs.Kinds.{is_word_start, is_word_byte};
+ghost use Rattle.flux_lexer.specs.Kinds.{is_digit, is_word_start, is_word_byte};
 ghost use Rattle.flux_lexer.specs.Pieces.{is_blank, close_of, line_length};
-ghost use Rattle.flux_lexer.specs.Fronts.{word_front, slash_front, arrow_front, front_of};
+ghost use Rattle.flux_lexer.specs.steps.Fronts.{limited, slash_front, arrow_front, front_of};
 
 use crate::kinds::{TokenKind, single, word_kind};
 use flux_values::TEXT_LIMIT;
@@ -14,9 +14,10 @@ use flux_values::TEXT_LIMIT;
 pub enum Front {
     /// A blank or a comment.
     Skip(usize),
-    /// A `/*` that nothing closes.
-    Open,
     Token(TokenKind, usize),
+    /// A comment that nothing closes, up to the end.
+    Unclosed,
+    /// None of these.
     Bad,
 }
 
@@ -35,7 +36,13 @@ fn is_word_start(byte: u8) -> bool
 fn is_word_byte(byte: u8) -> bool
     ensures { result ≡ is_word_byte byte }
 {
-    is_word_start(byte) || byte.is_ascii_digit()
+    is_word_start(byte) || is_digit(byte)
+}
+
+fn is_digit(byte: u8) -> bool
+    ensures { result ≡ is_digit byte }
+{
+    byte.is_ascii_digit()
 }
 
 fn word_length(text: &[u8]) -> usize
@@ -43,6 +50,13 @@ fn word_length(text: &[u8]) -> usize
     ensures within { result ≤ length text.now }
 {
     text.iter().take_while(|byte| is_word_byte(**byte)).count()
+}
+
+fn number_length(text: &[u8]) -> usize
+    ensures value { result ≡ prefix_len is_digit text.now }
+    ensures within { result ≤ length text.now }
+{
+    text.iter().take_while(|byte| is_digit(**byte)).count()
 }
 
 fn line_length(text: &[u8]) -> usize
@@ -68,28 +82,26 @@ fn find_close(text: &[u8]) -> Option<usize>
     None
 }
 
-fn word_front(text: &[u8]) -> Front
-    ensures { result ≡ word_front text.now (prefix_len is_word_byte text.now) }
+/// A token of so many bytes, unless it is too long.
+fn limited(kind: TokenKind, length: usize) -> Front
+    ensures { result ≡ limited kind length }
 {
-    let length = word_length(text);
     if length > TEXT_LIMIT {
         Front::Bad
     } else {
-        Front::Token(word_kind(&text[..length]), length)
+        Front::Token(kind, length)
     }
 }
 
-/// What a `/` begins, where this follows it. After an open comment nothing closes another.
-fn slash_front(rest: &[u8], unclosed: bool) -> Front
-    requires { unclosed ≡ true → close_of rest.now ≡ None }
+/// What a `/` begins, where this follows it.
+fn slash_front(rest: &[u8]) -> Front
     ensures { result ≡ slash_front rest.now }
 {
     match rest {
         [b'/', line @ ..] => Front::Skip(line_length(line) + 2),
-        [b'*', ..] if unclosed => Front::Open,
         [b'*', text @ ..] => match find_close(text) {
             Some(length) => Front::Skip(length + 4),
-            None => Front::Open,
+            None => Front::Unclosed,
         },
         _ => Front::Bad,
     }
@@ -104,20 +116,22 @@ fn arrow_front(arrow: TokenKind, other: Front, rest: &[u8]) -> Front
     }
 }
 
-/// What begins the text. Where a comment before it stood open, nothing closes another.
-pub fn front_of(text: &[u8], unclosed: bool) -> Front
-    requires { unclosed ≡ true → close_of text.now ≡ None }
+/// What begins the text.
+pub fn front_of(text: &[u8]) -> Front
     ensures { result ≡ front_of text.now }
 {
     match text {
         [] => Front::Bad,
         [first, rest @ ..] => {
             if is_word_start(*first) {
-                word_front(text)
+                let length = word_length(text);
+                limited(word_kind(&text[..length]), length)
+            } else if is_digit(*first) {
+                limited(TokenKind::Number, number_length(text))
             } else if is_blank(*first) {
                 Front::Skip(1)
             } else if *first == b'/' {
-                slash_front(rest, unclosed)
+                slash_front(rest)
             } else if *first == b'-' {
                 arrow_front(TokenKind::ThinArrow, Front::Bad, rest)
             } else if *first == b'=' {

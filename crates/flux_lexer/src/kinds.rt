@@ -7,6 +7,8 @@ ghost use Rattle.flux_lexer.specs.Kinds.{single, word_kind};
 #[derive(Clone, Copy, Debug, PartialEq, Eq)]
 pub enum TokenKind {
     Identifier,
+    /// Digits.
+    Number,
     /// `source`
     Source,
     /// `typedef`
@@ -61,7 +63,7 @@ pub struct Token {
     pub end: u32,
 }
 
-/// The token of one byte that is no letter.
+/// The token of one byte that is no letter and no digit.
 pub fn single(byte: u8) -> Option<TokenKind>
     ensures { result ≡ single byte }
 {

@@ -1,7 +1,8 @@
 //! The tokens of a program's text.
 //!
-//! Tokens are the longest at their places, and blanks and comments stand between them. A text is too long, has a
-//! byte that begins no token, or has a comment that nothing closes, or `tokens` gives its tokens.
+//! Tokens are the longest at their places, and blanks and comments stand between them. A comment
+//! that nothing closes holds all that follows. A text is too long, has a byte outside comments that
+//! begins no token, or has a comment that nothing closes, or `tokens` gives its tokens.
 #![tactic(auto)]
 
 mod fronts;
@@ -11,4 +12,4 @@ mod reading;
 mod tests;
 
 pub use kinds::{Token, TokenKind};
-pub use reading::tokens;
+pub use reading::{PROGRAM_LIMIT, tokens};

@@ -35,7 +35,7 @@ fn assert_tokens(rt: &impl Abort, alloc: Global, text: &[u8], wanted: &[(TokenKi
 }
 
 #[test]
-fn words_are_reserved_or_names(rt: HostRuntime) {
+fn words_are_reserved_or_names_and_digits_are_numbers(rt: HostRuntime) {
     let table = [
         (b"source".as_slice(), TokenKind::Source),
         (b"typedef", TokenKind::Typedef),
@@ -48,6 +48,8 @@ fn words_are_reserved_or_names(rt: HostRuntime) {
         (b"sources", TokenKind::Identifier),
         (b"Source", TokenKind::Identifier),
         (b"a9_", TokenKind::Identifier),
+        (b"9", TokenKind::Number),
+        (b"0123456789", TokenKind::Number),
     ];
     for (text, kind) in table {
         assert_tokens(&rt, rt.alloc(), text, &[(kind, 0, text.len() as u32)]);
@@ -90,18 +92,35 @@ fn blanks_and_comments_stand_between(rt: HostRuntime) {
 }
 
 #[test]
+fn words_and_numbers_are_as_long_as_they_can_be(rt: HostRuntime) {
+    let a = TokenKind::Identifier;
+    let number = TokenKind::Number;
+    assert_tokens(&rt, rt.alloc(), b"1a", &[(number, 0, 1), (a, 1, 2)]);
+    assert_tokens(&rt, rt.alloc(), b"a1", &[(a, 0, 2)]);
+    assert_tokens(
+        &rt,
+        rt.alloc(),
+        b"12_3 45",
+        &[(number, 0, 2), (a, 2, 4), (number, 5, 7)],
+    );
+}
+
+#[test]
 fn faults_stand_at_their_places(rt: HostRuntime) {
     let table = [
         (b"A = B $ C;".as_slice(), FaultKind::BadByte, 6),
         (b"-", FaultKind::BadByte, 0),
         (b"a >", FaultKind::BadByte, 2),
         (b"a /", FaultKind::BadByte, 2),
-        (b"9", FaultKind::BadByte, 0),
         (b"/*", FaultKind::UnclosedComment, 0),
         (b"a /* b /* c", FaultKind::UnclosedComment, 2),
-        (b"/*/", FaultKind::BadByte, 2),
-        (b"/* $", FaultKind::BadByte, 3),
+        (b"/*/", FaultKind::UnclosedComment, 0),
+        (b"/* $", FaultKind::UnclosedComment, 0),
+        (b"A = B; /* don't", FaultKind::UnclosedComment, 7),
+        (b"/* a */ /* b", FaultKind::UnclosedComment, 8),
+        (b"a /* // */ /*/ $", FaultKind::UnclosedComment, 11),
         (b"$ /*", FaultKind::BadByte, 0),
+        (b"a - /* $", FaultKind::BadByte, 2),
     ];
     for (text, kind, at) in table {
         assert_fault(&rt, rt.alloc(), text, kind, at);
@@ -109,25 +128,20 @@ fn faults_stand_at_their_places(rt: HostRuntime) {
 }
 
 #[test]
-fn long_texts_and_names_have_limits(rt: HostRuntime) -> Result<(), Fail> {
+fn texts_names_and_numbers_have_limits(rt: HostRuntime) -> Result<(), Fail> {
     let alloc = rt.alloc();
-    let name = vec![in alloc; b'a'; 65_537]?;
-    assert_fault(&rt, alloc, &name, FaultKind::BadByte, 0);
-    let longest = name.get(1..).ok_or("a name")?;
-    assert_tokens(&rt, alloc, longest, &[(TokenKind::Identifier, 0, 65_536)]);
+    for (byte, kind) in [(b'a', TokenKind::Identifier), (b'7', TokenKind::Number)] {
+        let word = vec![in alloc; byte; 65_537]?;
+        assert_fault(&rt, alloc, &word, FaultKind::BadByte, 0);
+        assert_tokens(
+            &rt,
+            alloc,
+            word.get(1..).ok_or("a word")?,
+            &[(kind, 0, 65_536)],
+        );
+    }
     let blanks = vec![in alloc; b' '; 1_048_577]?;
     assert_fault(&rt, alloc, &blanks, FaultKind::TooLong, 0);
     assert_tokens(&rt, alloc, blanks.get(1..).ok_or("blanks")?, &[]);
-    Ok(())
-}
-
-#[test]
-fn many_unclosed_comments_take_one_search(rt: HostRuntime) -> Result<(), Fail> {
-    let alloc = rt.alloc();
-    let mut text = Vec::new(alloc);
-    for _ in 0..349_525 {
-        text.extend_from_slice(b"/* ")?;
-    }
-    assert_fault(&rt, alloc, &text, FaultKind::UnclosedComment, 0);
     Ok(())
 }

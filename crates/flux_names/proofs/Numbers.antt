@@ -69,7 +69,7 @@ node_below names (Signature name ins outs) e = (tt, tt)
 node_below names (Flow name patterns members) e = (subst (AreBelow (length names)) (sym (append-nil (map (number_of names) members ++ []) ∙ append-nil (map (number_of names) members))) (all_below names members e), tt)
 node_below names (Source name target) e = tt
 node_below names (Typedef name function) e = tt
-node_below names (Handler node handler) e = tt
+node_below names (Handler node codes handler) e = tt
 node_below names (Atomic node constraints) e = tt
 node_below names (Session source function) e = tt
 
@@ -81,7 +81,7 @@ line_below names (Source name target) e = let both = all_below names (name ∷ t
 line_below names (Signature name ins outs) e = tt
 line_below names (Flow name patterns members) e = tt
 line_below names (Typedef name function) e = tt
-line_below names (Handler node handler) e = tt
+line_below names (Handler node codes handler) e = tt
 line_below names (Atomic node constraints) e = tt
 line_below names (Session source function) e = tt
 
@@ -114,7 +114,7 @@ count_names all names (Flow name patterns members ∷ decls) e =
     let more = count_names all (and_name names (Some name)) decls both.1 in let one = new_name names name both.0 in omega (arith, more, one)
 count_names all names (Source name target ∷ decls) e = count_names all names decls e
 count_names all names (Typedef name function ∷ decls) e = count_names all names decls e
-count_names all names (Handler node handler ∷ decls) e = count_names all names decls e
+count_names all names (Handler node codes handler ∷ decls) e = count_names all names decls e
 count_names all names (Atomic node constraints ∷ decls) e = count_names all names decls e
 count_names all names (Session source function ∷ decls) e = count_names all names decls e
 
@@ -126,7 +126,7 @@ few_lines names (Source name target ∷ decls) = let more = few_lines names decl
 few_lines names (Signature name ins outs ∷ decls) = let more = few_lines names decls in omega (arith, more)
 few_lines names (Flow name patterns members ∷ decls) = let more = few_lines names decls in omega (arith, more)
 few_lines names (Typedef name function ∷ decls) = let more = few_lines names decls in omega (arith, more)
-few_lines names (Handler node handler ∷ decls) = let more = few_lines names decls in omega (arith, more)
+few_lines names (Handler node codes handler ∷ decls) = let more = few_lines names decls in omega (arith, more)
 few_lines names (Atomic node constraints ∷ decls) = let more = few_lines names decls in omega (arith, more)
 few_lines names (Session source function ∷ decls) = let more = few_lines names decls in omega (arith, more)
 
@@ -147,7 +147,7 @@ node_few names most (Flow name patterns members) le =
     (omega (arith, le, one_each members, length_of names members, length-append (map (number_of names) members) []), tt)
 node_few names most (Source name target) le = tt
 node_few names most (Typedef name function) le = tt
-node_few names most (Handler node handler) le = tt
+node_few names most (Handler node codes handler) le = tt
 node_few names most (Atomic node constraints) le = tt
 node_few names most (Session source function) le = tt
 

@@ -11,7 +11,7 @@ unbuilt (Flow name None members) = None
 unbuilt (Flow name (Some patterns) members) = Some name
 unbuilt (Source name target) = None
 unbuilt (Typedef name function) = Some name
-unbuilt (Handler node handler) = Some node
+unbuilt (Handler node codes handler) = Some node
 unbuilt (Atomic node constraints) = Some node
 unbuilt (Session source function) = Some source
 

@@ -7,23 +7,24 @@ use Rattle.flux_values.specs.declared.answers.Mode.TheVariants.{Reader, Writer}
 use Rattle.flux_lexer.specs.declared.kinds.TokenKind.{TokenKind}
 use Rattle.flux_lexer.specs.declared.kinds.TokenKind.TheVariants.{Source, Typedef, Handle, Error, Atomic, Session, Wildcard, OpenParen, CloseParen, OpenBracket, CloseBracket, OpenBrace, CloseBrace, Comma, Semicolon, Colon, Equals, Star, Question, ThinArrow, Arrow}
 use Rattle.flux_lexer.specs.declared.fronts.Front.TheVariants as fronts
-use Rattle.flux_lexer.specs.Fronts.{front_of}
+use Rattle.flux_lexer.specs.steps.Fronts.{front_of}
 use Rattle.flux_syntax.specs.declared.declarations.Word.{Word}
 use Rattle.flux_syntax.specs.declared.declarations.Param.{Param}
 use Rattle.flux_syntax.specs.declared.declarations.Constraint.{Constraint}
 use Rattle.flux_syntax.specs.declared.declarations.Decl.{Decl}
 use Rattle.flux_syntax.specs.declared.declarations.Decl.TheVariants as decl
-use Rattle.flux_syntax.specs.Symbols.{Symbol, name, mark}
-use Rattle.flux_syntax.specs.Grammar.{More, Listed, Maybe, stars, IsParam, AreParams, IsPattern, ArePatterns, IsMember, scope, IsMark, IsHeld, IsConstraint, IsDeclaration, IsProgram}
-use Rattle.flux_syntax.specs.Standing.{IsName}
-use Rattle.flux_syntax.specs.Formatted.{joined, param_text, params_text, pattern_text, patterns_text, word_text, members_text, mode_text, scope_text, constraint_text, line_of, formatted}
+use Rattle.flux_syntax.specs.Symbols.{Symbol, name, digits, mark}
+use Rattle.flux_syntax.specs.Grammar.{More, Listed, Maybe, stars, IsParam, AreParams, IsPattern, ArePatterns, IsMember, IsCode, AreCodes, scope, IsMark, IsHeld, IsConstraint, IsDeclaration, IsProgram}
+use Rattle.flux_syntax.proofs.Spelled.{IsName, IsDigits}
+use Rattle.flux_syntax.specs.Formatted.{joined, param_text, params_text, pattern_text, patterns_text, word_text, codes_text, members_text, mode_text, scope_text, constraint_text, line_of, formatted}
 use Rattle.flux_syntax.specs.Again.{bare, bare_param, bare_constraint, bare_decl}
-use Rattle.flux_syntax.proofs.Printed.{Prints, prints_as, prints_end, prints_blank, prints_mark, prints_name, After, EndsWord}
+use Rattle.flux_syntax.proofs.Printed.{Prints, prints_as, prints_end, prints_blank, prints_mark, prints_name, prints_number, After, EndsWord}
 
 -- ---- names of symbols
 
 abbrev pub IsGood : Symbol → Type 0
 IsGood (name word) = IsName word.text
+IsGood (digits word) = IsDigits word.text
 IsGood (mark kind) = Unit {0}
 
 abbrev pub Good : List Symbol → Type 0
@@ -137,6 +138,12 @@ word_join R w s (at, r0, e0, r) = (record { text = w.text; at = at }, name (reco
 backs_member : Backs word_text bare IsMember
 backs_member = record { back = λ R w a rest is g ends k. prints_as (λ s h. word_join R w s h) (prints_name w.text (subst Good is g).0 ends k) }
 
+backs_code : Backs word_text bare IsCode
+backs_code = record {
+  back = λ R w a rest is g ends k.
+      prints_as (λ s (at, r0, e0, r). (record { text = w.text; at = at }, digits (record { text = w.text; at = at }) ∷ [], r0, e0, refl, refl, r)) (prints_number w.text (subst Good is g).0 ends k);
+}
+
 -- a wildcard that ends is one
 wild_front : (rest : List ℕ) → EndsWord rest → front_of (95 ∷ rest) ≡ fronts.Token Wildcard 1
 wild_front [] ends = refl
@@ -208,6 +215,23 @@ back_patterns R (Some patterns) a rest (b, is, ps) g p =
     (prints_mark Colon 1 (58 ∷ 91 ∷ (joined (codes ", ") pattern_text patterns ++ 93 ∷ rest)) refl refl (prints_mark OpenBracket 1 (91 ∷ (joined (codes ", ") pattern_text patterns ++ 93 ∷ rest)) refl refl
     (back_listed pattern_text (option_map bare) IsPattern Comma (codes ", ") backs_pattern comma _ patterns b (93 ∷ rest) ps good refl (prints_mark CloseBracket 1 (93 ∷ rest) refl refl p)))))
 
+abbrev FrontCodes : List Word → (List Symbol → Type 0) → List Symbol → Type 0
+FrontCodes numbers R s = Fronts bare AreCodes numbers R s
+
+back_codes : (R : List Symbol → Type 0) (numbers : List Word) (a : List Symbol) (rest : List ℕ) → AreCodes numbers a → Good a → Prints R rest → Prints (FrontCodes numbers R) (codes_text numbers ++ rest)
+back_codes R [] a rest none g p = prints_as (λ s r. ([], [], s, refl, refl, refl, r)) p
+back_codes R (number ∷ numbers) a rest (b, is, ps) g p =
+    let good = (good_split b (mark CloseParen ∷ []) (subst Good is g).1.1).0 in
+    let list = joined (codes ", ") word_text (number ∷ numbers) in
+    rw (append_assoc list (codes ")") rest)
+    (prints_as (λ s (at, r0, e0, (at1, r1, e1, (qs, c, r2, e2, same, ms, (at3, r3, e3, r)))). (qs, mark Colon ∷ mark OpenParen ∷ (c ++ mark CloseParen ∷ []), r3, rw (e0, e1, e2, e3) (ap (λ (l : List Symbol). mark Colon ∷ mark OpenParen ∷ l) (sym (append_assoc c (mark CloseParen ∷ []) r3))), same, some qs c ms, r))
+    (prints_mark Colon 1 (58 ∷ 40 ∷ (list ++ 41 ∷ rest)) refl refl (prints_mark OpenParen 1 (40 ∷ (list ++ 41 ∷ rest)) refl refl
+    (back_listed word_text bare IsCode Comma (codes ", ") backs_code comma _ (number ∷ numbers) b (41 ∷ rest) ps good refl (prints_mark CloseParen 1 (41 ∷ rest) refl refl p)))))
+  where
+    some : (qs : List Word) (c : List Symbol) → Listed IsCode Comma qs c → AreCodes qs (mark Colon ∷ mark OpenParen ∷ (c ++ mark CloseParen ∷ []))
+    some [] c none = absurd none
+    some (q ∷ qs) c listed = (c, refl, listed)
+
 prints_stop : (R : List Symbol → Type 0) (rest : List ℕ) → Prints R rest → Prints (After (λ _. mark Semicolon) R) (codes ";\n" ++ rest)
 prints_stop R rest p = prints_mark Semicolon 1 (59 ∷ 10 ∷ rest) refl refl (prints_blank 10 refl p)
 
@@ -233,13 +257,29 @@ back_typedef called function R a rest is g p = let good = subst Good is g in
     (prints_mark Typedef 7 (codes "typedef " ++ (called.text ++ (codes " " ++ (function.text ++ (codes ";\n" ++ rest))))) refl refl (prints_blank 32 refl
     (prints_name called.text good.1.0 refl (prints_blank 32 refl (prints_name function.text good.1.1.0 refl (prints_stop R rest p)))))))
 
-back_handler : (node handler : Word) → BackLine (decl.Handler node handler)
-back_handler node handler R a rest is g p = let good = subst Good is g in
-    rw (append_assoc node.text (codes " => " ++ (handler.text ++ codes ";\n")) rest, append_assoc handler.text (codes ";\n") rest)
-    (prints_as (λ s (at, r0, e0, (at5, r5, e5, (at1, r1, e1, (at2, r2, e2, (at3, r3, e3, (at4, r4, e4, r)))))). (decl.Handler (word_at node at1) (word_at handler at3), mark Handle ∷ mark Error ∷ name (word_at node at1) ∷ mark Arrow ∷ name (word_at handler at3) ∷ mark Semicolon ∷ [], r4, rw (e0, e5, e1, e2, e3, e4) refl, refl, refl, r))
-    (prints_mark Handle 6 (codes "handle error " ++ (node.text ++ (codes " => " ++ (handler.text ++ (codes ";\n" ++ rest))))) refl refl (prints_blank 32 refl
-    (prints_mark Error 5 (codes "error " ++ (node.text ++ (codes " => " ++ (handler.text ++ (codes ";\n" ++ rest))))) refl refl (prints_blank 32 refl
-    (prints_name node.text good.1.1.0 refl (prints_arrow _ (handler.text ++ (codes ";\n" ++ rest)) (prints_name handler.text good.1.1.1.1.0 refl (prints_stop R rest p)))))))))
+ends_codes : (numbers : List Word) (rest : List ℕ) → EndsWord (codes_text numbers ++ 32 ∷ rest)
+ends_codes [] rest = refl
+ends_codes (number ∷ numbers) rest = refl
+
+back_handler : (node : Word) (numbers : List Word) (handler : Word) → BackLine (decl.Handler node numbers handler)
+back_handler node numbers handler R a rest (b, is, cs) g p =
+    let good = subst Good is g in
+    let first = good_split b (mark Arrow ∷ name handler ∷ mark Semicolon ∷ []) good.1.1.1 in
+    let after = codes " => " ++ (handler.text ++ (codes ";\n" ++ rest)) in
+    rw (append_assoc node.text (codes_text numbers ++ (codes " => " ++ (handler.text ++ codes ";\n"))) rest, append_assoc (codes_text numbers) (codes " => " ++ (handler.text ++ codes ";\n")) rest, append_assoc handler.text (codes ";\n") rest)
+    (prints_as (λ s (at, r0, e0, (at5, r5, e5, (at1, r1, e1, (qs, d, r6, e6, same, ms, (at2, r2, e2, (at3, r3, e3, (at4, r4, e4, r))))))). (
+      decl.Handler (word_at node at1) qs (word_at handler at3),
+      mark Handle ∷ mark Error ∷ name (word_at node at1) ∷ (d ++ mark Arrow ∷ name (word_at handler at3) ∷ mark Semicolon ∷ []),
+      r4,
+      rw (e0, e5, e1, e6, e2, e3, e4) (ap (λ (l : List Symbol). mark Handle ∷ mark Error ∷ name (word_at node at1) ∷ l) (sym (append_assoc d (mark Arrow ∷ name (word_at handler at3) ∷ mark Semicolon ∷ []) r4))),
+      ap (λ (l : List Word). decl.Handler (bare node) l (bare handler)) same,
+      (d, refl, ms),
+      r,
+    ))
+    (prints_mark Handle 6 (codes "handle error " ++ (node.text ++ (codes_text numbers ++ after))) refl refl (prints_blank 32 refl
+    (prints_mark Error 5 (codes "error " ++ (node.text ++ (codes_text numbers ++ after))) refl refl (prints_blank 32 refl
+    (prints_name node.text good.1.1.0 (ends_codes numbers (codes "=> " ++ (handler.text ++ (codes ";\n" ++ rest)))) (back_codes _ numbers b after cs first.0
+    (prints_arrow _ (handler.text ++ (codes ";\n" ++ rest)) (prints_name handler.text first.1.1.0 refl (prints_stop R rest p))))))))))
 
 back_session : (source function : Word) → BackLine (decl.Session source function)
 back_session source function R a rest is g p = let good = subst Good is g in
@@ -314,7 +354,7 @@ back_line (decl.Signature called ins outs) = back_signature called ins outs
 back_line (decl.Flow called patterns members) = back_flow called patterns members
 back_line (decl.Source called target) = back_source called target
 back_line (decl.Typedef called function) = back_typedef called function
-back_line (decl.Handler node handler) = back_handler node handler
+back_line (decl.Handler node numbers handler) = back_handler node numbers handler
 back_line (decl.Atomic node constraints) = back_atomic node constraints
 back_line (decl.Session source function) = back_session source function
 

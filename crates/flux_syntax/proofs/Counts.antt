@@ -8,7 +8,7 @@ use Rattle.flux_syntax.specs.declared.declarations.Constraint.{Constraint}
 use Rattle.flux_syntax.specs.declared.declarations.Decl.{Decl}
 use Rattle.flux_syntax.specs.declared.declarations.Decl.TheVariants.{Signature, Flow, Source, Typedef, Handler, Atomic, Session}
 use Rattle.flux_syntax.specs.Symbols.{Symbol, name, mark}
-use Rattle.flux_syntax.specs.Grammar.{More, Listed, Maybe, stars, IsParam, AreParams, IsPattern, ArePatterns, IsMember, IsHeld, IsConstraint, IsDeclaration, IsProgram}
+use Rattle.flux_syntax.specs.Grammar.{More, Listed, Maybe, stars, IsParam, AreParams, IsPattern, ArePatterns, IsMember, IsCode, AreCodes, IsHeld, IsConstraint, IsDeclaration, IsProgram}
 use Rattle.flux_syntax.specs.Counted.{total, words_in_pattern, words_in_patterns, words_in, words_of}
 
 -- ---- lists
@@ -37,6 +37,13 @@ pattern_few (Some word) s is = omega (arith, ap length is)
 member_few : (w : Word) (s : List Symbol) → IsMember w s → 1 ≤ length s
 member_few w s is = omega (arith, ap length is)
 
+code_few : (w : Word) (s : List Symbol) → IsCode w s → 1 ≤ length s
+code_few w s is = omega (arith, ap length is)
+
+codes_few : (codes : List Word) (s : List Symbol) → AreCodes codes s → total (λ _. 1) codes ≤ length s
+codes_few [] s is = omega arith
+codes_few (code ∷ codes) s (a, is, listed) = let few = listed_few IsCode (λ _. 1) _ code_few (code ∷ codes) a listed in omega (arith, few, ap length is, length-append a (mark CloseParen ∷ []))
+
 held_few : (called : Word) (session : Bool) (m s : List Symbol) → IsHeld called session m s → 1 ≤ length s
 held_few called false m s is = omega (arith, ap length is)
 held_few called true m s (inl is) = omega (arith, ap length is)
@@ -61,7 +68,8 @@ decl_few (Flow called patterns members) s (a, b, is, p, m) =
     omega (arith, patterns_few patterns a p, maybe_few IsMember (λ _. 1) _ member_few members b m, ap length is, length-append a (mark Equals ∷ (b ++ mark Semicolon ∷ [])), length-append b (mark Semicolon ∷ []))
 decl_few (Source called target) s is = omega (arith, ap length is)
 decl_few (Typedef called function) s is = omega (arith, ap length is)
-decl_few (Handler node handler) s is = omega (arith, ap length is)
+decl_few (Handler node codes handler) s (a, is, listed) =
+    omega (arith, codes_few codes a listed, ap length is, length-append a (mark Arrow ∷ name handler ∷ mark Semicolon ∷ []))
 decl_few (Atomic node constraints) s (a, is, listed) =
     omega (arith, listed_few IsConstraint (λ _. 1) _ constraint_few constraints a listed, ap length is, length-append a (mark CloseBrace ∷ mark Semicolon ∷ []))
 decl_few (Session source function) s is = omega (arith, ap length is)
@@ -77,7 +85,7 @@ decl_some (Signature called ins outs) = omega arith
 decl_some (Flow called patterns members) = omega arith
 decl_some (Source called target) = omega arith
 decl_some (Typedef called function) = omega arith
-decl_some (Handler node handler) = omega arith
+decl_some (Handler node codes handler) = omega arith
 decl_some (Atomic node constraints) = omega arith
 decl_some (Session source function) = omega arith
 

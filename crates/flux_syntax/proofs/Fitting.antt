@@ -4,9 +4,9 @@ use Rattle.std.proofs.lemmas.List.{drop-drop, length-drop}
 use Rattle.std.specs.List.{AllByRecursion}
 use Rattle.flux_lexer.specs.declared.kinds.Token.{Token}
 use Rattle.flux_lexer.specs.declared.kinds.TokenKind.{TokenKind}
-use Rattle.flux_lexer.specs.Pieces.{Piece, blank, remark, comment, opener, token, IsToken}
+use Rattle.flux_lexer.specs.Pieces.{Piece, blank, remark, comment, token, IsToken}
 use Rattle.flux_lexer.specs.Texts.{Part, Laid, tokens_of, AreTokensOf}
-use Rattle.flux_syntax.specs.Symbols.{Lies, Fit}
+use Rattle.flux_syntax.specs.steps.Cursors.{Lies, Fit}
 
 some_bytes : (kind : TokenKind) (n : ℕ) (text : List ℕ) → IsToken kind n text → 0 < n
 some_bytes kind zero text t = let h : ◌≡◌ {A = Option TokenKind} None (Some kind) = t.spelled in absurd cc
@@ -21,12 +21,11 @@ fits_part : (text : List ℕ) (at : ℕ) (piece : Piece) (n : ℕ) (parts : List
 fits_part text at blank n parts laid more = record { lie = more.lie; few = omega (arith, more.few) }
 fits_part text at remark n parts laid more = record { lie = more.lie; few = omega (arith, more.few) }
 fits_part text at comment n parts laid more = record { lie = more.lie; few = omega (arith, more.few) }
-fits_part text at opener n parts laid more = record { lie = more.lie; few = omega (arith, more.few) }
 fits_part text at (token kind) n parts laid more =
     let some = some_bytes kind n (drop at text) laid.0 in
     let within : n ≤ length text - at = omega (arith, laid.0.within, length-drop at text) in
     record {
-      lie = (record { rising = omega arith; within = omega (arith, some, within); short = λ _. omega (arith, laid.0.short) }, more.lie);
+      lie = (record { rising = omega arith; within = omega (arith, some, within); short = omega (arith, laid.0.short) }, more.lie);
       few = omega (arith, more.few, some, within);
     }
 

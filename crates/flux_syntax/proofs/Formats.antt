@@ -4,16 +4,17 @@ use Rattle.std.specs.List.{flat_map}
 use Rattle.std.specs.Option.{option_map}
 use Rattle.std.proofs.lemmas.List.{drop-drop}
 use Rattle.flux_lexer.specs.declared.kinds.Token.{Token}
+use Rattle.flux_lexer.specs.declared.reading.TheConstants.{PROGRAM_LIMIT}
 use Rattle.flux_lexer.specs.declared.kinds.TokenKind.{TokenKind}
-use Rattle.flux_lexer.specs.declared.kinds.TokenKind.TheVariants.{Identifier}
-use Rattle.flux_lexer.specs.Pieces.{Piece, blank, remark, comment, opener, token, IsToken}
+use Rattle.flux_lexer.specs.declared.kinds.TokenKind.TheVariants.{Identifier, Number}
+use Rattle.flux_lexer.specs.Pieces.{Piece, blank, remark, comment, token, IsToken}
 use Rattle.flux_lexer.specs.Texts.{Part, Laid, tokens_of, token_of}
 use Rattle.flux_syntax.specs.declared.declarations.Word.{Word}
 use Rattle.flux_syntax.specs.declared.declarations.Decl.{Decl}
 use Rattle.flux_syntax.specs.declared.declarations.Decl.TheVariants as decl
 use Rattle.flux_syntax.specs.Symbols.{Symbol, is, symbol_of}
 use Rattle.flux_syntax.specs.Grammar.{IsProgram}
-use Rattle.flux_syntax.specs.Formatted.{joined, param_text, pattern_text, patterns_text, word_text, constraint_text, line_of, formatted}
+use Rattle.flux_syntax.specs.Formatted.{joined, param_text, pattern_text, patterns_text, word_text, codes_text, constraint_text, line_of, formatted}
 use Rattle.flux_syntax.specs.Again.{bare, bare_param, bare_constraint, bare_decl, AreOfText, Gives}
 use Rattle.flux_syntax.proofs.Told.{same_kind}
 use Rattle.flux_syntax.proofs.Printed.{seen, seen_at}
@@ -25,18 +26,18 @@ same_length : (at n : ℕ) → (at + n) - at ≡ n
 same_length at n = omega arith
 
 good_token : (text : List ℕ) (at n : ℕ) (kind : TokenKind) → IsToken kind n (drop at text) → IsGood (symbol_of text (record { kind = kind; start = at; end = at + n }))
-good_token text at n kind t = one (is Identifier kind) refl
+good_token text at n kind t = one (is Identifier kind) refl (is Number kind) refl
   where
-    one : (b : Bool) → is Identifier kind ≡ b → IsGood (symbol_of text (record { kind = kind; start = at; end = at + n }))
-    one true e = let own = same_kind Identifier kind e in rw (e, same_length at n) (record { kind = t.spelled ∙ ap Some (sym own); short = omega (arith, t.short, length-take n (drop at text)) })
-    one false e = rw e tt
+    one : (b : Bool) → is Identifier kind ≡ b → (c : Bool) → is Number kind ≡ c → IsGood (symbol_of text (record { kind = kind; start = at; end = at + n }))
+    one true e c f = let own = same_kind Identifier kind e in rw (e, same_length at n) (record { kind = t.spelled ∙ ap Some (sym own); short = omega (arith, t.short, length-take n (drop at text)) })
+    one false e true f = let own = same_kind Number kind f in rw (e, f, same_length at n) (record { kind = t.spelled ∙ ap Some (sym own); short = omega (arith, t.short, length-take n (drop at text)) })
+    one false e false f = rw (e, f) tt
 
 good_part : (text : List ℕ) (at : ℕ) (piece : Piece) (n : ℕ) (parts : List Part) → Laid (record { piece = piece; length = n } ∷ parts) [] (drop at text) → Good (map (symbol_of text) (tokens_of (at + n) parts))
     → Good (map (symbol_of text) (tokens_of at (record { piece = piece; length = n } ∷ parts)))
 good_part text at blank n parts laid more = more
 good_part text at remark n parts laid more = more
 good_part text at comment n parts laid more = more
-good_part text at opener n parts laid more = more
 good_part text at (token kind) n parts laid more = (good_token text at n kind laid.0, more)
 
 pub good_parts : (text : List ℕ) (at : ℕ) (parts : List Part) → Laid parts [] (drop at text) → Good (map (symbol_of text) (tokens_of at parts))
@@ -50,7 +51,6 @@ seen_token : (text : List ℕ) (at n : ℕ) (piece : Piece) → map (symbol_of t
 seen_token text at n blank = refl
 seen_token text at n remark = refl
 seen_token text at n comment = refl
-seen_token text at n opener = refl
 seen_token text at n (token kind) = rw (same_length at n) refl
 
 map_append : (f : Token → Symbol) (a b : List Token) → map f (a ++ b) ≡ map f a ++ map f b
@@ -78,6 +78,10 @@ pattern_bare : (p : Option Word) → pattern_text (option_map bare p) ≡ patter
 pattern_bare None = refl
 pattern_bare (Some word) = refl
 
+codes_bare : (numbers : List Word) → codes_text (map bare numbers) ≡ codes_text numbers
+codes_bare [] = refl
+codes_bare (number ∷ numbers) = ap (λ (l : List ℕ). codes ":(" ++ (l ++ codes ")")) (joined_bare (codes ", ") word_text bare (λ w. refl) (number ∷ numbers))
+
 patterns_bare : (patterns : Option (List (Option Word))) → patterns_text (option_map (map (option_map bare)) patterns) ≡ patterns_text patterns
 patterns_bare None = refl
 patterns_bare (Some patterns) = rw (joined_bare (codes ", ") pattern_text (option_map bare) pattern_bare patterns) refl
@@ -87,7 +91,7 @@ line_bare (decl.Signature called ins outs) = rw (joined_bare (codes ", ") param_
 line_bare (decl.Flow called patterns members) = rw (patterns_bare patterns, joined_bare (codes " -> ") word_text bare (λ w. refl) members) refl
 line_bare (decl.Source called target) = refl
 line_bare (decl.Typedef called function) = refl
-line_bare (decl.Handler node handler) = refl
+line_bare (decl.Handler node numbers handler) = rw (codes_bare numbers) refl
 line_bare (decl.Atomic node constraints) = rw (joined_bare (codes ", ") constraint_text bare_constraint (λ c. refl) constraints) refl
 line_bare (decl.Session source function) = refl
 
@@ -100,7 +104,7 @@ same_text decls others alike = sym (formatted_bare others) ∙ ap formatted alik
 
 -- ---- the formatted text
 
-pub gives : (decls : List Decl) → AreOfText decls → length (formatted decls) ≤ 1048576 → Gives decls (formatted decls)
+pub gives : (decls : List Decl) → AreOfText decls → length (formatted decls) ≤ PROGRAM_LIMIT → Gives decls (formatted decls)
 gives decls of few =
     let good = subst (λ (l : List Token). Good (map (symbol_of of.text) l)) (sym of.declared.are.are) (good_parts of.text 0 of.declared.are.parts of.declared.are.laid) in
     let (s, (others, alike, program), lexes) = back_all decls (map (symbol_of of.text) of.declared.tokens) of.declared.spelled good 0 in
@@ -108,7 +112,7 @@ gives decls of few =
       others = others;
       declared = record {
         tokens = tokens_of 0 lexes.parts;
-        are = record { few = few; parts = lexes.parts; laid = lexes.laid; closed = lexes.closed; are = refl };
+        are = record { few = few; parts = lexes.parts; laid = lexes.laid; are = refl };
         spelled = subst (IsProgram others) (sym (seen_all (formatted decls) 0 lexes.parts ∙ lexes.seen)) program;
       };
       alike = alike;

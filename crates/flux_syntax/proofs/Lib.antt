@@ -8,6 +8,7 @@ pub mod Fitting
 pub mod Refused
 pub mod Counts
 pub mod Texts
+pub mod Spelled
 pub mod Printed
 pub mod Backs
 pub mod Formats

@@ -3,15 +3,15 @@ use Rattle.std.proofs.Common.{◌≡◌, Bool, true, false, if◌then◌else◌,
 use Rattle.std.proofs.lemmas.List.{append-nil}
 use Rattle.flux_values.specs.declared.answers.Mode.{Mode}
 use Rattle.flux_values.specs.declared.answers.Mode.TheVariants.{Reader, Writer}
-use Rattle.flux_lexer.specs.declared.kinds.TokenKind.TheVariants.{Identifier, Source, Typedef, Handle, Error, Atomic, Session, Wildcard, OpenParen, CloseParen, OpenBracket, CloseBracket, OpenBrace, CloseBrace, Comma, Semicolon, Colon, Equals, Star, Question, Bang, ThinArrow, Arrow}
+use Rattle.flux_lexer.specs.declared.kinds.TokenKind.TheVariants.{Identifier, Number, Source, Typedef, Handle, Error, Atomic, Session, Wildcard, OpenParen, CloseParen, OpenBracket, CloseBracket, OpenBrace, CloseBrace, Comma, Semicolon, Colon, Equals, Star, Question, Bang, ThinArrow, Arrow}
 use Rattle.flux_syntax.specs.declared.declarations.Word.{Word}
 use Rattle.flux_syntax.specs.declared.declarations.Constraint.{Constraint}
 use Rattle.flux_syntax.specs.declared.declarations.Decl.{Decl}
 use Rattle.flux_syntax.specs.declared.declarations.Decl.TheVariants as decl
-use Rattle.flux_syntax.specs.Symbols.{Symbol, name, mark}
-use Rattle.flux_syntax.specs.Grammar.{IsParam, AreParams, IsPattern, ArePatterns, AreMembers, scope, IsConstraint, IsDeclaration}
-use Rattle.flux_syntax.specs.Reading.{Read, stuck, begins, param_at, pattern_at, mode_at, scope_at, or_writer, mark_after, held_at, constraint_at, params_at, cases_at, members_at, signature_at, flow_at, named_at, source_at, typedef_at, handler_at, atomic_at, session_at, declaration_at}
-use Rattle.flux_syntax.proofs.Told.{Tells, tell_done, tell_mark, tell_name, tell_then, tell_if, tell_as, tell_same, tell_stuck}
+use Rattle.flux_syntax.specs.Symbols.{Symbol, name, digits, mark}
+use Rattle.flux_syntax.specs.Grammar.{Listed, IsCode, IsParam, AreParams, IsPattern, ArePatterns, AreMembers, AreCodes, scope, IsConstraint, IsDeclaration}
+use Rattle.flux_syntax.specs.steps.Reading.{Read, stuck, begins, param_at, pattern_at, mode_at, scope_at, or_writer, mark_after, held_at, constraint_at, params_at, cases_at, members_at, signature_at, flow_at, named_at, source_at, typedef_at, codes_at, handler_at, atomic_at, session_at, declaration_at}
+use Rattle.flux_syntax.proofs.Told.{Tells, tell_done, tell_mark, tell_name, tell_number, tell_then, tell_if, tell_as, tell_same, tell_stuck}
 use Rattle.flux_syntax.proofs.Separated.{tell_listed, tell_maybe, tell_stars}
 
 -- ---- what lists are made of
@@ -117,9 +117,19 @@ tell_typedef : Tells typedef_at IsDeclaration
 tell_typedef = tell_as (tell_then (tell_mark Typedef refl) λ _. tell_then tell_name λ called. tell_then tell_name λ function. tell_then (tell_mark Semicolon refl) λ _. tell_done (decl.Typedef called function))
     (λ d used (u, a, b, is, m, (w, a1, b1, is1, m1, (u2, a2, b2, is2, m2, (u3, a3, b3, is3, m3, (e, none))))). rw (e, is, m, is1, m1, is2, m2, is3, m3, none) refl)
 
+tell_codes : Tells codes_at AreCodes
+tell_codes = tell_if Colon
+    (tell_as (tell_then (tell_mark Colon refl) λ _. tell_then (tell_mark OpenParen refl) λ _. tell_then (tell_listed refl tell_number) λ codes. tell_then (tell_mark CloseParen refl) λ _. tell_done codes)
+    (λ cs used (u, a, b, is, m, (u1, a1, b1, is1, m1, (codes, a2, b2, is2, m2, (u3, a3, b3, is3, m3, (e, none))))). rw e (some codes a2 used m2 (rw (is, m, is1, m1, is2, is3, m3, none) refl))))
+    (tell_as (tell_done []) (λ cs used (e, none). rw (e, none) refl))
+  where
+    some : (codes : List Word) (a used : List Symbol) → Listed IsCode Comma codes a → used ≡ mark Colon ∷ mark OpenParen ∷ (a ++ mark CloseParen ∷ []) → AreCodes codes used
+    some [] a used none is = absurd none
+    some (code ∷ codes) a used listed is = (a, is, listed)
+
 tell_handler : Tells handler_at IsDeclaration
-tell_handler = tell_as (tell_then (tell_mark Handle refl) λ _. tell_then (tell_mark Error refl) λ _. tell_then tell_name λ node. tell_then (tell_mark Arrow refl) λ _. tell_then tell_name λ handler. tell_then (tell_mark Semicolon refl) λ _. tell_done (decl.Handler node handler))
-    (λ d used (u, a, b, is, m, (w, a1, b1, is1, m1, (u2, a2, b2, is2, m2, (w3, a3, b3, is3, m3, (u4, a4, b4, is4, m4, (u5, a5, b5, is5, m5, (e, none))))))). rw (e, is, m, is1, m1, is2, m2, is3, m3, is4, m4, is5, m5, none) refl)
+tell_handler = tell_as (tell_then (tell_mark Handle refl) λ _. tell_then (tell_mark Error refl) λ _. tell_then tell_name λ node. tell_then tell_codes λ codes. tell_then (tell_mark Arrow refl) λ _. tell_then tell_name λ handler. tell_then (tell_mark Semicolon refl) λ _. tell_done (decl.Handler node codes handler))
+    (λ d used (u, a, b, is, m, (w, a1, b1, is1, m1, (u2, a2, b2, is2, m2, (codes, a6, b6, is6, m6, (w3, a3, b3, is3, m3, (u4, a4, b4, is4, m4, (u5, a5, b5, is5, m5, (e, none)))))))). rw e (a6, rw (is, m, is1, m1, is2, m2, is6, is3, m3, is4, m4, is5, m5, none) refl, m6))
 
 tell_atomic : Tells atomic_at IsDeclaration
 tell_atomic = tell_as (tell_then (tell_mark Atomic refl) λ _. tell_then tell_name λ node. tell_then (tell_mark Colon refl) λ _. tell_then (tell_mark OpenBrace refl) λ _. tell_then (tell_listed refl tell_constraint) λ constraints. tell_then (tell_mark CloseBrace refl) λ _. tell_then (tell_mark Semicolon refl) λ _. tell_done (decl.Atomic node constraints))
@@ -143,7 +153,9 @@ chosen s =
 is_chosen : (s : List Symbol) → declaration_at s ≡ chosen s
 is_chosen [] = refl
 is_chosen (name word ∷ rest) = refl
+is_chosen (digits word ∷ rest) = refl
 is_chosen (mark Identifier ∷ rest) = refl
+is_chosen (mark Number ∷ rest) = refl
 is_chosen (mark Source ∷ rest) = refl
 is_chosen (mark Typedef ∷ rest) = refl
 is_chosen (mark Handle ∷ rest) = refl

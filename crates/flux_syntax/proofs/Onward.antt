@@ -1,9 +1,10 @@
 -- Lists are read one thing after the other.
 use Rattle.std.proofs.Common.{◌≡◌, ◌≤◌, ◌<◌, ◌+◌, ◌-◌, ℕ, List, length}
 use Rattle.flux_lexer.specs.declared.kinds.TokenKind.{TokenKind}
+use Rattle.flux_lexer.specs.declared.reading.TheConstants.{PROGRAM_LIMIT}
 use Rattle.flux_syntax.specs.declared.declarations.Decl.{Decl}
 use Rattle.flux_syntax.specs.Symbols.{Symbol}
-use Rattle.flux_syntax.specs.Reading.{Read, got, ◌>>=◌, more_at, listed_at, stars_at, all_at, program_at}
+use Rattle.flux_syntax.specs.steps.Reading.{Read, got, ◌>>=◌, more_at, listed_at, stars_at, all_at, program_at}
 
 -- with these items and symbols left, what is read is what was to be read
 pub record Onward {A : Type 0} (read : List Symbol → Read A) (between : TokenKind) (start : List Symbol) (items : List A) (left : List Symbol) : Type 0 where
@@ -23,4 +24,4 @@ pub record Further (start : List Symbol) (decls : List Decl) (left : List Symbol
 pub record Stars (start : List Symbol) (stars : ℕ) (left : List Symbol) : Type 0 where
   pub same : stars_at start ≡ (stars_at left >>= λ more rest. got (stars + more) rest)
   pub shorter : length left ≤ length start
-  pub room : stars ≤ 1048576 - length left
+  pub room : stars ≤ PROGRAM_LIMIT - length left

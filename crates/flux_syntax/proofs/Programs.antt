@@ -4,7 +4,7 @@ use Rattle.std.proofs.lemmas.List.{append-nil}
 use Rattle.flux_syntax.specs.declared.declarations.Decl.{Decl}
 use Rattle.flux_syntax.specs.Symbols.{Symbol}
 use Rattle.flux_syntax.specs.Grammar.{IsDeclaration, IsProgram}
-use Rattle.flux_syntax.specs.Reading.{Read, got, stuck, ◌>>=◌, declaration_at, all_at, program_at}
+use Rattle.flux_syntax.specs.steps.Reading.{Read, got, stuck, ◌>>=◌, declaration_at, all_at, program_at}
 use Rattle.flux_syntax.proofs.Told.{head, none_same, Told_of, Told, told_as, told_weaken, Both, seq}
 use Rattle.flux_syntax.proofs.Lines.{tell_declaration}
 use Rattle.flux_syntax.proofs.Whole.{declaration_whole, some_symbol}

@@ -7,7 +7,7 @@ use Rattle.flux_syntax.specs.Symbols.{Symbol, symbol_of}
 use Rattle.flux_syntax.specs.Grammar.{IsProgram}
 use Rattle.flux_syntax.specs.Declares.{Spell}
 use Rattle.flux_syntax.specs.Unexpected.{CanBegin, StopsAt, IsUnexpected}
-use Rattle.flux_syntax.specs.Reading.{Read, got, stuck, program_at, place_at}
+use Rattle.flux_syntax.specs.steps.Reading.{Read, got, stuck, program_at, place_at}
 use Rattle.flux_syntax.proofs.Told.{Told_of}
 use Rattle.flux_syntax.proofs.Programs.{told_program, program_whole, at_end}
 

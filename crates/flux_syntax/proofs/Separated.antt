@@ -3,9 +3,9 @@ use Rattle.std.proofs.Common.{◌≡◌, ◌≤◌, ℕ, zero, suc, Bool, true, 
 use Rattle.std.proofs.lemmas.List.{append-nil}
 use Rattle.flux_lexer.specs.declared.kinds.TokenKind.{TokenKind}
 use Rattle.flux_lexer.specs.declared.kinds.TokenKind.TheVariants.{Identifier, Star}
-use Rattle.flux_syntax.specs.Symbols.{Symbol, mark, is}
+use Rattle.flux_syntax.specs.Symbols.{Symbol, mark, has_word}
 use Rattle.flux_syntax.specs.Grammar.{More, Listed, Maybe, stars}
-use Rattle.flux_syntax.specs.Reading.{Read, got, stuck, ◌>>=◌, of_kind, onto, more_at, listed_at, maybe_at, stars_at}
+use Rattle.flux_syntax.specs.steps.Reading.{Read, got, stuck, ◌>>=◌, of_kind, onto, more_at, listed_at, maybe_at, stars_at}
 use Rattle.flux_syntax.proofs.Told.{head, some_same, none_same, Told_of, Told, told_as, told_weaken, told_done, is_mark, Both, seq, told_if, told_behind, Tells}
 
 -- ---- one thing more
@@ -65,10 +65,10 @@ IsMore {A} P between items xs used = (new : List A) × (xs ≡ items ++ new) × 
 no_more : {A : Type 0} (read : List Symbol → Read A) (P : A → List Symbol → Type 0) (between : TokenKind) (items : List A) → Told (more read between items) (IsMore P between items) []
 no_more read P between items = ([], refl, ([], sym (append-nil items), refl), λ other same. let none = none_same other same in rw none refl)
 
-told_more : {A : Type 0} (read : List Symbol → Read A) (P : A → List Symbol → Type 0) (between : TokenKind) → is Identifier between ≡ false → Tells read P → (n : ℕ) (items : List A) (ts : List Symbol) → length ts ≤ n → Told (more read between items) (IsMore P between items) ts
-told_more read P between not_name tells n items [] le = no_more read P between items
-told_more read P between not_name tells zero items (t ∷ rest) le = absurd (omega (arith, le))
-told_more {A} read P between not_name tells (suc n) items (t ∷ rest) le = step (of_kind between t) refl (told_more read P between not_name tells n)
+told_more : {A : Type 0} (read : List Symbol → Read A) (P : A → List Symbol → Type 0) (between : TokenKind) → has_word between ≡ false → Tells read P → (n : ℕ) (items : List A) (ts : List Symbol) → length ts ≤ n → Told (more read between items) (IsMore P between items) ts
+told_more read P between no_word tells n items [] le = no_more read P between items
+told_more read P between no_word tells zero items (t ∷ rest) le = absurd (omega (arith, le))
+told_more {A} read P between no_word tells (suc n) items (t ∷ rest) le = step (of_kind between t) refl (told_more read P between no_word tells n)
   where
     stays : (s : List Symbol) → head (t ∷ rest) ≡ head s → of_kind between t ≡ false → more read between items s ≡ got items s
     stays [] same e = refl
@@ -83,42 +83,42 @@ told_more {A} read P between not_name tells (suc n) items (t ∷ rest) le = step
         seq (onto read items) (λ xs left. more read between xs left) (IsOnto P items) (λ ys xs b. IsMore P between ys xs b) rest (told_onto read P items rest (tells.told rest))
         (λ ys used left is p. next ys left (left_shorter rest used left n is (omega (arith, le)))) (λ ys. (ys, [], ([], sym (append-nil ys), refl))) in
         let behind = told_behind (more read between items) (after read between items) (Both (IsOnto P items) (λ ys xs b. IsMore P between ys xs b)) t rest (after read between items rest) (λ s. more_after read P between tells items t s e) inner in
-        let own = is_mark between t not_name e in
+        let own = is_mark between t no_word e in
         subst (Told_of (more read between items) (IsMore P between items) (t ∷ rest)) (sym (more_after read P between tells items t rest e))
         (told_weaken (more read between items) (λ xs used. (u : List Symbol) × (used ≡ t ∷ u) × Both (IsOnto P items) (λ ys xs b. IsMore P between ys xs b) xs u) (IsMore P between items) (t ∷ rest) (after read between items rest) (λ xs used h. longer xs used h own) behind)
     step false e next = told_as (more read between items) (λ s. got items s) (IsMore P between items) (t ∷ rest) (λ s same. stays s same e) (told_done items (IsMore P between items) (t ∷ rest) ([], sym (append-nil items), refl))
 
 -- ---- whole lists
 
-pub told_listed : {A : Type 0} (read : List Symbol → Read A) (P : A → List Symbol → Type 0) (between : TokenKind) → is Identifier between ≡ false → Tells read P → (ts : List Symbol) → Told (listed_at read between) (Listed P between) ts
-told_listed {A} read P between not_name tells ts =
+pub told_listed : {A : Type 0} (read : List Symbol → Read A) (P : A → List Symbol → Type 0) (between : TokenKind) → has_word between ≡ false → Tells read P → (ts : List Symbol) → Told (listed_at read between) (Listed P between) ts
+told_listed {A} read P between no_word tells ts =
     told_weaken (listed_at read between) (Both (IsOnto P []) (λ ys xs b. IsMore P between ys xs b)) (Listed P between) ts (listed_at read between ts) (λ xs used h. whole xs used h)
     (seq (onto read []) (λ xs left. more read between xs left) (IsOnto P []) (λ ys xs b. IsMore P between ys xs b) ts (told_onto read P [] ts (tells.told ts))
-    (λ ys used left is p. told_more read P between not_name tells (length left) ys left (omega arith)) (λ ys. (ys, [], ([], sym (append-nil ys), refl))))
+    (λ ys used left is p. told_more read P between no_word tells (length left) ys left (omega arith)) (λ ys. (ys, [], ([], sym (append-nil ys), refl))))
   where
     whole : (xs : List A) (used : List Symbol) → Both (IsOnto P []) (λ ys xs b. IsMore P between ys xs b) xs used → Listed P between xs used
     whole xs used (ys, a, b, is, (x, e, p), (new, f, m)) = let all : xs ≡ x ∷ new = rw (f, e) refl in rw all (a, b, is, p, m)
 
-pub tell_listed : {A : Type 0} {read : List Symbol → Read A} {P : A → List Symbol → Type 0} {between : TokenKind} → is Identifier between ≡ false → Tells read P → Tells (listed_at read between) (Listed P between)
-tell_listed {read = read} {P = P} {between = between} not_name tells = record {
-  told = told_listed read P between not_name tells;
+pub tell_listed : {A : Type 0} {read : List Symbol → Read A} {P : A → List Symbol → Type 0} {between : TokenKind} → has_word between ≡ false → Tells read P → Tells (listed_at read between) (Listed P between)
+tell_listed {read = read} {P = P} {between = between} no_word tells = record {
+  told = told_listed read P between no_word tells;
   thing = tells.thing ∷ [];
   spelled = tells.spelled;
   some = (tells.spelled, [], sym (append-nil tells.spelled), tells.some, refl);
 }
 
-pub told_maybe : {A : Type 0} (read : List Symbol → Read A) (P : A → List Symbol → Type 0) (between : TokenKind) → is Identifier between ≡ false → Tells read P → (ts : List Symbol) → Told (maybe_at read between) (Maybe P between) ts
-told_maybe {A} read P between not_name tells ts =
+pub told_maybe : {A : Type 0} (read : List Symbol → Read A) (P : A → List Symbol → Type 0) (between : TokenKind) → has_word between ≡ false → Tells read P → (ts : List Symbol) → Told (maybe_at read between) (Maybe P between) ts
+told_maybe {A} read P between no_word tells ts =
     told_if Identifier (listed_at read between) (λ s. got [] s) (Maybe P between) ts
-    (λ e. told_weaken (listed_at read between) (Listed P between) (Maybe P between) ts (listed_at read between ts) (λ xs used h. whole xs used h) (told_listed read P between not_name tells ts))
+    (λ e. told_weaken (listed_at read between) (Listed P between) (Maybe P between) ts (listed_at read between ts) (λ xs used h. whole xs used h) (told_listed read P between no_word tells ts))
     (λ e. told_done [] (Maybe P between) ts refl)
   where
     whole : (xs : List A) (used : List Symbol) → Listed P between xs used → Maybe P between xs used
     whole [] used h = absurd h
     whole (x ∷ xs) used h = h
 
-pub tell_maybe : {A : Type 0} {read : List Symbol → Read A} {P : A → List Symbol → Type 0} {between : TokenKind} → is Identifier between ≡ false → Tells read P → Tells (maybe_at read between) (Maybe P between)
-tell_maybe {read = read} {P = P} {between = between} not_name tells = record { told = told_maybe read P between not_name tells; thing = []; spelled = []; some = refl }
+pub tell_maybe : {A : Type 0} {read : List Symbol → Read A} {P : A → List Symbol → Type 0} {between : TokenKind} → has_word between ≡ false → Tells read P → Tells (maybe_at read between) (Maybe P between)
+tell_maybe {read = read} {P = P} {between = between} no_word tells = record { told = told_maybe read P between no_word tells; thing = []; spelled = []; some = refl }
 
 -- ---- stars
 

@@ -1,26 +1,48 @@
--- The words of a text's declarations are names that stand in it.
+-- The words of a text's declarations at which faults may stand are names that stand in it.
 use Rattle.std.proofs.Common.{◌≡◌, ◌≤◌, ℕ, Bool, true, false, List, [], ◌∷◌, ◌++◌, length, map, refl, sym, subst, arith}
 use Rattle.std.specs.List.{AllByRecursion}
 use Rattle.flux_lexer.specs.declared.kinds.Token.{Token}
+use Rattle.flux_lexer.specs.declared.reading.TheConstants.{PROGRAM_LIMIT}
 use Rattle.flux_lexer.specs.declared.kinds.TokenKind.{TokenKind}
-use Rattle.flux_lexer.specs.declared.kinds.TokenKind.TheVariants.{Identifier, CloseParen, Arrow, Equals, Semicolon}
+use Rattle.flux_lexer.specs.declared.kinds.TokenKind.TheVariants.{Identifier, Number, CloseParen, Arrow, Equals, Semicolon}
 use Rattle.flux_syntax.specs.declared.declarations.Word.{Word}
 use Rattle.flux_syntax.specs.declared.declarations.Param.{Param}
 use Rattle.flux_syntax.specs.declared.declarations.Decl.{Decl}
 use Rattle.flux_syntax.specs.declared.declarations.Decl.TheVariants.{Signature, Flow, Source, Typedef, Handler, Atomic, Session}
-use Rattle.flux_syntax.specs.Symbols.{Symbol, name, mark, is, symbol_of, Lies}
+use Rattle.flux_syntax.specs.Symbols.{Symbol, name, digits, mark, is, symbol_of}
 use Rattle.flux_syntax.specs.Grammar.{More, Maybe, IsParam, AreParams, IsMember, IsDeclaration, IsProgram}
 use Rattle.flux_syntax.specs.Declares.{Declares}
-use Rattle.flux_syntax.specs.Standing.{StandsIn, fault_words, AllStandIn}
+use Rattle.flux_syntax.specs.steps.Cursors.{Lies}
+pub use Rattle.flux_syntax.proofs.Spelled.{IsName}
 use Rattle.flux_syntax.proofs.Backs.{IsGood, Good}
 use Rattle.flux_syntax.proofs.Formats.{good_parts}
 use Rattle.flux_syntax.proofs.Fitting.{fit}
+
+-- a word stands in a text: it is a name, and has a place there
+pub record StandsIn (text : List ℕ) (word : Word) : Type 0 where
+  pub name : IsName word.text
+  pub within : word.at ≤ length text
+
+-- its name and the types, its name and the members, both its names; of a form that isn't built, its first name
+abbrev pub fault_words : Decl → List Word
+fault_words (Signature called ins outs) = called ∷ (map (λ param. param.ty) ins ++ map (λ param. param.ty) outs)
+fault_words (Flow called patterns members) = called ∷ members
+fault_words (Source called target) = called ∷ target ∷ []
+fault_words (Typedef called function) = called ∷ []
+fault_words (Handler node codes handler) = node ∷ []
+fault_words (Atomic node constraints) = node ∷ []
+fault_words (Session source function) = source ∷ []
+
+-- the words of all declarations stand in the text
+abbrev pub AllStandIn : List ℕ → List Decl → Type 0
+AllStandIn text decls = AllByRecursion (λ decl. AllByRecursion (StandsIn text) (fault_words decl)) decls
 
 -- ---- from symbols to words
 
 module _ (W : Word → Type 0) where
   abbrev Holds : Symbol → Type 0
   Holds (name word) = W word
+  Holds (digits word) = Unit {0}
   Holds (mark kind) = Unit {0}
 
   abbrev AllHold : List Symbol → Type 0
@@ -69,7 +91,7 @@ module _ (W : Word → Type 0) where
       (all.0, members_are members (maybe_words IsMember (λ word. word) _ (λ w c is g. (subst AllHold is g).0) members b m second.0))
   decl_words (Source called target) s same h = let all = subst AllHold same h in (all.1.0, (all.1.1.1.0, tt))
   decl_words (Typedef called function) s same h = let all = subst AllHold same h in (all.1.0, tt)
-  decl_words (Handler node handler) s same h = let all = subst AllHold same h in (all.1.1.0, tt)
+  decl_words (Handler node codes handler) s (a, same, cs) h = let all = subst AllHold same h in (all.1.1.0, tt)
   decl_words (Atomic node constraints) s (a, same, listed) h = let all = subst AllHold same h in (all.1.0, tt)
   decl_words (Session source function) s same h = let all = subst AllHold same h in (all.1.0, tt)
 
@@ -80,21 +102,24 @@ module _ (W : Word → Type 0) where
 -- ---- the tokens of a text
 
 symbol_stands : (text : List ℕ) (token : Token) → Lies text token → IsGood (symbol_of text token) → Holds (StandsIn text) (symbol_of text token)
-symbol_stands text token lies good = one (is Identifier token.kind) refl
+symbol_stands text token lies good = one (is Identifier token.kind) refl (is Number token.kind) refl
   where
-    one : (t : Bool) → is Identifier token.kind ≡ t → Holds (StandsIn text) (symbol_of text token)
-    one true e = rw e (record { name = (let h : IsGood (symbol_of text token) = good in rw e at h); within = omega (arith, lies.rising, lies.within) })
-    one false e = rw e tt
+    one : (t : Bool) → is Identifier token.kind ≡ t → (u : Bool) → is Number token.kind ≡ u → Holds (StandsIn text) (symbol_of text token)
+    one true e u f = rw e (record { name = (let h : IsGood (symbol_of text token) = good in rw e at h); within = omega (arith, lies.rising, lies.within) })
+    one false e true f = rw (e, f) tt
+    one false e false f = rw (e, f) tt
 
 symbols_stand : (text : List ℕ) (tokens : List Token) → AllByRecursion (Lies text) tokens → Good (map (symbol_of text) tokens) → AllHold (StandsIn text) (map (symbol_of text) tokens)
 symbols_stand text [] lie good = tt
 symbols_stand text (token ∷ tokens) lie good = (symbol_stands text token lie.0 good.0, symbols_stand text tokens lie.1 good.1)
 
+-- the words of a text's declarations stand in it
 pub all_stand : (decls : List Decl) (text : List ℕ) → Declares decls text → AllStandIn text decls
 all_stand decls text d =
     let fits = fit text d.tokens d.are in
     let good : Good (map (symbol_of text) d.tokens) = subst (λ (ts : List Token). Good (map (symbol_of text) ts)) (sym d.are.are) (good_parts text 0 d.are.parts d.are.laid) in
     program_words (StandsIn text) decls (map (symbol_of text) d.tokens) d.spelled (symbols_stand text d.tokens fits.lie good)
 
-pub text_few : (decls : List Decl) (text : List ℕ) → Declares decls text → length text ≤ 1048576
+-- a text with declarations isn't too long
+pub text_few : (decls : List Decl) (text : List ℕ) → Declares decls text → length text ≤ PROGRAM_LIMIT
 text_few decls text d = d.are.few

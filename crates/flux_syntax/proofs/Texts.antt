@@ -6,12 +6,14 @@ use Rattle.flux_faults.specs.declared.faults.FaultKind.{FaultKind}
 use Rattle.flux_faults.specs.declared.faults.FaultKind.TheVariants.{Unexpected}
 use Rattle.flux_faults.specs.declared.faults.CheckFault.{CheckFault}
 use Rattle.flux_faults.specs.declared.faults.CheckFault.TheVariants.{Static, Memory}
+use Rattle.flux_faults.specs.Faults.{IsPlacedIn}
+use Rattle.flux_faults.specs.declared.places.TheConstants.{PLACE_LIMIT}
 use Rattle.flux_lexer.specs.declared.kinds.Token.{Token}
-use Rattle.flux_lexer.specs.Pieces.{Piece, blank, remark, comment, opener, token}
+use Rattle.flux_lexer.specs.declared.reading.TheConstants.{PROGRAM_LIMIT}
 use Rattle.flux_lexer.specs.Texts as lexer
-use Rattle.flux_lexer.specs.Texts.{Part, Laid, opened_at, openers_of, AreTokensOf, Stands, IsTokensOrMemory}
+use Rattle.flux_lexer.specs.Texts.{AreTokensOf, Stands, IsTokensOrMemory}
 use Rattle.flux_syntax.specs.declared.declarations.Decl.{Decl}
-use Rattle.flux_syntax.specs.Symbols.{Lies}
+use Rattle.flux_syntax.specs.steps.Cursors.{Lies}
 use Rattle.flux_syntax.specs.Declares.{Declares, Spell}
 use Rattle.flux_syntax.specs.Counted.{words_of}
 use Rattle.flux_syntax.proofs.Counts.{words_few, decls_few}
@@ -34,36 +36,19 @@ stops_within at text before (t ∷ rest) all (start, stops) = omega (arith, star
 unexpected_within : (at : ℕ) (text : List ℕ) (tokens : List Token) → AreTokensOf tokens text → IsUnexpected at text tokens → at ≤ length text
 unexpected_within at text tokens are u = stops_within at text u.before u.rest (subst (AllByRecursion (Lies text)) u.split (fit text tokens are).lie) u.stops
 
--- the first open comment stands in the text
-open_part : (text : List ℕ) (at first : ℕ) (others : List ℕ) (piece : Piece) (n : ℕ) (parts : List Part) → Laid (record { piece = piece; length = n } ∷ parts) [] (drop at text) → openers_of at (record { piece = piece; length = n } ∷ parts) ≡ first ∷ others
-    → (openers_of (at + n) parts ≡ first ∷ others → first ≤ length text) → first ≤ length text
-open_part text at first others blank n parts laid e more = more e
-open_part text at first others remark n parts laid e more = more e
-open_part text at first others comment n parts laid e more = more e
-open_part text at first others (token kind) n parts laid e more = more e
-open_part text at first others opener n parts laid e more = let same : at ≡ first = cc in omega (arith, same, length-drop at text, ap length laid.0.1)
-
-open_within : (text : List ℕ) (at first : ℕ) (others : List ℕ) (parts : List Part) → Laid parts [] (drop at text) → openers_of at parts ≡ first ∷ others → first ≤ length text
-open_within text at first others [] laid e = absurd cc
-open_within text at first others (part ∷ parts) laid e =
-    open_part text at first others part.piece part.length parts laid e (λ e. open_within text (at + part.length) first others parts (subst (Laid parts []) (drop-drop part.length at text ∙ ap (λ (i : ℕ). drop i text) (omega arith)) laid.1) e)
-
-record Placed (at : ℕ) (text : List ℕ) : Type 0 where
-  within : at ≤ length text
-  room : at < 4294967295
-
-stands_within : (kind : FaultKind) (at : ℕ) (text : List ℕ) → Stands kind at text → Placed at text
-stands_within kind at text (inl (k, (zero_at, long))) = record { within = omega (arith, zero_at); room = omega (arith, zero_at) }
-stands_within kind at text (inr (inl (k, b))) = record { within = omega (arith, b.place); room = omega (arith, b.place, b.few) }
-stands_within kind at text (inr (inr (k, u))) = let le = open_within text 0 at u.others u.parts u.laid u.first in record { within = le; room = omega (arith, le, u.few) }
+-- a fault 4 is placed in the text
+pub unexpected_placed : (text : List ℕ) (tokens : List Token) (at : ℕ) → AreTokensOf tokens text → IsUnexpected at text tokens → (at ≤ length text) × (at < PLACE_LIMIT)
+unexpected_placed text tokens at are u = let le = unexpected_within at text tokens are u in (le, omega (arith, le, are.few))
 
 -- ---- with tokens
 
-pub refused_with : (text : List ℕ) (tokens : List Token) (r : Result (List Decl) CheckFault) → AreTokensOf tokens text → IfErr r (IsFaultOf text tokens) → IfErr r (IsRefusalOf text)
-refused_with text tokens (Ok decls) are h = tt
-refused_with text tokens (Err Memory) are h = tt
-refused_with text tokens (Err (Static fault)) are (kind, path, u) = let le = unexpected_within fault.at text tokens are u in (path, inr (kind, tokens, are, u), le, omega (arith, le, are.few))
+-- the parser's refusal says it of the text
+pub refused_with : (text : List ℕ) (tokens : List Token) (r : Result (List Decl) CheckFault) → AreTokensOf tokens text → IfErr r (IsFaultOf text tokens) → IfErr r (IsPlacedIn text) → IfErr r (IsRefusalOf text)
+refused_with text tokens (Ok decls) are h placed = tt
+refused_with text tokens (Err Memory) are h placed = tt
+refused_with text tokens (Err (Static fault)) are (kind, path, u) placed = (path, inr (kind, tokens, are, u), placed)
 
+-- the parser gives what the text declares
 pub decls_with : (text : List ℕ) (tokens : List Token) (r : Result (List Decl) CheckFault) → ((others : List Token) → AreTokensOf others text → tokens ≡ others) → ((decls : List Decl) → Spell text tokens decls → AreDeclsOrMemory decls r) → (decls : List Decl) → Declares decls text → AreDeclsOrMemory decls r
 decls_with text tokens r same all decls d = all decls (subst (λ (l : List Token). Spell text l decls) (sym (same d.tokens d.are)) d.spelled)
 
@@ -72,6 +57,7 @@ that_of kind at text tokens (Ok decls) k refused that = that
 that_of kind at text tokens (Err Memory) k refused that = tt
 that_of kind at text tokens (Err (Static fault)) k (own, path, u) that = (own ∙ sym k, that)
 
+-- the parser gives the fault of the text
 pub stands_with : (text : List ℕ) (tokens : List Token) (r : Result (List Decl) CheckFault) → ((others : List Token) → AreTokensOf others text → tokens ≡ others) → ((kind : FaultKind) (at : ℕ) → Stands kind at text → ⊥) → IfErr r (IsFaultOf text tokens)
     → ((at : ℕ) → IsUnexpected at text tokens → IsFaultOrMemory at r) → (kind : FaultKind) (at : ℕ) → IsFaulty kind at text → IsThatOrMemory kind at r
 stands_with text tokens r same no_fault refused that kind at (inl stands) = absurd (no_fault kind at stands)
@@ -79,14 +65,17 @@ stands_with text tokens r same no_fault refused that kind at (inr (k, others, ar
 
 -- ---- without tokens
 
-pub refused_without : (text : List ℕ) (fault : CheckFault) → lexer.IsFaultOf text fault → IsRefusalOf text fault
-refused_without text Memory h = tt
-refused_without text (Static fault) (path, stands) = let placed = stands_within fault.kind fault.at text stands in (path, inl stands, placed.within, placed.room)
+-- the lexer's refusal says it of the text
+pub refused_without : (text : List ℕ) (fault : CheckFault) → lexer.IsFaultOf text fault → IsPlacedIn text fault → IsRefusalOf text fault
+refused_without text Memory h placed = tt
+refused_without text (Static fault) (path, stands) placed = (path, inl stands, placed)
 
+-- where the lexer refuses, the text declares nothing
 pub decls_without : (text : List ℕ) (fault : CheckFault) → ((others : List Token) → AreTokensOf others text → IsTokensOrMemory others (Err fault)) → (decls : List Decl) → Declares decls text → AreDeclsOrMemory decls (Err fault)
 decls_without text Memory no_tokens decls d = tt
 decls_without text (Static fault) no_tokens decls d = no_tokens d.tokens d.are
 
+-- where the lexer refuses, its fault is the text's
 pub stands_without : (text : List ℕ) (fault : CheckFault) → ((others : List Token) → AreTokensOf others text → IsTokensOrMemory others (Err fault)) → ((kind : FaultKind) (at : ℕ) → Stands kind at text → lexer.IsFaultOrMemory kind at (Err fault))
     → (kind : FaultKind) (at : ℕ) → IsFaulty kind at text → IsThatOrMemory kind at (Err fault)
 stands_without text Memory no_tokens that kind at h = tt
@@ -108,13 +97,15 @@ map_length : (f : Token → Symbol) (l : List Token) → length (map f l) ≡ le
 map_length f [] = refl
 map_length f (t ∷ l) = ap (λ (n : ℕ). suc n) (map_length f l)
 
--- there are at most 1,048,576
-pub few_words : (decls : List Decl) (text : List ℕ) → Declares decls text → words_of decls ≤ 1048576
+-- there are no more words than bytes in the longest text
+pub few_words : (decls : List Decl) (text : List ℕ) → Declares decls text → words_of decls ≤ PROGRAM_LIMIT
 few_words decls text d = let few = words_few decls (map (symbol_of text) d.tokens) d.spelled in omega (arith, few, map_length (symbol_of text) d.tokens, (fit text d.tokens d.are).few)
 
-pub few_decls : (decls : List Decl) (text : List ℕ) → Declares decls text → length decls ≤ 1048576
+-- there are no more declarations than words
+pub few_decls : (decls : List Decl) (text : List ℕ) → Declares decls text → length decls ≤ PROGRAM_LIMIT
 few_decls decls text d = omega (arith, few_words decls text d, decls_few decls)
 
-pub few_with : (text : List ℕ) (tokens : List Token) (r : Result (List Decl) CheckFault) → AreTokensOf tokens text → IfOk r (Spell text tokens) → IfOk r (λ decls. words_of decls ≤ 1048576)
+-- the declarations of a text have few words
+pub few_with : (text : List ℕ) (tokens : List Token) (r : Result (List Decl) CheckFault) → AreTokensOf tokens text → IfOk r (Spell text tokens) → IfOk r (λ decls. words_of decls ≤ PROGRAM_LIMIT)
 few_with text tokens (Ok decls) are spelled = few_words decls text (record { tokens = tokens; are = are; spelled = spelled })
 few_with text tokens (Err fault) are spelled = tt

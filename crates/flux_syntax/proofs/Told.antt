@@ -3,9 +3,10 @@
 use Rattle.std.proofs.Common.{◌≡◌, ℕ, Bool, true, false, if◌then◌else◌, eqb, List, [], ◌∷◌, ◌++◌, Option, Some, None, refl, sym, ap, subst, ◌∙◌, arith, append_assoc}
 use Rattle.std.proofs.lemmas.Bool.Decides.{nat_tests}
 use Rattle.flux_lexer.specs.declared.kinds.TokenKind.{TokenKind}
-use Rattle.flux_lexer.specs.declared.kinds.TokenKind.TheVariants.{Identifier, Source, Typedef, Handle, Error, Atomic, Session, Wildcard, OpenParen, CloseParen, OpenBracket, CloseBracket, OpenBrace, CloseBrace, Comma, Semicolon, Colon, Equals, Star, Question, Bang, ThinArrow, Arrow}
-use Rattle.flux_syntax.specs.Symbols.{Symbol, name, mark, is, number}
-use Rattle.flux_syntax.specs.Reading.{Read, got, stuck, ◌>>=◌, of_kind, begins, mark_at, name_at}
+use Rattle.flux_lexer.specs.declared.kinds.TokenKind.TheVariants.{Identifier, Number, Source, Typedef, Handle, Error, Atomic, Session, Wildcard, OpenParen, CloseParen, OpenBracket, CloseBracket, OpenBrace, CloseBrace, Comma, Semicolon, Colon, Equals, Star, Question, Bang, ThinArrow, Arrow}
+use Rattle.flux_syntax.specs.declared.declarations.Word.{Word}
+use Rattle.flux_syntax.specs.Symbols.{Symbol, name, digits, mark, is, has_word, number}
+use Rattle.flux_syntax.specs.steps.Reading.{Read, got, stuck, ◌>>=◌, of_kind, begins, mark_at, name_at, number_at}
 
 abbrev pub head : List Symbol → Option Symbol
 head [] = None
@@ -68,7 +69,8 @@ kind_back n =
     if eqb n 19 then Question else
     if eqb n 20 then Bang else
     if eqb n 21 then ThinArrow else
-    Arrow
+    if eqb n 22 then Arrow else
+    Number
 
 kind_back_of : (k : TokenKind) → kind_back (number k) ≡ k
 kind_back_of Identifier = refl
@@ -94,6 +96,7 @@ kind_back_of Question = refl
 kind_back_of Bang = refl
 kind_back_of ThinArrow = refl
 kind_back_of Arrow = refl
+kind_back_of Number = refl
 
 pub same_kind : (a b : TokenKind) → is a b ≡ true → a ≡ b
 same_kind a b e = sym (kind_back_of a) ∙ ap kind_back (numbers (number a) (number b) e) ∙ kind_back_of b
@@ -104,14 +107,20 @@ same_kind a b e = sym (kind_back_of a) ∙ ap kind_back (numbers (number a) (num
 pub is_itself : (k : TokenKind) → is k k ≡ true
 is_itself k = grind (arith, nat_tests)
 
-pub of_mark : (k : TokenKind) → is Identifier k ≡ false → of_kind k (mark k) ≡ true
-of_mark k not_name = rw (not_name, is_itself k) refl
+-- a mark is of its own kind
+pub of_mark : (k : TokenKind) → has_word k ≡ false → of_kind k (mark k) ≡ true
+of_mark k no_word = rw (no_word, is_itself k) refl
 
-pub is_mark : (k : TokenKind) (t : Symbol) → is Identifier k ≡ false → of_kind k t ≡ true → t ≡ mark k
-is_mark k (name w) not_name e = let n : is Identifier k ≡ true = ap (λ (j : TokenKind). is j k) (sym (same_kind k Identifier e)) ∙ is_itself k in absurd cc
-is_mark k (mark j) not_name e = ap mark (sym (same_kind k j (inner (is Identifier j) refl e)))
+of_words : (k other : TokenKind) → has_word other ≡ true → has_word k ≡ false → is k other ≡ true → ⊥
+of_words k other word no_word e = let own : has_word k ≡ true = subst (λ (j : TokenKind). has_word j ≡ true) (sym (same_kind k other e)) word in absurd cc
+
+-- what is of a mark's kind is that mark
+pub is_mark : (k : TokenKind) (t : Symbol) → has_word k ≡ false → of_kind k t ≡ true → t ≡ mark k
+is_mark k (name w) no_word e = absurd (of_words k Identifier refl no_word e)
+is_mark k (digits w) no_word e = absurd (of_words k Number refl no_word e)
+is_mark k (mark j) no_word e = ap mark (sym (same_kind k j (inner (has_word j) refl e)))
   where
-    inner : (b : Bool) → is Identifier j ≡ b → (if is Identifier j then false else is k j) ≡ true → is k j ≡ true
+    inner : (b : Bool) → has_word j ≡ b → (if has_word j then false else is k j) ≡ true → is k j ≡ true
     inner true i e = let no : ◌≡◌ {A = Bool} false true = ap (λ (b : Bool). if b then false else is k j) (sym i) ∙ e in absurd cc
     inner false i e = ap (λ (b : Bool). if b then false else is k j) (sym i) ∙ e
 
@@ -136,21 +145,55 @@ told_weaken read P Q ts (stuck rest) weak (used, is, (x, more, p), steady) = (us
 pub told_done : {A : Type 0} (x : A) (P : A → List Symbol → Type 0) (ts : List Symbol) → P x [] → Told (λ s. got x s) P ts
 told_done x P ts p = ([], refl, p, λ other same. refl)
 
-pub told_mark : (kind : TokenKind) (ts : List Symbol) → is Identifier kind ≡ false → Told (mark_at kind) (λ _ used. used ≡ mark kind ∷ []) ts
-told_mark kind [] not_name = ([], refl, (tt, mark kind ∷ [], refl), λ t left other e. absurd cc)
-told_mark kind (t ∷ rest) not_name = step (of_kind kind t) refl
+pub told_mark : (kind : TokenKind) (ts : List Symbol) → has_word kind ≡ false → Told (mark_at kind) (λ _ used. used ≡ mark kind ∷ []) ts
+told_mark kind [] no_word = ([], refl, (tt, mark kind ∷ [], refl), λ t left other e. absurd cc)
+told_mark kind (t ∷ rest) no_word = step (of_kind kind t) refl
   where
     step : (b : Bool) → of_kind kind t ≡ b → Told (mark_at kind) (λ _ used. used ≡ mark kind ∷ []) (t ∷ rest)
-    step true e = let is = is_mark kind t not_name e in let own = of_mark kind not_name in rw e (mark kind ∷ [], ap (λ (s : Symbol). s ∷ rest) is, refl, λ other same. rw own refl)
+    step true e = let is = is_mark kind t no_word e in let own = of_mark kind no_word in rw e (mark kind ∷ [], ap (λ (s : Symbol). s ∷ rest) is, refl, λ other same. rw own refl)
     step false e = rw e ([], refl, (tt, mark kind ∷ [], refl), λ s left other same. let first : of_kind kind s ≡ false = ap (λ (l : List Symbol). begins kind l) (sym same) ∙ e in rw first refl)
 
+abbrev no_place : Word
+no_place = record { text = []; at = 0 }
+
+-- at a symbol that is no name
+told_other : (ts : List Symbol) → name_at ts ≡ stuck ts → ((t : Symbol) (left other : List Symbol) → ts ≡ t ∷ left → name_at (t ∷ other) ≡ stuck (t ∷ other)) → Told_of name_at (λ word used. used ≡ name word ∷ []) ts (stuck ts)
+told_other ts e stays = ([], refl, (no_place, name no_place ∷ [], refl), stays)
+
 pub told_name : (ts : List Symbol) → Told name_at (λ word used. used ≡ name word ∷ []) ts
-told_name [] = ([], refl, (record { text = []; at = 0 }, name (record { text = []; at = 0 }) ∷ [], refl), λ t left other e. absurd cc)
+told_name [] = told_other [] refl (λ t left other e. absurd cc)
 told_name (name word ∷ rest) = (name word ∷ [], refl, refl, λ other same. refl)
-told_name (mark kind ∷ rest) = ([], refl, (record { text = []; at = 0 }, name (record { text = []; at = 0 }) ∷ [], refl), λ t left other e. stays t left other e)
+told_name (digits word ∷ rest) = told_other (digits word ∷ rest) refl stays
+  where
+    stays : (t : Symbol) (left other : List Symbol) → digits word ∷ rest ≡ t ∷ left → name_at (t ∷ other) ≡ stuck (t ∷ other)
+    stays (name w) left other e = absurd cc
+    stays (digits w) left other e = refl
+    stays (mark k) left other e = absurd cc
+told_name (mark kind ∷ rest) = told_other (mark kind ∷ rest) refl stays
   where
     stays : (t : Symbol) (left other : List Symbol) → mark kind ∷ rest ≡ t ∷ left → name_at (t ∷ other) ≡ stuck (t ∷ other)
     stays (name w) left other e = absurd cc
+    stays (digits w) left other e = absurd cc
+    stays (mark k) left other e = refl
+
+-- at a symbol that is no number
+told_no_number : (ts : List Symbol) → number_at ts ≡ stuck ts → ((t : Symbol) (left other : List Symbol) → ts ≡ t ∷ left → number_at (t ∷ other) ≡ stuck (t ∷ other)) → Told_of number_at (λ word used. used ≡ digits word ∷ []) ts (stuck ts)
+told_no_number ts e stays = ([], refl, (no_place, digits no_place ∷ [], refl), stays)
+
+pub told_number : (ts : List Symbol) → Told number_at (λ word used. used ≡ digits word ∷ []) ts
+told_number [] = told_no_number [] refl (λ t left other e. absurd cc)
+told_number (digits word ∷ rest) = (digits word ∷ [], refl, refl, λ other same. refl)
+told_number (name word ∷ rest) = told_no_number (name word ∷ rest) refl stays
+  where
+    stays : (t : Symbol) (left other : List Symbol) → name word ∷ rest ≡ t ∷ left → number_at (t ∷ other) ≡ stuck (t ∷ other)
+    stays (name w) left other e = refl
+    stays (digits w) left other e = absurd cc
+    stays (mark k) left other e = absurd cc
+told_number (mark kind ∷ rest) = told_no_number (mark kind ∷ rest) refl stays
+  where
+    stays : (t : Symbol) (left other : List Symbol) → mark kind ∷ rest ≡ t ∷ left → number_at (t ∷ other) ≡ stuck (t ∷ other)
+    stays (name w) left other e = absurd cc
+    stays (digits w) left other e = absurd cc
     stays (mark k) left other e = refl
 
 -- ---- one after the other
@@ -214,11 +257,14 @@ Nothing_more x y b = (y ≡ x) × (b ≡ [])
 pub tell_done : {A : Type 0} (x : A) → Tells (λ s. got x s) (Nothing_more x)
 tell_done x = record { told = λ ts. told_done x (Nothing_more x) ts (refl, refl); thing = x; spelled = []; some = (refl, refl) }
 
-pub tell_mark : (kind : TokenKind) → is Identifier kind ≡ false → Tells (mark_at kind) (λ _ used. used ≡ mark kind ∷ [])
-tell_mark kind not_name = record { told = λ ts. told_mark kind ts not_name; thing = tt; spelled = mark kind ∷ []; some = refl }
+pub tell_mark : (kind : TokenKind) → has_word kind ≡ false → Tells (mark_at kind) (λ _ used. used ≡ mark kind ∷ [])
+tell_mark kind no_word = record { told = λ ts. told_mark kind ts no_word; thing = tt; spelled = mark kind ∷ []; some = refl }
 
 pub tell_name : Tells name_at (λ word used. used ≡ name word ∷ [])
 tell_name = record { told = told_name; thing = record { text = []; at = 0 }; spelled = name (record { text = []; at = 0 }) ∷ []; some = refl }
+
+pub tell_number : Tells number_at (λ word used. used ≡ digits word ∷ [])
+tell_number = record { told = told_number; thing = no_place; spelled = digits no_place ∷ []; some = refl }
 
 pub tell_then : {A B : Type 0} {read : List Symbol → Read A} {f : A → List Symbol → Read B} {P : A → List Symbol → Type 0} {Q : A → B → List Symbol → Type 0} → Tells read P → ((x : A) → Tells (f x) (Q x)) → Tells (λ s. read s >>= f) (Both P Q)
 tell_then {read = read} {f = f} {P = P} {Q = Q} first second = record {

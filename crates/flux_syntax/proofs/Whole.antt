@@ -10,9 +10,9 @@ use Rattle.flux_syntax.specs.declared.declarations.Param.{Param}
 use Rattle.flux_syntax.specs.declared.declarations.Constraint.{Constraint}
 use Rattle.flux_syntax.specs.declared.declarations.Decl.{Decl}
 use Rattle.flux_syntax.specs.declared.declarations.Decl.TheVariants as decl
-use Rattle.flux_syntax.specs.Symbols.{Symbol, name, mark, is}
-use Rattle.flux_syntax.specs.Grammar.{More, Listed, Maybe, stars, IsParam, AreParams, IsPattern, ArePatterns, IsMember, IsMark, IsHeld, IsConstraint, IsDeclaration}
-use Rattle.flux_syntax.specs.Reading.{Read, got, begins, more_at, listed_at, maybe_at, stars_at, name_at, param_at, pattern_at, constraint_at, params_at, cases_at, declaration_at}
+use Rattle.flux_syntax.specs.Symbols.{Symbol, name, mark, has_word}
+use Rattle.flux_syntax.specs.Grammar.{More, Listed, Maybe, stars, IsParam, AreParams, IsPattern, ArePatterns, IsMember, IsCode, AreCodes, IsMark, IsHeld, IsConstraint, IsDeclaration}
+use Rattle.flux_syntax.specs.steps.Reading.{Read, got, begins, more_at, listed_at, maybe_at, stars_at, name_at, number_at, param_at, pattern_at, constraint_at, params_at, cases_at, codes_at, declaration_at}
 use Rattle.flux_syntax.proofs.Told.{of_mark}
 
 -- ---- lists
@@ -26,30 +26,30 @@ ends_behind : {A : Type 0} (read : List Symbol → Read A) (P : A → List Symbo
 ends_behind read P between Ends gets [] b rest none ends = rw none ends
 ends_behind read P between Ends gets (x ∷ xs) b rest (a, c, is, p, m) ends = rw is (gets.goes_on ((a ++ c) ++ rest))
 
-more_whole : {A : Type 0} (read : List Symbol → Read A) (P : A → List Symbol → Type 0) (between : TokenKind) (Ends : List Symbol → Type 0) → is Identifier between ≡ false → Gets read P between Ends → (n : ℕ) (items xs : List A) (s rest : List Symbol)
+more_whole : {A : Type 0} (read : List Symbol → Read A) (P : A → List Symbol → Type 0) (between : TokenKind) (Ends : List Symbol → Type 0) → has_word between ≡ false → Gets read P between Ends → (n : ℕ) (items xs : List A) (s rest : List Symbol)
     → More P between xs s → Ends rest → begins between rest ≡ false → length (s ++ rest) ≤ n → more_at read between n items (s ++ rest) ≡ got (items ++ xs) rest
-more_whole read P between Ends not_name gets zero items [] s rest none ends other le = rw none (ap (λ (l : List _). got l rest) (sym (append-nil items)))
-more_whole read P between Ends not_name gets (suc n) items [] s rest none ends other le = rw (none, other) (ap (λ (l : List _). got l rest) (sym (append-nil items)))
-more_whole read P between Ends not_name gets zero items (x ∷ xs) s rest (a, b, is, p, m) ends other le = absurd (let h : suc (length ((a ++ b) ++ rest)) ≤ 0 = rw is at le in omega (arith, h))
-more_whole read P between Ends not_name gets (suc n) items (x ∷ xs) s rest (a, b, is, p, m) ends other le =
-    let own = of_mark between not_name in
+more_whole read P between Ends no_word gets zero items [] s rest none ends other le = rw none (ap (λ (l : List _). got l rest) (sym (append-nil items)))
+more_whole read P between Ends no_word gets (suc n) items [] s rest none ends other le = rw (none, other) (ap (λ (l : List _). got l rest) (sym (append-nil items)))
+more_whole read P between Ends no_word gets zero items (x ∷ xs) s rest (a, b, is, p, m) ends other le = absurd (let h : suc (length ((a ++ b) ++ rest)) ≤ 0 = rw is at le in omega (arith, h))
+more_whole read P between Ends no_word gets (suc n) items (x ∷ xs) s rest (a, b, is, p, m) ends other le =
+    let own = of_mark between no_word in
     let le_n : length (b ++ rest) ≤ n = (let h : suc (length ((a ++ b) ++ rest)) ≤ suc n = rw is at le in let all = ap length (append_assoc a b rest) in omega (arith, h, all, length-append a (b ++ rest))) in
     let got_one = gets.whole x a (b ++ rest) p (ends_behind read P between Ends gets xs b rest m ends) in
-    rw (is, own, append_assoc a b rest, got_one) (more_whole read P between Ends not_name gets n (items ++ x ∷ []) xs b rest m ends other le_n ∙ ap (λ (l : List _). got l rest) (append_assoc items (x ∷ []) xs))
+    rw (is, own, append_assoc a b rest, got_one) (more_whole read P between Ends no_word gets n (items ++ x ∷ []) xs b rest m ends other le_n ∙ ap (λ (l : List _). got l rest) (append_assoc items (x ∷ []) xs))
 
-pub listed_whole : {A : Type 0} (read : List Symbol → Read A) (P : A → List Symbol → Type 0) (between : TokenKind) (Ends : List Symbol → Type 0) → is Identifier between ≡ false → Gets read P between Ends → (xs : List A) (s rest : List Symbol)
+pub listed_whole : {A : Type 0} (read : List Symbol → Read A) (P : A → List Symbol → Type 0) (between : TokenKind) (Ends : List Symbol → Type 0) → has_word between ≡ false → Gets read P between Ends → (xs : List A) (s rest : List Symbol)
     → Listed P between xs s → Ends rest → begins between rest ≡ false → listed_at read between (s ++ rest) ≡ got xs rest
-listed_whole read P between Ends not_name gets [] s rest h ends other = absurd h
-listed_whole read P between Ends not_name gets (x ∷ xs) s rest (a, b, is, p, m) ends other =
+listed_whole read P between Ends no_word gets [] s rest h ends other = absurd h
+listed_whole read P between Ends no_word gets (x ∷ xs) s rest (a, b, is, p, m) ends other =
     let got_one = gets.whole x a (b ++ rest) p (ends_behind read P between Ends gets xs b rest m ends) in
-    rw (is, append_assoc a b rest, got_one) (more_whole read P between Ends not_name gets (length (b ++ rest)) (x ∷ []) xs b rest m ends other (omega arith))
+    rw (is, append_assoc a b rest, got_one) (more_whole read P between Ends no_word gets (length (b ++ rest)) (x ∷ []) xs b rest m ends other (omega arith))
 
-pub maybe_whole : {A : Type 0} (read : List Symbol → Read A) (P : A → List Symbol → Type 0) (between : TokenKind) (Ends : List Symbol → Type 0) → is Identifier between ≡ false → Gets read P between Ends → ((x : A) (a rest : List Symbol) → P x a → begins Identifier (a ++ rest) ≡ true) → (xs : List A) (s rest : List Symbol)
+pub maybe_whole : {A : Type 0} (read : List Symbol → Read A) (P : A → List Symbol → Type 0) (between : TokenKind) (Ends : List Symbol → Type 0) → has_word between ≡ false → Gets read P between Ends → ((x : A) (a rest : List Symbol) → P x a → begins Identifier (a ++ rest) ≡ true) → (xs : List A) (s rest : List Symbol)
     → Maybe P between xs s → Ends rest → begins between rest ≡ false → begins Identifier rest ≡ false → maybe_at read between (s ++ rest) ≡ got xs rest
-maybe_whole read P between Ends not_name gets starts [] s rest none ends other no_one = rw (none, no_one) refl
-maybe_whole read P between Ends not_name gets starts (x ∷ xs) s rest (a, b, is, p, m) ends other no_one =
+maybe_whole read P between Ends no_word gets starts [] s rest none ends other no_one = rw (none, no_one) refl
+maybe_whole read P between Ends no_word gets starts (x ∷ xs) s rest (a, b, is, p, m) ends other no_one =
     let first : begins Identifier (s ++ rest) ≡ true = rw (is, append_assoc a b rest) (starts x a (b ++ rest) p) in
-    rw first (listed_whole read P between Ends not_name gets (x ∷ xs) s rest (a, b, is, p, m) ends other)
+    rw first (listed_whole read P between Ends no_word gets (x ∷ xs) s rest (a, b, is, p, m) ends other)
 
 -- ---- what lists are made of
 
@@ -75,6 +75,9 @@ gets_pattern = record { whole = λ x a rest is ends. pattern_whole x a rest is; 
 
 gets_member : Gets name_at IsMember ThinArrow Anything
 gets_member = record { whole = λ w a rest is ends. rw is refl; goes_on = λ rest. tt }
+
+gets_code : Gets number_at IsCode Comma Anything
+gets_code = record { whole = λ w a rest is ends. rw is refl; goes_on = λ rest. tt }
 
 record Quiet (rest : List Symbol) : Type 0 where
   question : begins Question rest ≡ false
@@ -118,6 +121,12 @@ signature_whole called ins outs s rest (a, b, is, ps, qs) =
     let second = params_whole outs b (mark Semicolon ∷ rest) qs in
     rw (is, append_assoc a (mark Arrow ∷ (b ++ mark Semicolon ∷ [])) rest, append_assoc b (mark Semicolon ∷ []) rest, first, opens, second) refl
 
+codes_whole : (codes : List Word) (s rest : List Symbol) → AreCodes codes s → begins Colon rest ≡ false → codes_at (s ++ rest) ≡ got codes rest
+codes_whole [] s rest none other = rw (none, other) refl
+codes_whole (code ∷ codes) s rest (a, is, cs) other =
+    let list = listed_whole number_at IsCode Comma Anything refl gets_code (code ∷ codes) a (mark CloseParen ∷ rest) cs tt refl in
+    rw (is, append_assoc a (mark CloseParen ∷ []) rest, list) refl
+
 flow_opens : (patterns : Option (List (Option Word))) (a rest : List Symbol) → ArePatterns patterns a → begins OpenParen (a ++ mark Equals ∷ rest) ≡ false
 flow_opens None a rest is = rw is refl
 flow_opens (Some patterns) a rest (b, is, ps) = rw is refl
@@ -129,6 +138,11 @@ flow_whole called patterns members s rest (a, b, is, ps, qs) =
     let second = maybe_whole name_at IsMember ThinArrow Anything refl gets_member (λ p a rest is. rw is refl) members b (mark Semicolon ∷ rest) qs tt refl refl in
     rw (is, append_assoc a (mark Equals ∷ (b ++ mark Semicolon ∷ [])) rest, append_assoc b (mark Semicolon ∷ []) rest, first, opens, second) refl
 
+handler_whole : (node : Word) (codes : List Word) (handler : Word) (s rest : List Symbol) → IsDeclaration (decl.Handler node codes handler) s → declaration_at (s ++ rest) ≡ got (decl.Handler node codes handler) rest
+handler_whole node codes handler s rest (a, is, cs) =
+    let list = codes_whole codes a (mark Arrow ∷ name handler ∷ mark Semicolon ∷ rest) cs refl in
+    rw (is, append_assoc a (mark Arrow ∷ name handler ∷ mark Semicolon ∷ []) rest, list) refl
+
 atomic_whole : (node : Word) (constraints : List Constraint) (s rest : List Symbol) → IsDeclaration (decl.Atomic node constraints) s → declaration_at (s ++ rest) ≡ got (decl.Atomic node constraints) rest
 atomic_whole node constraints s rest (a, is, cs) =
     let list = listed_whole constraint_at IsConstraint Comma Quiet refl gets_constraint constraints a (mark CloseBrace ∷ mark Semicolon ∷ rest) cs (record { question = refl; bang = refl; paren = refl }) refl in
@@ -139,7 +153,7 @@ declaration_whole (decl.Signature called ins outs) s rest h = signature_whole ca
 declaration_whole (decl.Flow called patterns members) s rest h = flow_whole called patterns members s rest h
 declaration_whole (decl.Source called target) s rest h = rw h refl
 declaration_whole (decl.Typedef called function) s rest h = rw h refl
-declaration_whole (decl.Handler node handler) s rest h = rw h refl
+declaration_whole (decl.Handler node codes handler) s rest h = handler_whole node codes handler s rest h
 declaration_whole (decl.Atomic node constraints) s rest h = atomic_whole node constraints s rest h
 declaration_whole (decl.Session source function) s rest h = rw h refl
 
@@ -149,6 +163,6 @@ some_symbol (decl.Signature called ins outs) (a, b, is, ps, qs) = absurd cc
 some_symbol (decl.Flow called patterns members) (a, b, is, ps, qs) = absurd cc
 some_symbol (decl.Source called target) h = absurd cc
 some_symbol (decl.Typedef called function) h = absurd cc
-some_symbol (decl.Handler node handler) h = absurd cc
+some_symbol (decl.Handler node codes handler) (a, is, cs) = absurd cc
 some_symbol (decl.Atomic node constraints) (a, is, cs) = absurd cc
 some_symbol (decl.Session source function) h = absurd cc

@@ -1,5 +1,6 @@
--- Rows of faults, and the least fault: the row that stands with the least number, at its least place.
-use Rattle.std.specs.Prelude.{◌≡◌, ℕ, min, List, [], ◌∷◌, Option, Some, None}
+-- Rows of faults, and the least fault: the row that stands with the least number, at its least
+-- place.
+use Rattle.std.specs.Prelude.{◌≡◌, ⊤, ℕ, min, List, [], ◌∷◌, Option, Some, None}
 use Rattle.flux_faults.specs.declared.faults.FaultKind.{FaultKind}
 use Rattle.flux_faults.specs.declared.faults.CheckFault.{CheckFault}
 use Rattle.flux_faults.specs.declared.faults.CheckFault.TheVariants.{Static, Memory}
@@ -19,6 +20,7 @@ abbrev pub soonest : Option ℕ → List Word → Option ℕ
 soonest place [] = place
 soonest place (word ∷ words) = soonest (Some (sooner place word.at)) words
 
+-- a row's fault at its least place; where it doesn't stand, the fault of the rows behind it
 abbrev pub fault_or : FaultKind → Option ℕ → Option (FaultKind × ℕ) → Option (FaultKind × ℕ)
 fault_or kind None other = other
 fault_or kind (Some at) other = Some (kind, at)
@@ -30,5 +32,6 @@ first_fault (row ∷ others) = fault_or row.0 (soonest None row.1) (first_fault 
 
 -- a fault is the least row that stands, at its least place
 abbrev pub IsLeastFault : Option (FaultKind × ℕ) → CheckFault → Type 0
-IsLeastFault first (Static fault) = (first ≡ Some (fault.kind, fault.at)) × (fault.path ≡ [])
-IsLeastFault first Memory = Unit {0}
+IsLeastFault first (Static fault) =
+    (first ≡ Some (fault.kind, fault.at)) × (fault.path ≡ [])
+IsLeastFault first Memory = ⊤

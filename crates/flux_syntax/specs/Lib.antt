@@ -4,10 +4,9 @@ pub mod Declares
 pub mod Unexpected
 pub mod Formatted
 pub mod Again
-pub mod Reading
 pub mod Counted
 pub mod Names
 pub mod Words
 pub mod ProgramOfText
 pub mod Least
-pub mod Standing
+pub mod steps

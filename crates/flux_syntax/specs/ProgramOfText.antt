@@ -77,9 +77,9 @@ body_of names types node decls =
 
 -- each `handle` line of a node is one of its arms
 abbrev pub arm_of : List (List ℕ) → List ℕ → Decl → Option HandleArm
-arm_of names node (Handler name handler) =
+arm_of names node (Handler name codes handler) =
     if bytes_eq name.text node
-    then Some (record { codes = []; node = number_of names handler })
+    then Some (record { codes = map (λ code. decimal_value code.text) codes; node = number_of names handler })
     else None
 arm_of names node other = None
 
@@ -199,7 +199,7 @@ places words = map (λ word. word.at) words
 
 -- where the handlers of a node stand
 abbrev pub handler_place : List ℕ → Decl → Option ℕ
-handler_place node (Handler name handler) =
+handler_place node (Handler name codes handler) =
     if bytes_eq name.text node then Some handler.at else None
 handler_place node other = None
 

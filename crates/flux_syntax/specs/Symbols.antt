@@ -1,14 +1,14 @@
--- The tokens of a text as the grammar sees them: names, and marks with the reserved words.
-use Rattle.std.specs.Prelude.{◌≡◌, ℕ, ◌+◌, ◌-◌, ◌≤◌, ◌==◌, Bool, if◌then◌else◌, List, length, take, drop}
-use Rattle.std.specs.List.{AllByRecursion}
+-- The tokens of a text as the grammar sees them: names, numbers, and marks with the reserved words.
+use Rattle.std.specs.Prelude.{ℕ, ◌-◌, ◌==◌, ◌||◌, Bool, if◌then◌else◌, List, take, drop}
 use Rattle.flux_lexer.specs.declared.kinds.Token.{Token}
 use Rattle.flux_lexer.specs.declared.kinds.TokenKind.{TokenKind}
-use Rattle.flux_lexer.specs.declared.kinds.TokenKind.TheVariants.{Identifier, Source, Typedef, Handle, Error, Atomic, Session, Wildcard, OpenParen, CloseParen, OpenBracket, CloseBracket, OpenBrace, CloseBrace, Comma, Semicolon, Colon, Equals, Star, Question, Bang, ThinArrow, Arrow}
+use Rattle.flux_lexer.specs.declared.kinds.TokenKind.TheVariants.{Identifier, Number, Source, Typedef, Handle, Error, Atomic, Session, Wildcard, OpenParen, CloseParen, OpenBracket, CloseBracket, OpenBrace, CloseBrace, Comma, Semicolon, Colon, Equals, Star, Question, Bang, ThinArrow, Arrow}
 use Rattle.flux_syntax.specs.declared.declarations.Word.{Word}
 
--- a name with its place, or a mark or reserved word
+-- a name or a number with its place, or a mark or reserved word
 pub data Symbol : Type 0 where
   name : Word → Symbol
+  digits : Word → Symbol
   mark : TokenKind → Symbol
 
 -- the kinds, numbered
@@ -36,25 +36,24 @@ number Question = 19
 number Bang = 20
 number ThinArrow = 21
 number Arrow = 22
+number Number = 23
 
 -- whether two kinds are the same
 abbrev pub is : TokenKind → TokenKind → Bool
 is a b = number a == number b
 
+-- whether a kind's tokens have words of their own: names and numbers
+abbrev pub has_word : TokenKind → Bool
+has_word kind = is Identifier kind || is Number kind
+
 -- the word of a token: its bytes in the text, and its place
 abbrev pub word_of : List ℕ → Token → Word
-word_of text token = record { text = take (token.end - token.start) (drop token.start text); at = token.start }
+word_of text token =
+    record { text = take (token.end - token.start) (drop token.start text); at = token.start }
 
+-- what a token is for the grammar
 abbrev pub symbol_of : List ℕ → Token → Symbol
-symbol_of text token = if is Identifier token.kind then name (word_of text token) else mark token.kind
-
--- a token lies in the text, and a name has at most 65,536 bytes
-pub record Lies (text : List ℕ) (token : Token) : Type 0 where
-  pub rising : token.start ≤ token.end
-  pub within : token.end ≤ length text
-  pub short : token.kind ≡ Identifier → token.end ≤ token.start + 65536
-
--- the tokens of a text lie in it, and there are at most 1,048,576 of them
-pub record Fit (text : List ℕ) (tokens : List Token) : Type 0 where
-  pub lie : AllByRecursion (Lies text) tokens
-  pub few : length tokens ≤ 1048576
+symbol_of text token =
+    if is Identifier token.kind then name (word_of text token) else
+    if is Number token.kind then digits (word_of text token) else
+    mark token.kind

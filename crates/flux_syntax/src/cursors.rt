@@ -2,23 +2,33 @@
 
 ghost use Rattle.std.specs.Prelude.{◌≡◌, ◌≤◌, ◌<◌, true, length, if◌then◌else◌, IfOk, IfErr, OnOk, map};
 ghost use Rattle.flux_syntax.specs.declared.cursors.Stop.TheVariants as Stop;
-ghost use Rattle.flux_syntax.specs.Symbols.{is, symbol_of, Fit};
-ghost use Rattle.flux_syntax.specs.Reading.{Reads, begins, kind_at, behind, name_at, mark_at};
+ghost use Rattle.flux_syntax.specs.Symbols.{is, word_of, symbol_of};
+ghost use Rattle.flux_syntax.specs.steps.Cursors.{Lies, Fit};
+ghost use Rattle.flux_syntax.specs.steps.Reading.{Reads, begins, kind_at, behind, name_at, number_at, mark_at};
 
 use crate::declarations::Word;
-use flux_lexer::{Token, TokenKind};
-use flux_values::{TextBytes, TextFault};
+use flux_lexer::{PROGRAM_LIMIT, Token, TokenKind};
+use flux_values::{Memory, TextBytes, TextFault};
 use std::alloc::Global;
 use std::marker::Model;
 
-/// Why reading stops: at a token that doesn't fit, which is then the next one, or for want of memory.
+/// Why reading stops: at a token that doesn't fit, which is then the next one, or for want of
+/// memory.
 #[derive(Clone, Copy, Debug, PartialEq, Eq)]
 pub enum Stop {
     Unexpected,
     Memory,
 }
 
-/// The tokens of a text that are left, seen as names and marks.
+impl From<Memory> for Stop {
+    ghost from_gives = { λ _ stop. stop ≡ Stop.Memory };
+
+    fn from(_e: Memory) -> Stop {
+        Stop::Memory
+    }
+}
+
+/// The tokens of a text that are left, seen as names, numbers and marks.
 #[derive(Debug, Drop)]
 pub struct Cursor<'a> {
     alloc: Global,
@@ -28,7 +38,8 @@ pub struct Cursor<'a> {
 
 impl<'a> Model for Cursor<'a> {
     ghost use Rattle.std.specs.Prelude.{List, map};
-    ghost use Rattle.flux_syntax.specs.Symbols.{Symbol, symbol_of, Fit};
+    ghost use Rattle.flux_syntax.specs.Symbols.{Symbol, symbol_of};
+    ghost use Rattle.flux_syntax.specs.steps.Cursors.{Fit};
 
     ghost Value = { List Symbol };
 
@@ -43,13 +54,17 @@ fn is(a: TokenKind, b: TokenKind) -> bool
     a == b
 }
 
-fn copy(alloc: Global, name: &[u8]) -> Result<TextBytes, Stop>
-    requires { length name.now ≤ 65536 }
-    ensures copied { IfOk result (λ copied. copied ≡ name.now) }
+/// The word of a token.
+fn word(alloc: Global, text: &[u8], token: Token) -> Result<Word, Stop>
+    requires { Lies text.now token }
+    ensures copied { IfOk result (λ word. word ≡ word_of text.now token) }
     ensures memory { IfErr result (λ stop. stop ≡ Stop.Memory) }
 {
-    match TextBytes::copy(alloc, name) {
-        Ok(copied) => Ok(copied),
+    match TextBytes::copy(alloc, &text[token.start as usize..token.end as usize]) {
+        Ok(text) => Ok(Word {
+            text,
+            at: token.start,
+        }),
         Err(TextFault::TooLong) => unreachable!(),
         Err(TextFault::Memory) => Err(Stop::Memory),
     }
@@ -102,7 +117,7 @@ impl<'a> Cursor<'a> {
         ensures value { result ≡ begins kind self.old }
         ensures rest { self.new ≡ (if begins kind self.old then behind self.old else self.old) }
         ensures shorter { result ≡ true → length self.new < length self.old }
-        ensures few { length self.old ≤ 1048576 }
+        ensures few { length self.old ≤ PROGRAM_LIMIT }
     {
         match self.tokens {
             [first, rest @ ..] if is(kind, first.kind) => {
@@ -132,13 +147,24 @@ impl<'a> Cursor<'a> {
     {
         match self.tokens {
             [first, rest @ ..] if is(TokenKind::Identifier, first.kind) => {
-                let text = copy(
-                    self.alloc,
-                    &self.text[first.start as usize..first.end as usize],
-                )?;
-                let at = first.start;
+                let name = word(self.alloc, self.text, *first)?;
                 self.tokens = rest;
-                Ok(Word { text, at })
+                Ok(name)
+            }
+            _ => Err(Stop::Unexpected),
+        }
+    }
+
+    /// The number that is next.
+    pub fn number(&mut self) -> Result<Word, Stop>
+        ensures read { Reads result self.new (number_at self.old) }
+        ensures shorter { OnOk result (length self.new < length self.old) }
+    {
+        match self.tokens {
+            [first, rest @ ..] if is(TokenKind::Number, first.kind) => {
+                let number = word(self.alloc, self.text, *first)?;
+                self.tokens = rest;
+                Ok(number)
             }
             _ => Err(Stop::Unexpected),
         }

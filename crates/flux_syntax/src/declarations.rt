@@ -6,7 +6,7 @@ ghost use Rattle.flux_syntax.specs.Words.{spelling};
 use flux_values::{Bytes, List, Memory, Mode, TextBytes};
 use std::alloc::Global;
 
-/// A name, and the place of its first byte in the text, from 0.
+/// A name or a number as it is spelled, and the place of its first byte in the text, from 0.
 #[derive(Debug, Drop)]
 pub struct Word {
     pub text: TextBytes,
@@ -68,9 +68,10 @@ pub enum Decl {
         name: Word,
         function: Word,
     },
-    /// `handle error Node => Handler;`
+    /// `handle error Node => Handler;`, or of these codes `handle error Node:(1, 2) => Handler;`.
     Handler {
         node: Word,
+        codes: List<Word>,
         handler: Word,
     },
     /// `atomic Node:{name, other?(session)};`

@@ -2,11 +2,11 @@
 
 ghost use Rattle.std.specs.Prelude.{◌≡◌, ◌++◌, ◌≤◌, OnOk, IfOk, codes, replicate, length};
 ghost use Rattle.flux_syntax.specs.Again.{AreOfText, Gives};
-ghost use Rattle.std.specs.List.{flat_map};
 ghost use Rattle.flux_syntax.specs.declared.declarations.Decl.TheVariants as decl;
-ghost use Rattle.flux_syntax.specs.Formatted.{joined, param_text, params_text, pattern_text, patterns_text, word_text, members_text, mode_text, scope_text, constraint_text, line_of, formatted};
+ghost use Rattle.flux_syntax.specs.Formatted.{others, joined, param_text, params_text, pattern_text, patterns_text, word_text, codes_text, mode_text, scope_text, constraint_text, line_of, formatted};
 
 use crate::declarations::{Constraint, Decl, Param, Word};
+use flux_lexer::PROGRAM_LIMIT;
 use flux_values::{Bytes, List, Memory, Mode};
 use std::alloc::Global;
 
@@ -89,7 +89,7 @@ fn append_scope(out: &mut Bytes, session: bool) -> Result<(), Memory>
 }
 
 fn append_others<T: Written>(out: &mut Bytes, between: &[u8], items: &[T]) -> Result<(), Memory>
-    ensures { OnOk result (out.new ≡ out.old ++ flat_map (λ item. between.now ++ T.text item) items.now) }
+    ensures { OnOk result (out.new ≡ out.old ++ others between.now T.text items.now) }
 {
     for item in items {
         out.append(between)?;
@@ -131,6 +131,19 @@ fn append_patterns(out: &mut Bytes, patterns: &Option<List<Option<Word>>>) -> Re
     }
 }
 
+fn append_codes(out: &mut Bytes, codes: &List<Word>) -> Result<(), Memory>
+    ensures { OnOk result (out.new ≡ out.old ++ codes_text codes.now) }
+{
+    match codes.as_slice() {
+        [] => Ok(()),
+        codes => {
+            out.append(b":(")?;
+            append_joined(out, b", ", codes)?;
+            out.append(b")")
+        }
+    }
+}
+
 /// A line of two names.
 fn append_pair(
     out: &mut Bytes,
@@ -139,7 +152,8 @@ fn append_pair(
     middle: &[u8],
     second: &Word,
 ) -> Result<(), Memory>
-    ensures { OnOk result (out.new ≡ out.old ++ (start.now ++ (first.now.text ++ (middle.now ++ (second.now.text ++ codes ";\n"))))) }
+    ensures { let end = middle.now ++ (second.now.text ++ codes ";\n") in
+        OnOk result (out.new ≡ out.old ++ (start.now ++ (first.now.text ++ end))) }
 {
     out.append(start)?;
     first.append_to(out)?;
@@ -154,7 +168,8 @@ fn append_signature(
     ins: &List<Param>,
     outs: &List<Param>,
 ) -> Result<(), Memory>
-    ensures { OnOk result (out.new ≡ out.old ++ line_of (decl.Signature name.now ins.now outs.now)) }
+    ensures { let line = line_of (decl.Signature name.now ins.now outs.now) in
+        OnOk result (out.new ≡ out.old ++ line) }
 {
     name.append_to(out)?;
     out.append(b" ")?;
@@ -170,7 +185,8 @@ fn append_flow(
     patterns: &Option<List<Option<Word>>>,
     members: &List<Word>,
 ) -> Result<(), Memory>
-    ensures { OnOk result (out.new ≡ out.old ++ line_of (decl.Flow name.now patterns.now members.now)) }
+    ensures { let line = line_of (decl.Flow name.now patterns.now members.now) in
+        OnOk result (out.new ≡ out.old ++ line) }
 {
     name.append_to(out)?;
     append_patterns(out, patterns)?;
@@ -179,8 +195,26 @@ fn append_flow(
     out.append(b";\n")
 }
 
+fn append_handler(
+    out: &mut Bytes,
+    node: &Word,
+    codes: &List<Word>,
+    handler: &Word,
+) -> Result<(), Memory>
+    ensures { let line = line_of (decl.Handler node.now codes.now handler.now) in
+        OnOk result (out.new ≡ out.old ++ line) }
+{
+    out.append(b"handle error ")?;
+    node.append_to(out)?;
+    append_codes(out, codes)?;
+    out.append(b" => ")?;
+    handler.append_to(out)?;
+    out.append(b";\n")
+}
+
 fn append_atomic(out: &mut Bytes, node: &Word, constraints: &List<Constraint>) -> Result<(), Memory>
-    ensures { OnOk result (out.new ≡ out.old ++ line_of (decl.Atomic node.now constraints.now)) }
+    ensures { let line = line_of (decl.Atomic node.now constraints.now) in
+        OnOk result (out.new ≡ out.old ++ line) }
 {
     out.append(b"atomic ")?;
     node.append_to(out)?;
@@ -201,9 +235,11 @@ fn append_line(out: &mut Bytes, decl: &Decl) -> Result<(), Memory>
         } => append_flow(out, name, patterns, members),
         Decl::Source { name, target } => append_pair(out, b"source ", name, b" => ", target),
         Decl::Typedef { name, function } => append_pair(out, b"typedef ", name, b" ", function),
-        Decl::Handler { node, handler } => {
-            append_pair(out, b"handle error ", node, b" => ", handler)
-        }
+        Decl::Handler {
+            node,
+            codes,
+            handler,
+        } => append_handler(out, node, codes, handler),
         Decl::Atomic { node, constraints } => append_atomic(out, node, constraints),
         Decl::Session { source, function } => append_pair(
             out,
@@ -215,12 +251,13 @@ fn append_line(out: &mut Bytes, decl: &Decl) -> Result<(), Memory>
     }
 }
 
-/// The formatted text: a line for each declaration. Comments and odd spacing are gone. Where it has at most 1,048,576
-/// bytes, it is parsed to the same declarations apart from places, and formatted it is the same text.
+/// The formatted text: a line for each declaration. Comments and odd spacing are gone. Where it
+/// isn't too long for a program, it is parsed to the same declarations apart from places, and
+/// formatted it is the same text.
 pub fn format(alloc: Global, decls: &List<Decl>) -> Result<Bytes, Memory>
     requires { AreOfText decls.now }
     ensures text { IfOk result (λ text. text ≡ formatted decls.now) }
-    ensures again { IfOk result (λ text. length text ≤ 1048576 → Gives decls.now text) }
+    ensures again { IfOk result (λ text. length text ≤ PROGRAM_LIMIT → Gives decls.now text) }
 {
     let mut out = Bytes::new(alloc);
     for decl in decls.as_slice() {

@@ -1,7 +1,8 @@
 //! The declarations of a program, from its tokens and back to text.
 //!
-//! `parse` gives the declarations that the tokens spell by the grammar, or the first token that no program has
-//! there. `format` gives their one formatted text, which is parsed to the same declarations.
+//! `parse` gives the declarations that the tokens spell by the grammar, or the first token that no
+//! program has there. `read` does so of a text. `format` gives the one formatted text of
+//! declarations, which is parsed to the same declarations.
 #![tactic(auto)]
 
 mod cursors;

@@ -1,22 +1,25 @@
 //! Declarations, by recursive descent.
 
-ghost use Rattle.std.specs.Prelude.{◌≡◌, ◌≤◌, ◌<◌, ◌-◌, ℕ, List, drop, OnOk, IfOk, IfErr, length};
+ghost use Rattle.std.specs.Prelude.{◌≡◌, ◌≤◌, ◌<◌, ◌-◌, drop, OnOk, IfOk, IfErr, length};
+ghost use Rattle.flux_faults.specs.Faults.{IsPlacedIn};
 ghost use Rattle.flux_lexer.specs.Texts.{AreTokensOf};
-ghost use Rattle.flux_syntax.specs.declared.declarations.Decl.{Decl};
-ghost use Rattle.flux_syntax.specs.Declares.{Spell};
-ghost use Rattle.flux_syntax.specs.Unexpected.{IsUnexpected, IsFaultOf, AreDeclsOrMemory, IsFaultOrMemory};
-ghost use Rattle.flux_syntax.specs.Reading.{place_at, Reads, got, param_at, pattern_at, constraint_at, name_at, mode_at, mark_after, scope_at, stars_at, params_at, cases_at, members_at, signature_at, flow_at, named_at, source_at, typedef_at, handler_at, atomic_at, session_at, declaration_at, program_at};
+ghost use Rattle.flux_syntax.specs.Counted.{words_of};
+ghost use Rattle.flux_syntax.specs.Declares.{Spell, HasOneReading};
+ghost use Rattle.flux_syntax.specs.Unexpected.{IsFaultOf, GivesDecls, GivesUnexpected};
+ghost use Rattle.flux_syntax.specs.steps.Reading.{place_at, Reads, got, param_at, pattern_at, constraint_at, name_at, number_at, mode_at, mark_after, scope_at, stars_at, params_at, cases_at, members_at, signature_at, flow_at, named_at, source_at, typedef_at, codes_at, handler_at, atomic_at, session_at, declaration_at, program_at};
 
 use crate::cursors::{Cursor, Stop};
 use crate::declarations::{Constraint, Decl, Param, Word};
-use crate::lists::{Listed, list};
+use crate::lists::{Reader, list};
 use flux_faults::{CheckFault, FaultKind, StaticFault};
-use flux_lexer::{Token, TokenKind};
-use flux_values::{List, Mode};
+use flux_lexer::{PROGRAM_LIMIT, Token, TokenKind};
+use flux_values::{List, Memory, Mode};
 use std::alloc::Global;
 
 /// `param = IDENT { "*" } IDENT`
-impl Listed for Param {
+struct ParamReader;
+
+impl Reader<Param> for ParamReader {
     ghost read = { param_at };
 
     fn read(cursor: &mut Cursor) -> Result<Param, Stop> {
@@ -40,7 +43,9 @@ fn stars(cursor: &mut Cursor) -> u32
 }
 
 /// `pattern = "_" | IDENT`
-impl Listed for Option<Word> {
+struct PatternReader;
+
+impl Reader<Option<Word>> for PatternReader {
     ghost read = { pattern_at };
 
     fn read(cursor: &mut Cursor) -> Result<Option<Word>, Stop> {
@@ -53,7 +58,9 @@ impl Listed for Option<Word> {
 }
 
 /// A member of a flow is a name.
-impl Listed for Word {
+struct MemberReader;
+
+impl Reader<Word> for MemberReader {
     ghost read = { name_at };
 
     fn read(cursor: &mut Cursor) -> Result<Word, Stop> {
@@ -61,8 +68,21 @@ impl Listed for Word {
     }
 }
 
+/// A code is a number.
+struct CodeReader;
+
+impl Reader<Word> for CodeReader {
+    ghost read = { number_at };
+
+    fn read(cursor: &mut Cursor) -> Result<Word, Stop> {
+        cursor.number()
+    }
+}
+
 /// `constraint = IDENT [ mark ] [ scope ] | IDENT scope mark`
-impl Listed for Constraint {
+struct ConstraintReader;
+
+impl Reader<Constraint> for ConstraintReader {
     ghost read = { constraint_at };
 
     fn read(cursor: &mut Cursor) -> Result<Constraint, Stop> {
@@ -127,7 +147,7 @@ fn params(cursor: &mut Cursor) -> Result<List<Param>, Stop>
 {
     cursor.mark(TokenKind::OpenParen)?;
     let params = if cursor.is_next(TokenKind::Identifier) {
-        list(cursor, TokenKind::Comma)?
+        list::<Param, ParamReader>(cursor, TokenKind::Comma)?
     } else {
         List::new(cursor.alloc())
     };
@@ -156,7 +176,7 @@ fn patterns(cursor: &mut Cursor) -> Result<Option<List<Option<Word>>>, Stop>
         return Ok(None);
     }
     cursor.mark(TokenKind::OpenBracket)?;
-    let patterns = list(cursor, TokenKind::Comma)?;
+    let patterns = list::<Option<Word>, PatternReader>(cursor, TokenKind::Comma)?;
     cursor.mark(TokenKind::CloseBracket)?;
     Ok(Some(patterns))
 }
@@ -167,7 +187,7 @@ fn members(cursor: &mut Cursor) -> Result<List<Word>, Stop>
     ensures shorter { OnOk result (length cursor.new ≤ length cursor.old) }
 {
     if cursor.is_next(TokenKind::Identifier) {
-        list(cursor, TokenKind::ThinArrow)
+        list::<Word, MemberReader>(cursor, TokenKind::ThinArrow)
     } else {
         Ok(List::new(cursor.alloc()))
     }
@@ -227,7 +247,21 @@ fn typedef(cursor: &mut Cursor) -> Result<Decl, Stop>
     Ok(Decl::Typedef { name, function })
 }
 
-/// `handler = "handle" "error" IDENT "=>" IDENT ";"`
+/// `[ ":" "(" NUMBER { "," NUMBER } ")" ]`
+fn codes(cursor: &mut Cursor) -> Result<List<Word>, Stop>
+    ensures read { Reads result cursor.new (codes_at cursor.old) }
+    ensures shorter { OnOk result (length cursor.new ≤ length cursor.old) }
+{
+    if !cursor.takes(TokenKind::Colon) {
+        return Ok(List::new(cursor.alloc()));
+    }
+    cursor.mark(TokenKind::OpenParen)?;
+    let codes = list::<Word, CodeReader>(cursor, TokenKind::Comma)?;
+    cursor.mark(TokenKind::CloseParen)?;
+    Ok(codes)
+}
+
+/// `handler = "handle" "error" IDENT codes "=>" IDENT ";"`
 fn handler(cursor: &mut Cursor) -> Result<Decl, Stop>
     ensures read { Reads result cursor.new (handler_at cursor.old) }
     ensures shorter { OnOk result (length cursor.new < length cursor.old) }
@@ -235,10 +269,15 @@ fn handler(cursor: &mut Cursor) -> Result<Decl, Stop>
     cursor.mark(TokenKind::Handle)?;
     cursor.mark(TokenKind::Error)?;
     let node = cursor.name()?;
+    let codes = codes(cursor)?;
     cursor.mark(TokenKind::Arrow)?;
     let handler = cursor.name()?;
     cursor.mark(TokenKind::Semicolon)?;
-    Ok(Decl::Handler { node, handler })
+    Ok(Decl::Handler {
+        node,
+        codes,
+        handler,
+    })
 }
 
 /// `atomic = "atomic" IDENT ":" "{" constraint { "," constraint } "}" ";"`
@@ -250,7 +289,7 @@ fn atomic(cursor: &mut Cursor) -> Result<Decl, Stop>
     let node = cursor.name()?;
     cursor.mark(TokenKind::Colon)?;
     cursor.mark(TokenKind::OpenBrace)?;
-    let constraints = list(cursor, TokenKind::Comma)?;
+    let constraints = list::<Constraint, ConstraintReader>(cursor, TokenKind::Comma)?;
     cursor.mark(TokenKind::CloseBrace)?;
     cursor.mark(TokenKind::Semicolon)?;
     Ok(Decl::Atomic { node, constraints })
@@ -293,7 +332,7 @@ fn declarations(cursor: &mut Cursor) -> Result<List<Decl>, Stop>
     while cursor.len() > 0 {
         let decl = declaration(cursor)?;
         if decls.push(decl).is_err() {
-            return Err(Stop::Memory);
+            Err(Memory)?;
         }
     }
     Ok(decls)
@@ -301,7 +340,7 @@ fn declarations(cursor: &mut Cursor) -> Result<List<Decl>, Stop>
 
 /// The place of the first of so many last tokens, or the end of the text.
 fn place(text: &[u8], tokens: &[Token], left: usize) -> u32
-    requires few { length text.now ≤ 1048576 }
+    requires few { length text.now ≤ PROGRAM_LIMIT }
     requires some { left ≤ length tokens.now }
     ensures { result ≡ place_at (length text.now) (drop (length tokens.now - left) tokens.now) }
 {
@@ -311,18 +350,20 @@ fn place(text: &[u8], tokens: &[Token], left: usize) -> u32
     }
 }
 
-/// The declarations that the tokens spell; or `Unexpected`, at the first token such that no program begins with those up to
-/// it, or at the end of the text.
+/// The declarations that the tokens spell; or `Unexpected`, at the first token such that no program
+/// begins with those up to it, or at the end of the text.
 pub fn parse(alloc: Global, text: &[u8], tokens: &List<Token>) -> Result<List<Decl>, CheckFault>
     requires { AreTokensOf tokens.now text.now }
     // What is answered holds of the tokens,
     ensures parsed { IfOk result (Spell text.now tokens.now) }
+    ensures few { IfOk result (λ decls. words_of decls ≤ PROGRAM_LIMIT) }
     ensures fault { IfErr result (IsFaultOf text.now tokens.now) }
+    ensures placed { IfErr result (IsPlacedIn text.now) }
     // and what holds of them is answered, unless memory is short.
-    ensures decls { (decls : List Decl) → Spell text.now tokens.now decls → AreDeclsOrMemory decls result }
-    ensures stands { (at : ℕ) → IsUnexpected at text.now tokens.now → IsFaultOrMemory at result }
+    ensures decls { GivesDecls text.now tokens.now result }
+    ensures stands { GivesUnexpected text.now tokens.now result }
     // The grammar is unambiguous.
-    ensures one { (decls others : List Decl) → Spell text.now tokens.now decls → Spell text.now tokens.now others → decls ≡ others }
+    ensures one { HasOneReading text.now tokens.now }
 {
     let mut cursor = Cursor::new(alloc, text, tokens.as_slice());
     match declarations(&mut cursor) {

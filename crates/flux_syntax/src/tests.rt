@@ -1,6 +1,6 @@
 //! Texts and their declarations, from the grammar.
 
-use crate::{Constraint, Decl, Param, Word, format, parse, read};
+use crate::{Constraint, Decl, Param, Word, fault_at, format, parse, read};
 use flux_faults::{CheckFault, FaultKind};
 use flux_lexer::{Token, TokenKind, tokens};
 use flux_values::{List, Mode};
@@ -19,6 +19,7 @@ Nothing_two:[hit]=;\n\
 source Listen=>Page; source Tick => Page_two;\n\
 typedef hit TestInCache;\n\
 handle error Read_all=>FourOhFour;\n\
+handle error Write:( 1,02 , 300)=>FourOhFour;\n\
 atomic Write:{cache,users?,log!,pages(session),names?(session),books(session)?,notes !(session), rolls (session)!};\n\
 session Listen=>ByConn;";
 
@@ -33,6 +34,7 @@ source Listen => Page;\n\
 source Tick => Page_two;\n\
 typedef hit TestInCache;\n\
 handle error Read_all => FourOhFour;\n\
+handle error Write:(1, 02, 300) => FourOhFour;\n\
 atomic Write:{cache, users?, log, pages(session), names?(session), books?(session), notes(session), rolls(session)};\n\
 session Listen => ByConn;\n";
 
@@ -50,8 +52,13 @@ fn assert_refused(rt: &impl Abort, alloc: Global, text: &[u8], kind: FaultKind, 
 fn the_least_of_the_first_four_faults_is_answered(rt: HostRuntime) {
     let table = [
         (b"A = B $ C;".as_slice(), FaultKind::BadByte, 6),
-        (b"A B /* $", FaultKind::BadByte, 7),
+        (b"A B /* $", FaultKind::UnclosedComment, 4),
+        (b"A B $ /*", FaultKind::BadByte, 4),
         (b"A B /*", FaultKind::UnclosedComment, 4),
+        (b"/*", FaultKind::UnclosedComment, 0),
+        (b"/* $", FaultKind::UnclosedComment, 0),
+        (b"/*/", FaultKind::UnclosedComment, 0),
+        (b"A = B; /* don't", FaultKind::UnclosedComment, 7),
         (b"A B // /*", FaultKind::Unexpected, 2),
     ];
     for (text, kind, at) in table {
@@ -115,6 +122,21 @@ fn a_token_that_no_program_has_there_is_refused_at_its_place(rt: HostRuntime) {
         (b"typedef a => b;", 10),
         (b"handle A => B;", 7),
         (b"handle error A B;", 15),
+        (b"handle error N:() => H;", 16),
+        (b"handle error N:(a) => H;", 16),
+        (b"handle error N:(1,) => H;", 18),
+        (b"handle error N:(1 2) => H;", 18),
+        (b"handle error N:(1a) => H;", 17),
+        (b"handle error N:[1] => H;", 15),
+        (b"handle error N: => H;", 16),
+        (b"handle error N(1) => H;", 14),
+        (b"handle error N:(1);", 18),
+        (b"handle error 1 => H;", 13),
+        (b"handle error N:(1) => 2;", 22),
+        (b"A = 1;", 4),
+        (b"A (int 1) => ();", 7),
+        (b"A:[1] = B;", 3),
+        (b"1 = B;", 0),
         (b"atomic A:{};", 10),
         (b"atomic A:{x,};", 12),
         (b"atomic A:[x];", 9),
@@ -163,7 +185,7 @@ fn assert_cut_off(rt: &impl Abort, alloc: Global, token: Token) {
 fn a_program_cut_off_within_a_declaration_ends_too_early(rt: HostRuntime) {
     match tokens(rt.alloc(), EVERY_FORM) {
         Ok(tokens) => {
-            assert_eq!(rt; tokens.as_slice().len(), 128);
+            assert_eq!(rt; tokens.as_slice().len(), 142);
             for token in tokens.as_slice() {
                 assert_cut_off(&rt, rt.alloc(), *token);
             }
@@ -178,6 +200,94 @@ fn every_form_is_formatted_and_parsed_back(rt: HostRuntime) {
     assert_formatted(&rt, rt.alloc(), FORMATTED, FORMATTED);
     assert_formatted(&rt, rt.alloc(), b"", b"");
     assert_formatted(&rt, rt.alloc(), b" /* nothing */ // at all", b"");
+}
+
+#[test]
+fn odd_spacing_is_gone_and_numbers_keep_their_spelling(rt: HostRuntime) {
+    let table = [
+        (
+            b"atomic  A:{x!,y ?(session)} ; B:[_,hit]=;".as_slice(),
+            b"atomic A:{x, y?(session)};\nB:[_, hit] = ;\n".as_slice(),
+        ),
+        (
+            b"handle error N:(1, 2) => H;",
+            b"handle error N:(1, 2) => H;\n",
+        ),
+        (
+            b"handle  error N : (01,99999999999999999999)=>H ;",
+            b"handle error N:(01, 99999999999999999999) => H;\n",
+        ),
+        (
+            b"handle error N:(0 ,1,1)=>H;",
+            b"handle error N:(0, 1, 1) => H;\n",
+        ),
+    ];
+    for (text, formatted) in table {
+        assert_formatted(&rt, rt.alloc(), text, formatted);
+    }
+}
+
+fn assert_handler(rt: &impl Abort, decls: &List<Decl>) {
+    match decls.as_slice() {
+        [
+            Decl::Handler {
+                node,
+                codes,
+                handler,
+            },
+            Decl::Handler { codes: none, .. },
+        ] => {
+            assert_word(rt, node, b"N", 13);
+            assert_word(rt, handler, b"H", 29);
+            match codes.as_slice() {
+                [first, second] => {
+                    assert_word(rt, first, b"1", 16);
+                    assert_word(rt, second, b"007", 20);
+                }
+                _ => assert!(rt; false, "other codes"),
+            }
+            assert!(rt; none.as_slice().is_empty());
+        }
+        _ => assert!(rt; false, "other declarations"),
+    }
+}
+
+#[test]
+fn handlers_keep_their_codes_with_places(rt: HostRuntime) {
+    let text = b"handle error N:(1 , 007)  => H; handle error N => H;";
+    match read(rt.alloc(), text) {
+        Ok(decls) => assert_handler(&rt, &decls),
+        Err(_) => assert!(rt; false, "refused"),
+    }
+}
+
+#[test]
+fn a_type_is_spelled_with_its_stars(rt: HostRuntime) -> Result<(), Fail> {
+    let alloc = rt.alloc();
+    match read(alloc, b"A (int a, char * *b) => ();") {
+        Ok(decls) => match decls.as_slice() {
+            [Decl::Signature { ins, .. }] => {
+                let wanted = [b"int".as_slice(), b"char**"];
+                for (param, spelling) in ins.as_slice().iter().zip(&wanted) {
+                    assert!(rt; param.spelling(alloc)?.as_bytes() == *spelling);
+                }
+            }
+            _ => assert!(rt; false, "other declarations"),
+        },
+        Err(_) => assert!(rt; false, "refused"),
+    }
+    Ok(())
+}
+
+#[test]
+fn a_fault_of_a_row_has_its_kind_and_place(rt: HostRuntime) {
+    match fault_at(rt.alloc(), FaultKind::BadCode, 16) {
+        CheckFault::Static(fault) => {
+            assert_eq!(rt; (fault.kind, fault.at), (FaultKind::BadCode, 16));
+            assert!(rt; fault.path.as_slice().is_empty());
+        }
+        CheckFault::Memory => assert!(rt; false, "memory"),
+    }
 }
 
 fn assert_word(rt: &impl Abort, word: &Word, text: &[u8], at: u32) {

@@ -33,7 +33,7 @@ module _ (names : List (List ℕ)) (sigs : ℕ → NodeSig) where
       ∙ sym (soonest_append place (unjoined by_word members) (join_types by_word decls))
   joins_is place (Source name target ∷ decls) = joins_is place decls
   joins_is place (Typedef name function ∷ decls) = joins_is place decls
-  joins_is place (Handler node handler ∷ decls) = joins_is place decls
+  joins_is place (Handler node codes handler ∷ decls) = joins_is place decls
   joins_is place (Atomic node constraints ∷ decls) = joins_is place decls
   joins_is place (Session source function ∷ decls) = joins_is place decls
 
@@ -44,6 +44,6 @@ module _ (names : List (List ℕ)) (sigs : ℕ → NodeSig) where
   sources_is (Signature name ins outs ∷ decls) = sources_is decls
   sources_is (Flow name patterns members ∷ decls) = sources_is decls
   sources_is (Typedef name function ∷ decls) = sources_is decls
-  sources_is (Handler node handler ∷ decls) = sources_is decls
+  sources_is (Handler node codes handler ∷ decls) = sources_is decls
   sources_is (Atomic node constraints ∷ decls) = sources_is decls
   sources_is (Session source function ∷ decls) = sources_is decls

@@ -35,7 +35,7 @@ lines_many kind names (Signature name ins outs ∷ decls) = ap suc (lines_many k
 lines_many kind names (Flow name patterns members ∷ decls) = ap suc (lines_many kind names decls)
 lines_many kind names (Source name target ∷ decls) = lines_many kind names decls
 lines_many kind names (Typedef name function ∷ decls) = lines_many kind names decls
-lines_many kind names (Handler node handler ∷ decls) = lines_many kind names decls
+lines_many kind names (Handler node codes handler ∷ decls) = lines_many kind names decls
 lines_many kind names (Atomic node constraints ∷ decls) = lines_many kind names decls
 lines_many kind names (Session source function ∷ decls) = lines_many kind names decls
 

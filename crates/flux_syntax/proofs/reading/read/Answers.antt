@@ -1,23 +1,29 @@
-use Rattle.flux_syntax.proofs.Texts.{few_with, refused_with, decls_with, stands_with, refused_without, decls_without, stands_without}
+use Rattle.std.proofs.lemmas.Result.{err_from_is_err_and}
+use Rattle.flux_syntax.proofs.Texts.{refused_with, decls_with, stands_with, refused_without, decls_without, stands_without}
 use Rattle.flux_syntax.proofs.reading.read.Goals as goal
 
-pub returns-in-Ok-clause-fault : goal.returns-in-Ok-clause-fault
-returns-in-Ok-clause-fault c = refused_with c.args.text.now c.in-Ok.tokens c.parse.result c.in-Ok.ensures.read c.parse.ensures.fault
+pub returns-in_err-tokens-clause-fault : goal.returns-in_err-tokens-clause-fault
+returns-in_err-tokens-clause-fault c =
+    let passed = err_from_is_err_and c.from_residual.result c.from_residual.ensures.1 in
+    let said = c.in_err-tokens.ensures in
+    rw (passed.1, passed.2) (refused_without c.args.text.now c.in_err-tokens.field-0.0 said.fault said.placed)
 
-pub returns-in-Ok-clause-decls : goal.returns-in-Ok-clause-decls
-returns-in-Ok-clause-decls c decls declared = decls_with c.args.text.now c.in-Ok.tokens c.parse.result c.in-Ok.ensures.tokens c.parse.ensures.decls decls declared
+pub returns-in_err-tokens-clause-decls : goal.returns-in_err-tokens-clause-decls
+returns-in_err-tokens-clause-decls c decls declared =
+    let passed = err_from_is_err_and c.from_residual.result c.from_residual.ensures.1 in
+    rw (passed.1, passed.2) (decls_without c.args.text.now c.in_err-tokens.field-0.0 c.in_err-tokens.ensures.tokens decls declared)
 
-pub returns-in-Ok-clause-stands : goal.returns-in-Ok-clause-stands
-returns-in-Ok-clause-stands c kind at faulty = stands_with c.args.text.now c.in-Ok.tokens c.parse.result c.in-Ok.ensures.tokens c.in-Ok.ensures.stands c.parse.ensures.fault c.parse.ensures.stands kind at faulty
+pub returns-in_err-tokens-clause-stands : goal.returns-in_err-tokens-clause-stands
+returns-in_err-tokens-clause-stands c kind at faulty =
+    let passed = err_from_is_err_and c.from_residual.result c.from_residual.ensures.1 in
+    let said = c.in_err-tokens.ensures in
+    rw (passed.1, passed.2) (stands_without c.args.text.now c.in_err-tokens.field-0.0 said.tokens said.stands kind at faulty)
 
-pub returns-in-Err-clause-fault : goal.returns-in-Err-clause-fault
-returns-in-Err-clause-fault c = refused_without c.args.text.now c.in-Err.fault c.in-Err.ensures.fault
+pub returns-clause-fault : goal.returns-clause-fault
+returns-clause-fault c = refused_with c.args.text.now c.in_ok-tokens.tokens c.parse.result c.in_ok-tokens.ensures.read c.parse.ensures.fault c.parse.ensures.placed
 
-pub returns-in-Err-clause-decls : goal.returns-in-Err-clause-decls
-returns-in-Err-clause-decls c decls declared = decls_without c.args.text.now c.in-Err.fault c.in-Err.ensures.tokens decls declared
+pub returns-clause-decls : goal.returns-clause-decls
+returns-clause-decls c decls declared = decls_with c.args.text.now c.in_ok-tokens.tokens c.parse.result c.in_ok-tokens.ensures.tokens c.parse.ensures.decls decls declared
 
-pub returns-in-Err-clause-stands : goal.returns-in-Err-clause-stands
-returns-in-Err-clause-stands c kind at faulty = stands_without c.args.text.now c.in-Err.fault c.in-Err.ensures.tokens c.in-Err.ensures.stands kind at faulty
-
-pub returns-in-Ok-clause-few : goal.returns-in-Ok-clause-few
-returns-in-Ok-clause-few c = few_with c.args.text.now c.in-Ok.tokens c.parse.result c.in-Ok.ensures.read c.parse.ensures.parsed
+pub returns-clause-stands : goal.returns-clause-stands
+returns-clause-stands c kind at faulty = stands_with c.args.text.now c.in_ok-tokens.tokens c.parse.result c.in_ok-tokens.ensures.tokens c.in_ok-tokens.ensures.stands c.parse.ensures.fault c.parse.ensures.stands kind at faulty

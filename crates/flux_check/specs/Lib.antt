@@ -1,4 +1,0 @@
-pub mod Rows
-pub mod Judgement
-pub mod Summing
-pub mod Steps

@@ -1,7 +1,0 @@
--- A place moves on by one byte.
-use Rattle.std.specs.Prelude.{ℕ, ◌+◌, ◌==◌, if◌then◌else◌}
-use Rattle.flux_faults.specs.declared.faults.Place.{Place}
-
--- an LF begins the next line
-abbrev pub next_place : Place → ℕ → Place
-next_place place byte = if byte == 10 then record { line = place.line + 1; column = 1 } else record { line = place.line; column = place.column + 1 }
