@@ -11,19 +11,22 @@ use Rattle.flux_model.specs.Children.{IsIn}
 use Rattle.flux_graph.specs.declared.steps.Step.{Step}
 use Rattle.flux_graph.specs.declared.steps.Step.TheVariants.{Enter, Leave}
 use Rattle.flux_graph.specs.declared.returning.Return.{Return}
-use Rattle.flux_graph.specs.Visits.{with_number}
-use Rattle.flux_graph.specs.Reaching.{IsKnown}
+use Rattle.flux_graph.specs.steps.Visits.{IsKnown, with_number}
 use Rattle.flux_model.specs.Ordering.{AreDistinct, IsLed, LeadsOn, HasCycle, IsLowestCycle}
-use Rattle.flux_graph.specs.Searching.{enters, leaves_of}
-use Rattle.flux_graph.specs.Search.{FollowsOn, AreLed}
-use Rattle.flux_graph.specs.Returning.{IsAhead, BeginsWith, moved, and_step, Seeks, IsAfter, IsWayBack}
+use Rattle.flux_graph.specs.steps.Searching.{enters, leaves_of}
+use Rattle.flux_graph.specs.steps.Search.{FollowsOn, AreLed}
+use Rattle.flux_graph.specs.steps.Returning.{IsAhead, BeginsWith, moved, and_step, Seeks, IsAfter, IsWayBack}
 use Rattle.flux_graph.proofs.Visiting.{known_or, known_more, known_new}
+use Rattle.std.proofs.Math.Nat.{eq-or-lt_of_le}
+use Rattle.std.proofs.lemmas.Bool.{cases_lt}
+use Rattle.flux_model.proofs.LeadingLemmas.{leads_on-within}
+use Rattle.flux_model.proofs.NodeLists.{in_front, in_either}
 use Rattle.flux_graph.proofs.Stepping as stepping
 use Rattle.flux_graph.proofs.Stepping.{last_of}
 use Rattle.flux_graph.proofs.Finding.{leaves_with, leaves_same}
 use Rattle.flux_graph.proofs.Moves.{follows_below, distinct_more, not_known}
-use Rattle.flux_graph.proofs.Circles.{end_of, led_both, path_led, last_from, same_or_less}
-use Rattle.flux_graph.proofs.Ends.{leads_on_within, entered_grows, none_twice, none_known}
+use Rattle.flux_graph.proofs.Circles.{end_of, led_both, path_led, last_from}
+use Rattle.flux_graph.proofs.Ends.{entered_grows, none_twice, none_known}
 
 -- ---- nodes ahead
 
@@ -73,7 +76,7 @@ passed_leave nodes start s node h = record {
   led = stepping.led_front nodes None s.steps (Leave node ∷ []) h.led;
   leaves = stepping.distinct_front (leaves_of s.steps) (node ∷ []) (subst AreDistinct (leaves_with s.steps node) h.leaves);
   begins = begins_front start s.steps (Leave node ∷ []) h.begins;
-  inside = λ x i. h.inside x (subst (IsIn x) (sym (leaves_with s.steps node)) (stepping.in_before x (leaves_of s.steps) (node ∷ []) i));
+  inside = λ x i. h.inside x (subst (IsIn x) (sym (leaves_with s.steps node)) (in_front x (leaves_of s.steps) (node ∷ []) i));
   covered = λ x y k i. from y (h.covered x y k i);
   unique = h.unique;
   within = h.within;
@@ -120,7 +123,7 @@ went_on nodes start s node all h other new = record {
   led = subst (AreLed nodes None) joined (stepping.led_join nodes None s.steps next (stepping.led_front nodes None s.steps (Enter node ∷ []) h.led) (follows, stepping.led_enters nodes node.0 into (λ x i. i)));
   leaves = subst AreDistinct (sym same) (stepping.distinct_last (leaves_of s.steps) node (subst AreDistinct before h.leaves) (λ i. not_known node.0 s.entered new (h.inside node.0 (subst (IsIn node.0) (sym before) i))));
   begins = subst (BeginsWith start) joined (begins_on start node s.steps next h.begins);
-  inside = λ x i. opened x (stepping.in_either x (leaves_of s.steps) (node ∷ []) (subst (IsIn x) same i));
+  inside = λ x i. opened x (in_either x (leaves_of s.steps) (node ∷ []) (subst (IsIn x) same i));
   covered = λ x y k i. from x y i (known_or x s.entered node.0 k);
   unique = distinct_more s.entered node.0 h.unique;
   within = λ x k. bounded x (known_or x s.entered node.0 k);
@@ -207,30 +210,21 @@ no_way_back nodes start s h empty w = ends start.0 h.started w.between w.led
 
 -- ---- the lowest of all
 
-le_or_less : (a b : ℕ) → (a ≤ b) ⊎ (b < a)
-le_or_less zero b = inl (omega arith)
-le_or_less (suc a) zero = inr (omega arith)
-le_or_less (suc a) (suc b) = up (le_or_less a b)
-  where
-    up : (a ≤ b) ⊎ (b < a) → (suc a ≤ suc b) ⊎ (suc b < suc a)
-    up (inl le) = inl (omega (arith, le))
-    up (inr lt) = inr (omega (arith, lt))
-
 pub is_lowest : (nodes : List Node) (start : NodeNo) (path : List NodeNo) → ((x : ℕ) → x < start.0 → LeadsOn nodes x x → ⊥) → IsWayBack nodes start path → IsLowestCycle nodes path
 is_lowest nodes start path none w = record {
   cycle = record { first = start; others = w.others; is = w.is; led = w.led; distinct = w.distinct };
-  lowest = λ number on. reach number on (le_or_less start.0 number);
+  lowest = λ number on. reach number on (cases_lt number start.0);
 }
   where
-    reach : (number : ℕ) → LeadsOn nodes number number → (start.0 ≤ number) ⊎ (number < start.0) → start.0 ≤ number
-    reach number on (inl le) = le
-    reach number on (inr lt) = absurd (none number lt on)
+    reach : (number : ℕ) → LeadsOn nodes number number → (number < start.0) ⊎ (start.0 ≤ number) → start.0 ≤ number
+    reach number on (inl lt) = absurd (none number lt on)
+    reach number on (inr le) = le
 
 pub none_at_all : (nodes : List Node) (number : ℕ) → length nodes ≤ number → ((x : ℕ) → x < number → LeadsOn nodes x x → ⊥) → HasCycle nodes → ⊥
-none_at_all nodes number over none (from, on) = none from (omega (arith, over, leads_on_within nodes from from on)) on
+none_at_all nodes number over none (from, on) = none from (omega (arith, over, leads_on-within nodes from from on)) on
 
 pub none_more : (nodes : List Node) (number m : ℕ) → m ≡ number → ((x : ℕ) → x < number → LeadsOn nodes x x → ⊥) → (LeadsOn nodes m m → ⊥) → (x : ℕ) → x < number + 1 → LeadsOn nodes x x → ⊥
-none_more nodes number m same none own x lt way = from (same_or_less x number (omega (arith, lt)))
+none_more nodes number m same none own x lt way = from (eq-or-lt_of_le (omega (arith, lt)))
   where
     from : (x ≡ number) ⊎ (x < number) → ⊥
     from (inl e) = own (subst (λ (n : ℕ). LeadsOn nodes n n) (e ∙ sym same) way)

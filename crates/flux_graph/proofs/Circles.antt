@@ -9,10 +9,10 @@ use Rattle.flux_graph.specs.declared.steps.Step.{Step}
 use Rattle.flux_graph.specs.declared.steps.Step.TheVariants.{Enter, Leave}
 use Rattle.flux_graph.specs.declared.ordering.Search.{Search}
 use Rattle.flux_model.specs.Leading.{leads_in}
-use Rattle.flux_graph.specs.Reaching.{IsKnown}
+use Rattle.flux_graph.specs.steps.Visits.{IsKnown}
 use Rattle.flux_model.specs.Ordering.{IsLed, HasCycle}
-use Rattle.flux_graph.specs.Searching.{leaves_of}
-use Rattle.flux_graph.specs.Search.{FollowsOn, AreLed, Holds, with_step}
+use Rattle.flux_graph.specs.steps.Searching.{leaves_of}
+use Rattle.flux_graph.specs.steps.Search.{FollowsOn, AreLed, Holds, with_step}
 use Rattle.flux_graph.proofs.Stepping as stepping
 use Rattle.flux_graph.proofs.Stepping.{last_of}
 use Rattle.flux_graph.proofs.Finding.{leaves_same}
@@ -96,18 +96,6 @@ first_of x (n ∷ nodes) (inr i) = later (first_of x nodes i)
   where
     later : First x nodes → First x (n ∷ nodes)
     later f = record { front = n ∷ f.front; node = f.node; tail = f.tail; is = ap (λ (l : List NodeNo). n ∷ l) f.is; same = f.same }
-
--- ---- numbers
-
-pub same_or_less : (k x : ℕ) → k ≤ x → (k ≡ x) ⊎ (k < x)
-same_or_less zero zero le = inl refl
-same_or_less zero (suc x) le = inr (omega arith)
-same_or_less (suc k) zero le = absurd (omega (arith, le))
-same_or_less (suc k) (suc x) le = up (same_or_less k x (omega (arith, le)))
-  where
-    up : (k ≡ x) ⊎ (k < x) → (suc k ≡ suc x) ⊎ (suc k < suc x)
-    up (inl e) = inl (ap (λ (n : ℕ). suc n) e)
-    up (inr lt) = inr (omega (arith, lt))
 
 -- ---- the circle that a search finds
 

@@ -9,37 +9,29 @@ use Rattle.flux_model.specs.Numbered.{AreBelow}
 use Rattle.flux_model.specs.Children.{IsIn}
 use Rattle.flux_graph.specs.declared.steps.Step.{Step}
 use Rattle.flux_graph.specs.declared.ordering.Search.{Search}
-use Rattle.flux_graph.specs.Visits.{with_number}
-use Rattle.flux_graph.specs.Reaching.{IsKnown}
+use Rattle.flux_graph.specs.steps.Visits.{IsKnown, with_number}
 use Rattle.flux_model.specs.Ordering.{ComeAfter, AreDistinct, IsOrder, IsLed, LeadsOn, HasCycle}
-use Rattle.flux_graph.specs.Searching.{enters, leaves_of, numbered}
-use Rattle.flux_graph.specs.Search.{HasStep, Covered, AreLed, Holds, IsBegun, IsNext, entered}
+use Rattle.flux_graph.specs.steps.Searching.{enters, leaves_of, numbered}
+use Rattle.flux_graph.specs.steps.Search.{HasStep, Covered, AreLed, Holds, IsBegun, IsNext, entered}
 use Rattle.flux_graph.proofs.Moves.{node_entered}
+use Rattle.std.proofs.Math.Nat.{eq-or-lt_of_le}
+use Rattle.flux_model.proofs.LeadingLemmas.{leads_on-within}
+use Rattle.flux_model.proofs.NodeLists.{in_front, in_behind, in_either}
 use Rattle.flux_graph.proofs.Stepping as stepping
 
 -- ---- where it begins
 
 numbered_in : (count x : ℕ) → x < count → IsIn x (numbered count)
 numbered_in zero x lt = absurd (omega (arith, lt))
-numbered_in (suc n) x lt = from (compare_to x n (omega (arith, lt))) (λ l. numbered_in n x l)
+numbered_in (suc n) x lt = from (eq-or-lt_of_le (omega (arith, lt))) (λ l. numbered_in n x l)
   where
-    compare_to : (a b : ℕ) → a ≤ b → (a ≡ b) ⊎ (a < b)
-    compare_to zero zero le = inl refl
-    compare_to zero (suc b) le = inr (omega arith)
-    compare_to (suc a) zero le = absurd (omega (arith, le))
-    compare_to (suc a) (suc b) le = up (compare_to a b (omega (arith, le)))
-      where
-        up : (a ≡ b) ⊎ (a < b) → (suc a ≡ suc b) ⊎ (suc a < suc b)
-        up (inl e) = inl (ap (λ (m : ℕ). suc m) e)
-        up (inr l) = inr (omega (arith, l))
-
     from : (x ≡ n) ⊎ (x < n) → (x < n → IsIn x (numbered n)) → IsIn x (numbered n ++ record { 0 = n } ∷ [])
-    from (inl e) more = stepping.in_behind x (numbered n) (record { 0 = n } ∷ []) (inl e)
-    from (inr l) more = stepping.in_before x (numbered n) (record { 0 = n } ∷ []) (more l)
+    from (inl e) more = in_behind x (numbered n) (record { 0 = n } ∷ []) (inl e)
+    from (inr l) more = in_front x (numbered n) (record { 0 = n } ∷ []) (more l)
 
 numbered_below : (count x : ℕ) → IsIn x (numbered count) → x < count
 numbered_below zero x i = absurd i
-numbered_below (suc n) x i = from (stepping.in_either x (numbered n) (record { 0 = n } ∷ []) i) (λ j. numbered_below n x j)
+numbered_below (suc n) x i = from (in_either x (numbered n) (record { 0 = n } ∷ []) i) (λ j. numbered_below n x j)
   where
     from : IsIn x (numbered n) ⊎ IsIn x (record { 0 = n } ∷ []) → (IsIn x (numbered n) → x < n) → x < suc n
     from (inl j) less = omega (arith, less j)
@@ -114,20 +106,8 @@ no_way nodes before (n ∷ order) closed (lt, new, led, a) from (inl e) mid back
     ends [] (j, r) = led back.0 (subst (λ (z : ℕ). IsIn back.0 (leads_in nodes z)) e j)
     ends (m ∷ mid) (j, r) = stays nodes before m.0 mid back closed (led m.0 (subst (λ (z : ℕ). IsIn m.0 (leads_in nodes z)) e j)) r
 
-pub leads_within : (nodes : List Node) (from x : ℕ) → IsIn x (leads_in nodes from) → from < length nodes
-leads_within [] from x i = absurd i
-leads_within (node ∷ nodes) zero x i = omega arith
-leads_within (node ∷ nodes) (suc from) x i = omega (arith, leads_within nodes from x i)
-
-pub leads_on_within : (nodes : List Node) (from to : ℕ) → LeadsOn nodes from to → from < length nodes
-leads_on_within nodes from to w = begins w.between w.led
-  where
-    begins : (mid : List NodeNo) → IsLed nodes from (mid ++ record { 0 = to } ∷ []) → from < length nodes
-    begins [] (j, r) = leads_within nodes from to j
-    begins (m ∷ mid) (j, r) = leads_within nodes from m.0 j
-
 pub no_cycle : (nodes : List Node) (order : List NodeNo) → IsOrder nodes order → HasCycle nodes → ⊥
-no_cycle nodes order o (from, w) = no_way nodes [] order (λ x y i j. absurd i) o.after from (o.each from (leads_on_within nodes from from w)) w.between (record { 0 = from }) refl w.led
+no_cycle nodes order o (from, w) = no_way nodes [] order (λ x y i j. absurd i) o.after from (o.each from (leads_on-within nodes from from w)) w.between (record { 0 = from }) refl w.led
 
 -- ---- a turn of the search
 

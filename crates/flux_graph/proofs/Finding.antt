@@ -7,8 +7,9 @@ use Rattle.flux_graph.specs.declared.steps.Step.{Step}
 use Rattle.flux_graph.specs.declared.steps.Step.TheVariants.{Enter, Leave}
 use Rattle.flux_model.specs.Leading.{leads_in}
 use Rattle.flux_model.specs.Ordering.{ComeAfter}
-use Rattle.flux_graph.specs.Searching.{enters, leaves_of, numbered}
-use Rattle.flux_graph.specs.Search.{HasStep}
+use Rattle.flux_graph.specs.steps.Searching.{enters, leaves_of, numbered}
+use Rattle.flux_graph.specs.steps.Search.{HasStep}
+use Rattle.flux_model.proofs.NodeLists.{in_front}
 use Rattle.flux_graph.proofs.Stepping as stepping
 use Rattle.flux_graph.proofs.Stepping.{IsReplaced, last_of}
 
@@ -40,7 +41,7 @@ gone node order i x (inl e) = inl (subst (λ (n : ℕ). IsIn n order) (sym e) i)
 gone node order i x (inr h) = absurd h
 
 pub grown : (order : List NodeNo) (node : NodeNo) (x : ℕ) → IsIn x order → IsIn x (order ++ node ∷ [])
-grown order node x i = stepping.in_before x order (node ∷ []) i
+grown order node x i = in_front x order (node ∷ []) i
 
 -- roots stay where the last steps are replaced
 pub roots_on : (nodes : List Node) (order later : List NodeNo) (s old new : List Step) → ((x : ℕ) → IsIn x order → IsIn x later) → IsReplaced later old new → ((x : ℕ) → x < length nodes → IsIn x order ⊎ HasStep x (s ++ old)) → (x : ℕ) → x < length nodes → IsIn x later ⊎ HasStep x (s ++ new)
@@ -70,8 +71,3 @@ pub roots_more : (s : List Step) (n m : ℕ) → n ≡ m → s ≡ enters (numbe
 roots_more s n m same e =
     let one : m + 1 ≡ suc m = omega arith in
     rw (one, same, e) (sym (stepping.enters_append (numbered m) (record { 0 = m } ∷ [])))
-
-pub leads_beyond : (nodes : List Node) (n : ℕ) → length nodes ≤ n → leads_in nodes n ≡ []
-leads_beyond [] n le = refl
-leads_beyond (node ∷ nodes) zero le = absurd (omega (arith, le))
-leads_beyond (node ∷ nodes) (suc n) le = leads_beyond nodes n (omega (arith, le))

@@ -5,6 +5,7 @@ pub mod Moves
 pub mod Circles
 pub mod Ends
 pub mod Descending
+pub mod ClearingLemmas
 pub mod Back
 pub mod Depths
 pub mod Fillings

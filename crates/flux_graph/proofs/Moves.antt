@@ -11,12 +11,13 @@ use Rattle.flux_model.specs.Children.{IsIn}
 use Rattle.flux_graph.specs.declared.steps.Step.{Step}
 use Rattle.flux_graph.specs.declared.steps.Step.TheVariants.{Enter, Leave}
 use Rattle.flux_graph.specs.declared.ordering.Search.{Search}
-use Rattle.flux_graph.specs.Visits.{with_number}
-use Rattle.flux_graph.specs.Reaching.{IsKnown}
+use Rattle.flux_graph.specs.steps.Visits.{IsKnown, with_number}
 use Rattle.flux_model.specs.Ordering.{AreDistinct}
-use Rattle.flux_graph.specs.Searching.{enters, leaves_of}
-use Rattle.flux_graph.specs.Search.{HasStep, Covered, FollowsOn, AreLed, Holds, left, entered, with_step}
+use Rattle.flux_graph.specs.steps.Searching.{enters, leaves_of}
+use Rattle.flux_graph.specs.steps.Search.{HasStep, Covered, FollowsOn, AreLed, Holds, left, entered, with_step}
 use Rattle.flux_graph.proofs.Visiting.{known_or, known_more, known_new}
+use Rattle.flux_model.proofs.LeadingLemmas.{led-below_count}
+use Rattle.flux_model.proofs.NodeLists.{in_front, in_behind, in_either}
 use Rattle.flux_graph.proofs.Stepping as stepping
 use Rattle.flux_graph.proofs.Stepping.{IsReplaced, last_of}
 use Rattle.flux_graph.proofs.Finding.{after_more, roots_on, gone, grown, leaves_with, leaves_same}
@@ -66,9 +67,9 @@ node_left nodes s node h = record {
   after = after_more nodes [] s.order node h.after (h.within node.0 (h.entered node.0 inside)) (λ i. i) (λ i. h.apart node.0 i inside) (λ x i. inl (stepping.covered_last nodes s.order s.steps node h.covered x i));
   known = λ x i. kept x (h.known x i);
   done = λ x k. finished x (known_or x s.done node.0 k);
-  ordered = λ x i. listed x (stepping.in_either x s.order (node ∷ []) i);
-  entered = λ x i. h.entered x (back x (stepping.in_before x (leaves_of s.steps) (node ∷ []) i));
-  apart = λ x i j. other x j (stepping.in_either x s.order (node ∷ []) i);
+  ordered = λ x i. listed x (in_either x s.order (node ∷ []) i);
+  entered = λ x i. h.entered x (back x (in_front x (leaves_of s.steps) (node ∷ []) i));
+  apart = λ x i j. other x j (in_either x s.order (node ∷ []) i);
   unique = h.unique;
   within = h.within;
 }
@@ -86,10 +87,10 @@ node_left nodes s node h = record {
     back x i = in_same x (leaves_of s.steps ++ node ∷ []) (leaves_of (s.steps ++ Leave node ∷ [])) (sym (leaves_with s.steps node)) i
 
     inside : IsIn node.0 (leaves_of (s.steps ++ Leave node ∷ []))
-    inside = back node.0 (stepping.in_behind node.0 (leaves_of s.steps) (node ∷ []) (inl refl))
+    inside = back node.0 (in_behind node.0 (leaves_of s.steps) (node ∷ []) (inl refl))
 
     replaced : (x : ℕ) → HasStep x (Leave node ∷ []) → IsIn x (s.order ++ node ∷ []) ⊎ HasStep x []
-    replaced x (inl e) = inl (stepping.in_behind x s.order (node ∷ []) (inl e))
+    replaced x (inl e) = inl (in_behind x s.order (node ∷ []) (inl e))
     replaced x (inr i) = absurd i
 
     own : (x : ℕ) → IsIn x (node ∷ []) → x ≡ node.0
@@ -102,35 +103,25 @@ node_left nodes s node h = record {
 
     kept : (x : ℕ) → IsKnown x s.done ⊎ IsIn x (leaves_of (s.steps ++ Leave node ∷ [])) → IsKnown x (with_number s.done node.0) ⊎ IsIn x (leaves_of s.steps)
     kept x (inl i) = inl (known_more x s.done node.0 i)
-    kept x (inr i) = stays x (stepping.in_either x (leaves_of s.steps) (node ∷ []) (in_same x (leaves_of (s.steps ++ Leave node ∷ [])) (leaves_of s.steps ++ node ∷ []) (leaves_with s.steps node) i))
+    kept x (inr i) = stays x (in_either x (leaves_of s.steps) (node ∷ []) (in_same x (leaves_of (s.steps ++ Leave node ∷ [])) (leaves_of s.steps ++ node ∷ []) (leaves_with s.steps node) i))
 
     finished : (x : ℕ) → IsKnown x s.done ⊎ (x ≡ node.0) → IsIn x (s.order ++ node ∷ [])
     finished x (inl k) = grown s.order node x (h.done x k)
-    finished x (inr e) = stepping.in_behind x s.order (node ∷ []) (inl e)
+    finished x (inr e) = in_behind x s.order (node ∷ []) (inl e)
 
     listed : (x : ℕ) → IsIn x s.order ⊎ IsIn x (node ∷ []) → IsKnown x s.entered
     listed x (inl i) = h.ordered x i
     listed x (inr i) = subst (λ (n : ℕ). IsKnown n s.entered) (sym (own x i)) (h.entered node.0 inside)
 
     other : (x : ℕ) → IsIn x (leaves_of s.steps) → IsIn x s.order ⊎ IsIn x (node ∷ []) → ⊥
-    other x j (inl i) = h.apart x i (back x (stepping.in_before x (leaves_of s.steps) (node ∷ []) j))
+    other x j (inl i) = h.apart x i (back x (in_front x (leaves_of s.steps) (node ∷ []) j))
     other x j (inr i) = stepping.distinct_apart (leaves_of s.steps) node both (subst (λ (n : ℕ). IsIn n (leaves_of s.steps)) (own x i) j)
 
 -- ---- a node is entered
 
-pub leads_below : (count : ℕ) (nodes : List Node) (from x : ℕ) → AllByRecursion (λ node. AreBelow count (leads_to node)) nodes → IsIn x (leads_in nodes from) → x < count
-leads_below count [] from x all i = absurd i
-leads_below count (node ∷ nodes) zero x (own, all) i = among (leads_to node) own i
-  where
-    among : (led : List NodeNo) → AreBelow count led → IsIn x led → x < count
-    among [] b i = absurd i
-    among (n ∷ led) (lt, b) (inl e) = subst (λ (m : ℕ). m < count) (sym e) lt
-    among (n ∷ led) (lt, b) (inr i) = among led b i
-leads_below count (node ∷ nodes) (suc from) x (own, all) i = leads_below count nodes from x all i
-
 pub follows_below : (nodes : List Node) (from : Option ℕ) (x : ℕ) → AllByRecursion (λ node. AreBelow (length nodes) (leads_to node)) nodes → FollowsOn nodes from x → x < length nodes
 follows_below nodes None x all f = f
-follows_below nodes (Some from) x all f = leads_below (length nodes) nodes from x all f
+follows_below nodes (Some from) x all f = led-below_count (length nodes) nodes from x all f
 
 unlike_more : (v : List ℕ) (m n : ℕ) → AllByRecursion (λ y. eqb m y ≡ false) v → eqb m n ≡ false → AllByRecursion (λ y. eqb m y ≡ false) (v ++ n ∷ [])
 unlike_more [] m n all e = (e, tt)
@@ -163,8 +154,8 @@ node_entered nodes s node all h new = record {
   known = λ x k. kept x (known_or x s.entered node.0 k);
   done = h.done;
   ordered = λ x i. known_more x s.entered node.0 (h.ordered x i);
-  entered = λ x i. opened x (stepping.in_either x (leaves_of s.steps) (node ∷ []) (subst (IsIn x) same i));
-  apart = λ x i j. other x i (stepping.in_either x (leaves_of s.steps) (node ∷ []) (subst (IsIn x) same j));
+  entered = λ x i. opened x (in_either x (leaves_of s.steps) (node ∷ []) (subst (IsIn x) same i));
+  apart = λ x i j. other x i (in_either x (leaves_of s.steps) (node ∷ []) (subst (IsIn x) same j));
   unique = distinct_more s.entered node.0 h.unique;
   within = λ x k. bounded x (known_or x s.entered node.0 k);
 }
@@ -215,11 +206,11 @@ node_entered nodes s node all h new = record {
 
     was : (x : ℕ) → IsKnown x s.done ⊎ IsIn x (leaves_of (s.steps ++ Enter node ∷ [])) → IsKnown x s.done ⊎ IsIn x (leaves_of ((s.steps ++ Leave node ∷ []) ++ enters (leads_in nodes node.0)))
     was x (inl i) = inl i
-    was x (inr i) = inr (there x (stepping.in_before x (leaves_of s.steps) (node ∷ []) (subst (IsIn x) before i)))
+    was x (inr i) = inr (there x (in_front x (leaves_of s.steps) (node ∷ []) (subst (IsIn x) before i)))
 
     kept : (x : ℕ) → IsKnown x s.entered ⊎ (x ≡ node.0) → IsKnown x s.done ⊎ IsIn x (leaves_of ((s.steps ++ Leave node ∷ []) ++ enters (leads_in nodes node.0)))
     kept x (inl k) = was x (h.known x k)
-    kept x (inr e) = inr (there x (stepping.in_behind x (leaves_of s.steps) (node ∷ []) (inl e)))
+    kept x (inr e) = inr (there x (in_behind x (leaves_of s.steps) (node ∷ []) (inl e)))
 
     opened : (x : ℕ) → IsIn x (leaves_of s.steps) ⊎ IsIn x (node ∷ []) → IsKnown x (with_number s.entered node.0)
     opened x (inl i) = known_more x s.entered node.0 (h.entered x (back x i))

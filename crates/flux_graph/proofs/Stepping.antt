@@ -3,12 +3,13 @@ use Rattle.std.proofs.Common.{◌≡◌, ℕ, ◌⊎◌, inl, inr, List, [], ◌
 use Rattle.flux_model.specs.declared.programs.NodeNo.{NodeNo}
 use Rattle.flux_model.specs.declared.programs.Node.{Node}
 use Rattle.flux_model.specs.Children.{IsIn}
+use Rattle.flux_model.proofs.NodeLists.{in_front, in_behind, in_either}
 use Rattle.flux_graph.specs.declared.steps.Step.{Step}
 use Rattle.flux_graph.specs.declared.steps.Step.TheVariants.{Enter, Leave}
 use Rattle.flux_model.specs.Leading.{leads_in}
 use Rattle.flux_model.specs.Ordering.{AreDistinct}
-use Rattle.flux_graph.specs.Searching.{enters, leaves_of}
-use Rattle.flux_graph.specs.Search.{HasStep, Covered, AreLed}
+use Rattle.flux_graph.specs.steps.Searching.{enters, leaves_of}
+use Rattle.flux_graph.specs.steps.Search.{HasStep, Covered, AreLed}
 
 -- ---- steps into nodes
 
@@ -49,26 +50,6 @@ pub step_into : (x : ℕ) (nodes : List NodeNo) → IsIn x nodes → HasStep x (
 step_into x [] i = absurd i
 step_into x (n ∷ nodes) (inl e) = inl e
 step_into x (n ∷ nodes) (inr i) = inr (step_into x nodes i)
-
--- ---- lists of nodes
-
-pub in_before : (x : ℕ) (a b : List NodeNo) → IsIn x a → IsIn x (a ++ b)
-in_before x [] b i = absurd i
-in_before x (n ∷ a) b (inl e) = inl e
-in_before x (n ∷ a) b (inr i) = inr (in_before x a b i)
-
-pub in_behind : (x : ℕ) (a b : List NodeNo) → IsIn x b → IsIn x (a ++ b)
-in_behind x [] b i = i
-in_behind x (n ∷ a) b i = inr (in_behind x a b i)
-
-pub in_either : (x : ℕ) (a b : List NodeNo) → IsIn x (a ++ b) → IsIn x a ⊎ IsIn x b
-in_either x [] b i = inr i
-in_either x (n ∷ a) b (inl e) = inl (inl e)
-in_either x (n ∷ a) b (inr i) = more (in_either x a b i)
-  where
-    more : IsIn x a ⊎ IsIn x b → IsIn x (n ∷ a) ⊎ IsIn x b
-    more (inl i) = inl (inr i)
-    more (inr i) = inr i
 
 -- ---- what is covered
 
@@ -146,7 +127,7 @@ leaves_enters (n ∷ into) = leaves_enters into
 
 pub distinct_front : (a b : List NodeNo) → AreDistinct (a ++ b) → AreDistinct a
 distinct_front [] b d = tt
-distinct_front (n ∷ a) b (own, d) = (λ i. own (in_before n.0 a b i), distinct_front a b d)
+distinct_front (n ∷ a) b (own, d) = (λ i. own (in_front n.0 a b i), distinct_front a b d)
 
 pub distinct_last : (a : List NodeNo) (node : NodeNo) → AreDistinct a → (IsIn node.0 a → ⊥) → AreDistinct (a ++ node ∷ [])
 distinct_last [] node d new = (λ i. i, tt)

@@ -1,1 +1,8 @@
+pub mod Visits
+pub mod Searching
+pub mod Search
+pub mod Stops
+pub mod Returning
+pub mod Clearing
+pub mod Descending
 pub mod Plain

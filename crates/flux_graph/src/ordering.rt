@@ -4,13 +4,13 @@ ghost use Rattle.std.specs.Prelude.{◌≡◌, ◌≤◌, OnOk, IfOk, IfErr};
 ghost use Rattle.flux_model.specs.Numbered.{IsNumbered};
 ghost use Rattle.flux_model.specs.Ordering.{IsOrder, HasCycle};
 ghost use Rattle.flux_graph.specs.declared.ordering.Stop.TheVariants as stops;
-ghost use Rattle.flux_graph.specs.Faults.{IsCyclic, IsFault};
-ghost use Rattle.flux_graph.specs.Searching.{enters, numbered};
-ghost use Rattle.flux_graph.specs.Search.{IsBegun, left, entered, Holds, IsNext};
+ghost use Rattle.flux_graph.specs.Faults.{IsFault};
+ghost use Rattle.flux_graph.specs.steps.Stops.{IsCyclic};
+ghost use Rattle.flux_graph.specs.steps.Search.{IsBegun, left, entered, Holds, IsNext};
 
 use crate::orders::{GraphFault, Order};
 use crate::returning::lowest_cycle;
-use crate::steps::{Step, add_step, enter_from};
+use crate::steps::{Step, enter_all, enter_below, leads_in};
 use crate::visits::Visits;
 use flux_model::{Node, NodeNo, Program};
 use flux_values::{List, Memory};
@@ -39,20 +39,6 @@ struct Search {
     order: List<NodeNo>,
 }
 
-/// Steps into all nodes.
-fn roots(alloc: Global, count: usize) -> Result<List<Step>, Memory>
-    requires few { count ≤ 1048576 }
-    ensures { IfOk result (λ steps. steps ≡ enters (numbered count)) }
-{
-    let mut steps = List::new(alloc);
-    let mut number = 0;
-    while number < count {
-        add_step(&mut steps, Step::Enter(NodeNo(number as u32)))?;
-        number += 1;
-    }
-    Ok(steps)
-}
-
 impl Search {
     /// All nodes are still to be entered.
     fn begin(alloc: Global, count: usize) -> Result<Search, Memory>
@@ -60,7 +46,7 @@ impl Search {
         ensures { IfOk result (IsBegun count) }
     {
         Ok(Search {
-            steps: roots(alloc, count)?,
+            steps: enter_below(alloc, count)?,
             entered: Visits::new(alloc),
             done: Visits::new(alloc),
             order: List::new(alloc),
@@ -71,18 +57,15 @@ impl Search {
         ensures { OnOk result (self.new ≡ left self.old node) }
     {
         self.done.add(node.0)?;
-        match self.order.push(node) {
-            Ok(()) => Ok(()),
-            Err(_) => Err(Memory),
-        }
+        self.order.add(node)
     }
 
     fn enter(&mut self, alloc: Global, nodes: &[Node], node: NodeNo) -> Result<(), Memory>
         ensures { OnOk result (self.new ≡ entered nodes.now self.old node) }
     {
         self.entered.add(node.0)?;
-        add_step(&mut self.steps, Step::Leave(node))?;
-        enter_from(alloc, &mut self.steps, nodes, node)
+        self.steps.add(Step::Leave(node))?;
+        enter_all(&mut self.steps, leads_in(alloc, nodes, node)?.as_slice())
     }
 
     /// The next node that is to be entered. Nodes with nothing left to enter are left on the way.
@@ -125,7 +108,7 @@ fn order_or_cycle(alloc: Global, p: &Program) -> Result<Order, Stop>
 }
 
 /// Each node once, after all that it leads to, or a cycle. The cycle is one through the lowest-numbered node that is on
-/// any cycle. To find it takes a search from each node with a lower number, where there is a cycle at all.
+/// any cycle.
 pub fn order(alloc: Global, p: &Program) -> Result<Order, GraphFault>
     requires numbered { IsNumbered p.now }
     ensures ordered { IfOk result (λ order. IsOrder p.now.nodes order.nodes) }

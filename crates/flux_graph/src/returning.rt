@@ -4,11 +4,13 @@ ghost use Rattle.std.specs.Prelude.{◌≡◌, ◌≤◌, ◌<◌, ◌++◌, ◌
 ghost use Rattle.std.specs.List.{AllByRecursion};
 ghost use Rattle.flux_model.specs.Leading.{leads_to};
 ghost use Rattle.flux_model.specs.Numbered.{AreBelow};
-ghost use Rattle.flux_graph.specs.Searching.{leaves_of};
+ghost use Rattle.flux_graph.specs.steps.Searching.{leaves_of};
 ghost use Rattle.flux_model.specs.Ordering.{HasCycle, IsLowestCycle};
-ghost use Rattle.flux_graph.specs.Returning.{moved, Seeks, IsAfter, IsBack};
+ghost use Rattle.flux_graph.specs.steps.Clearing.{AreOnNoCycle};
+ghost use Rattle.flux_graph.specs.steps.Returning.{moved, Seeks, IsAfter, IsBack};
 
-use crate::steps::{Step, add_step, enter_from, leaves};
+use crate::clearing::cleared;
+use crate::steps::{Step, enter_all, leads_in, leaves};
 use crate::visits::Visits;
 use flux_model::{Node, NodeNo};
 use flux_values::{List, Memory};
@@ -38,8 +40,8 @@ impl Return {
         ensures { OnOk result (self.new ≡ moved nodes.now self.old node) }
     {
         self.entered.add(node.0)?;
-        add_step(&mut self.steps, Step::Leave(node))?;
-        enter_from(alloc, &mut self.steps, nodes, node)
+        self.steps.add(Step::Leave(node))?;
+        enter_all(&mut self.steps, leads_in(alloc, nodes, node)?.as_slice())
     }
 
     /// The next node that hasn't been entered, or the one that the search began with.
@@ -67,10 +69,8 @@ fn path_back(alloc: Global, steps: &[Step], start: NodeNo) -> Result<List<NodeNo
     ensures { IfOk result (λ path. path ≡ leaves_of steps.now ++ start ∷ []) }
 {
     let mut path = leaves(alloc, steps)?;
-    match path.push(start) {
-        Ok(()) => Ok(path),
-        Err(_) => Err(Memory),
-    }
+    path.add(start)?;
+    Ok(path)
 }
 
 /// A way from a node over what nodes lead to, back to the node.
@@ -89,6 +89,24 @@ fn way_back(alloc: Global, nodes: &[Node], start: NodeNo) -> Result<Option<List<
     Ok(None)
 }
 
+/// A way back, unless it's clear that there is none.
+fn way_back_unless_cleared(
+    alloc: Global,
+    nodes: &[Node],
+    cleared: &Visits,
+    start: NodeNo,
+) -> Result<Option<List<NodeNo>>, Memory>
+    requires numbered { AllByRecursion (λ node. AreBelow (length nodes.now) (leads_to node)) nodes.now }
+    requires is_node { start.0 < length nodes.now }
+    requires cleared { AreOnNoCycle nodes.now cleared.now }
+    ensures { IfOk result (IsBack nodes.now start) }
+{
+    if cleared.has(start.0) {
+        return Ok(None);
+    }
+    way_back(alloc, nodes, start)
+}
+
 /// A cycle through the lowest-numbered node that is on any cycle.
 pub fn lowest_cycle(alloc: Global, nodes: &[Node]) -> Result<List<NodeNo>, Memory>
     requires few { length nodes.now ≤ 1048576 }
@@ -96,12 +114,16 @@ pub fn lowest_cycle(alloc: Global, nodes: &[Node]) -> Result<List<NodeNo>, Memor
     requires cycle { HasCycle nodes.now }
     ensures { IfOk result (IsLowestCycle nodes.now) }
 {
-    let mut number = 0;
-    while number < nodes.len() {
-        if let Some(path) = way_back(alloc, nodes, NodeNo(number as u32))? {
+    let cleared = cleared(alloc, nodes)?;
+    for number in 0..nodes.len() {
+        if let Some(path) = way_back_unless_cleared(
+            alloc,
+            nodes,
+            &cleared,
+            NodeNo(number as u32),
+        )? {
             return Ok(path);
         }
-        number += 1;
     }
-    Ok(List::new(alloc))
+    unreachable!()
 }

@@ -216,7 +216,11 @@ fn assert_below(
 ) -> Result<(), Memory> {
     assert!(rt; is_numbered(alloc, p)?);
     assert!(rt; (node as usize) < p.nodes.len());
-    assert_are(rt, &below(alloc, p, NodeNo(node))?, want);
+    match order(alloc, p) {
+        Ok(order) => assert_are(rt, &below(alloc, p, &order, NodeNo(node))?, want),
+        Err(GraphFault::Memory) => return Err(Memory),
+        Err(GraphFault::Cycle { path: _path }) => assert!(rt; false),
+    }
     Ok(())
 }
 

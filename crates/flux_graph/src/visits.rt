@@ -1,9 +1,10 @@
 //! Nodes that have been visited, each once, in the order of their first visits.
 
 ghost use Rattle.std.specs.Prelude.{◌≡◌, [], OnOk, length, slice_get, nat_eq};
-ghost use Rattle.std.specs.List.{list_any};
-ghost use Rattle.flux_graph.specs.Visits.{with_number};
+ghost use Rattle.std.specs.List.{list_any, list_all};
+ghost use Rattle.flux_graph.specs.steps.Visits.{with_number, with_all};
 
+use flux_model::NodeNo;
 use flux_values::Memory;
 use indexmap::IndexSet;
 use std::alloc::Global;
@@ -42,20 +43,33 @@ impl Visits {
         }
     }
 
+    /// Adds the numbers of nodes, one after the other.
+    pub fn add_all(&mut self, nodes: &[NodeNo]) -> Result<(), Memory>
+        ensures { OnOk result (self.new ≡ with_all self.old nodes.now) }
+    {
+        for node in nodes {
+            self.add(node.0)?;
+        }
+        Ok(())
+    }
+
     pub fn has(&self, number: u32) -> bool
         ensures { result ≡ list_any (nat_eq number) self.now }
     {
         self.set.contains(&number)
     }
 
+    pub fn has_all(&self, nodes: &[NodeNo]) -> bool
+        ensures { result ≡ list_all (λ node. list_any (nat_eq node.0) self.now) nodes.now }
+    {
+        nodes.iter().all(|node| self.has(node.0))
+    }
+
     /// The number at a place.
     pub fn get(&self, place: usize) -> Option<u32>
         ensures { result ≡ slice_get self.now place }
     {
-        match self.set.get_index(place) {
-            Some(number) => Some(*number),
-            None => None,
-        }
+        self.set.get_index(place).copied()
     }
 
     pub fn len(&self) -> usize

@@ -1,1 +1,4 @@
 pub mod Hoisting
+pub mod NodeLists
+pub mod LeadingLemmas
+pub mod BelowLemmas

@@ -1,63 +1,97 @@
--- What the calls answer is what the declarations' rows say.
-use Rattle.std.proofs.Common.{◌≡◌, ℕ, List, Option, None, refl, sym, ap, subst, ◌∙◌}
-use Rattle.flux_model.specs.declared.signatures.NodeSig.{NodeSig}
-use Rattle.flux_model.specs.declared.programs.NodeNo.{NodeNo}
-use Rattle.flux_model.specs.declared.programs.Node.{Node}
-use Rattle.flux_model.specs.declared.programs.SourceLine.{SourceLine}
-use Rattle.flux_model.specs.declared.named.Named.{Named}
-use Rattle.flux_model.specs.Soundness.{sig_at}
+-- What the calls find is what the rows say.
+use Rattle.std.proofs.Common.{◌≡◌, ℕ, List, [], ◌∷◌, length, replicate, Option, Some, None, refl, sym, ap, subst, ◌∙◌}
+use Rattle.std.specs.List.{fold, flat_map}
+use Rattle.flux_values.specs.Meanings.{LibraryMeaning}
 use Rattle.flux_faults.specs.declared.faults.FaultKind.{FaultKind}
-use Rattle.flux_faults.specs.declared.faults.FaultKind.TheVariants.{NoSignature, JoinTypes, SourceTypes}
-use Rattle.flux_graph.specs.declared.orders.Order.{Order}
-use Rattle.flux_graph.specs.Ordering.{IsOrder}
-use Rattle.flux_graph.specs.Tables.{put_all}
+use Rattle.flux_faults.specs.declared.faults.FaultKind.TheVariants.{NoSignature, SourceTypes, SessionTypes}
+use Rattle.flux_faults.specs.declared.faults.CheckFault.{CheckFault}
+use Rattle.flux_model.specs.declared.named.Named.{Named}
+use Rattle.flux_model.specs.declared.signatures.NodeSig.{NodeSig}
+use Rattle.flux_model.specs.declared.programs.Node.{Node}
+use Rattle.flux_model.specs.declared.programs.NodeNo.{NodeNo}
+use Rattle.flux_model.specs.declared.programs.SourceLine.{SourceLine}
+use Rattle.flux_model.specs.Kinds.{sig_at}
+use Rattle.flux_model.specs.Ordering.{IsOrder}
 use Rattle.flux_syntax.specs.declared.declarations.Decl.{Decl}
 use Rattle.flux_syntax.specs.Words.{names_of}
-use Rattle.flux_syntax.specs.ProgramOfText.{source_of, named_of}
-use Rattle.std.specs.List.{flat_map}
-use Rattle.flux_syntax.specs.Least.{soonest, fault_or, first_fault}
-use Rattle.flux_types.specs.Signatures.{Kinds, all_written, nodes_of, sig_of, AreSigs}
-use Rattle.flux_types.specs.Rows.{named_sig, no_signatures, join_types, source_types, sig_rows, source_rows}
-use Rattle.flux_types.specs.Filling.{put_node}
-use Rattle.flux_types.specs.Along.{joins_along, sources_along}
-use Rattle.flux_types.proofs.Written.{are_sigs, sig_is}
-use Rattle.flux_types.proofs.AlongDecls.{joins_is, sources_is}
+use Rattle.flux_syntax.specs.ProgramOfText.{named_of}
+use Rattle.flux_syntax.specs.Least.{Row, soonest, fault_or, first_fault, IsLeastFault}
+use Rattle.flux_types.specs.declared.predicates.Predicates.{Predicates}
+use Rattle.flux_types.specs.declared.flows.FlowPlaces.{FlowPlaces}
+use Rattle.flux_types.specs.Signatures.{nothing, sig_of, AreSigs}
+use Rattle.flux_types.specs.Rows.{WordSigs, word_sig, sigs_of, predicates_of, flow_rows, unlike_target, unlike_source, sig_rows, source_rows}
+use Rattle.flux_types.specs.Typing.{AreTyped}
+use Rattle.flux_types.specs.steps.Filling.{put_lines, put_node}
+use Rattle.flux_types.specs.steps.Passing.{kind_in, with_typedef, hollow_places, flow_passed, flow_fault, target_places, session_passed}
+use Rattle.flux_types.proofs.Written.{filled_sigs, sigs_same}
+use Rattle.flux_types.proofs.Passes.{flows_pass, sessions_pass, targets_pass, nodes_pass}
+use Rattle.flux_types.proofs.Told.{predicates_told}
 
--- one table says the same of every word
-sigs_same : (kind : Kinds) (decls : List Decl) (sigs : List NodeSig) → AreSigs kind decls sigs → sig_at sigs ≡ sig_of kind decls
-sigs_same kind decls sigs are = λ i number. sig_is kind decls sigs are number i
+module _ (meaning : LibraryMeaning) (decls : List Decl) where
+  words_same : (names : List (List ℕ)) (sigs table : List NodeSig) → names ≡ names_of decls → AreSigs meaning.kind decls sigs → table ≡ sigs → word_sig names (sig_at table) ≡ sigs_of meaning decls
+  words_same names sigs table is are same =
+      ap (λ (n : List (List ℕ)). word_sig n (sig_at table)) is ∙ ap (λ (s : List NodeSig). word_sig (names_of decls) (sig_at s)) same
+      ∙ ap (word_sig (names_of decls)) (sigs_same meaning.kind decls sigs are)
 
-pub joins_same : (kind : Kinds) (decls : List Decl) (sigs : List NodeSig) → AreSigs kind decls sigs → joins_along (sig_at sigs) None decls (nodes_of decls) ≡ soonest None (join_types (named_sig kind decls) decls)
-joins_same kind decls sigs are =
-    ap (λ (f : ℕ → NodeSig). joins_along f None decls (nodes_of decls)) (sigs_same kind decls sigs are) ∙ joins_is (names_of decls) (sig_of kind decls) None decls
+  -- the rows on flows
+  pub flows_found : (names : List (List ℕ)) (sigs : List NodeSig) (predicates : Predicates) (places : FlowPlaces)
+      → names ≡ names_of decls → AreSigs meaning.kind decls sigs
+      → predicates ≡ fold (with_typedef meaning) (record { names = []; kinds = [] }) decls
+      → places ≡ fold (flow_passed (word_sig names (sig_at sigs)) (kind_in predicates.names predicates.kinds)) (record { joins = None; counts = None; ends = None; predicates = None }) decls
+      → flow_fault places ≡ first_fault (flow_rows (sigs_of meaning decls) (predicates_of meaning decls) decls)
+  flows_found names sigs predicates places is are made passed =
+      let told : kind_in predicates.names predicates.kinds ≡ predicates_of meaning decls = ap (λ (p : Predicates). kind_in p.names p.kinds) made ∙ predicates_told meaning decls in
+      let start : FlowPlaces = record { joins = None; counts = None; ends = None; predicates = None } in
+      ap flow_fault (passed
+      ∙ ap (λ (s : WordSigs). fold (flow_passed s (kind_in predicates.names predicates.kinds)) start decls) (words_same names sigs sigs is are refl)
+      ∙ ap (λ p. fold (flow_passed (sigs_of meaning decls) p) start decls) told
+      ∙ flows_pass (sigs_of meaning decls) (predicates_of meaning decls) start decls)
 
-pub sources_same : (kind : Kinds) (decls : List Decl) (sigs : List NodeSig) → AreSigs kind decls sigs
-    → sources_along (sig_at sigs) decls (flat_map (source_of (names_of decls)) decls) ≡ source_types (named_sig kind decls) decls
-sources_same kind decls sigs are =
-    ap (λ (f : ℕ → NodeSig). sources_along f decls (flat_map (source_of (names_of decls)) decls)) (sigs_same kind decls sigs are) ∙ sources_is (names_of decls) (sig_of kind decls) decls
+  -- the rows on sources
+  pub sources_found : (named : Named) (names : List (List ℕ)) (sigs : List NodeSig) (lines : List SourceLine) (sites : List ℕ) (sessions targets : Option ℕ) (inner fault : Option (FaultKind × ℕ))
+      → named ≡ named_of decls → names ≡ names_of decls → AreSigs meaning.kind decls sigs → lines ≡ named.program.sources → sites ≡ named.sites.targets
+      → sessions ≡ fold (session_passed meaning (word_sig names (sig_at sigs))) None decls → targets ≡ target_places (sig_at sigs) None lines sites
+      → inner ≡ fault_or SessionTypes sessions None → fault ≡ fault_or SourceTypes targets inner → fault ≡ first_fault (source_rows meaning decls)
+  sources_found named names sigs lines sites sessions targets inner fault is same_names are same_lines same_sites s t i f =
+      let own_lines = same_lines ∙ ap (λ (n : Named). n.program.sources) is in
+      let own_sites = same_sites ∙ ap (λ (n : Named). n.sites.targets) is in
+      let least_session : sessions ≡ soonest None (flat_map (unlike_source meaning.session (sigs_of meaning decls)) decls) =
+          s ∙ ap (λ (w : WordSigs). fold (session_passed meaning w) None decls) (words_same names sigs sigs same_names are refl) ∙ sessions_pass meaning (sigs_of meaning decls) None decls in
+      let least_target : targets ≡ soonest None (flat_map (unlike_target (sigs_of meaning decls)) decls) =
+          t ∙ (rw (own_lines, own_sites, sigs_same meaning.kind decls sigs are) refl) ∙ targets_pass (names_of decls) (sig_of meaning.kind decls) decls decls None in
+      f ∙ (rw (i, least_session, least_target) refl)
 
--- ---- the signatures of a program in an order
+  -- the filled table is that of the program
+  pub sigs_are : (named : Named) (names : List (List ℕ)) (nodes : List Node) (order numbers : List NodeNo) (sigs : List NodeSig)
+      → named ≡ named_of decls → IsOrder named.program.nodes order → names ≡ names_of decls → nodes ≡ named.program.nodes → numbers ≡ order
+      → sigs ≡ fold (put_node nodes) (put_lines meaning.kind names decls (replicate (length names) nothing)) numbers
+      → AreSigs meaning.kind decls sigs
+  sigs_are named names nodes order numbers sigs is ordered same_names same_nodes same_order made =
+      let own = same_nodes ∙ ap (λ (n : Named). n.program.nodes) is in
+      let filled = filled_sigs meaning.kind decls order (subst (λ (n : Named). IsOrder n.program.nodes order) is ordered) in
+      subst (AreSigs meaning.kind decls) (sym (made ∙ (rw (own, same_order, same_names) refl))) filled
 
-module _ (kind : Kinds) (decls ds : List Decl) (named : Named) (nodes : List Node) (order : Order) (numbers : List NodeNo) (sigs : List NodeSig)
-    (is : named ≡ named_of decls) (ordered : IsOrder named.program.nodes order.nodes) (same_decls : ds ≡ decls) (same_nodes : nodes ≡ named.program.nodes) (same_order : numbers ≡ order.nodes)
-    (made : sigs ≡ put_all (put_node nodes) (all_written kind ds) numbers) where
-  own_nodes : nodes ≡ nodes_of decls
-  own_nodes = same_nodes ∙ ap (λ (n : Named). n.program.nodes) is
+  -- with the row on nodes
+  pub nodes_found : (named : Named) (nodes : List Node) (sites : List ℕ) (hollow : Option ℕ) (others fault : Option (FaultKind × ℕ))
+      → named ≡ named_of decls → nodes ≡ named.program.nodes → sites ≡ named.sites.nodes → hollow ≡ hollow_places None nodes sites
+      → others ≡ first_fault (flow_rows (sigs_of meaning decls) (predicates_of meaning decls) decls) → fault ≡ fault_or NoSignature hollow others
+      → fault ≡ first_fault (sig_rows meaning decls)
+  nodes_found named nodes sites hollow others fault is same_nodes same_sites h o f =
+      let own_nodes = same_nodes ∙ ap (λ (n : Named). n.program.nodes) is in
+      let own_sites = same_sites ∙ ap (λ (n : Named). n.sites.nodes) is in
+      let least = h ∙ (rw (own_nodes, own_sites) refl) ∙ nodes_pass decls in
+      f ∙ (rw (o, least) refl)
 
-  pub sigs_are : AreSigs kind decls sigs
-  sigs_are =
-      let filled = are_sigs kind decls order.nodes (subst (λ (n : Named). IsOrder n.program.nodes order.nodes) is ordered) in
-      subst (AreSigs kind decls) (sym (made ∙ (rw (own_nodes, same_decls, same_order) refl))) filled
+  -- no row stands
+  pub typed_is : (ds : List Decl) (sigs : List NodeSig) (fault : Option (FaultKind × ℕ)) → ds ≡ decls
+      → (AreSigs meaning.kind ds sigs) × (fault ≡ first_fault (sig_rows meaning ds)) → fault ≡ None → AreTyped meaning decls sigs
+  typed_is ds sigs fault same found none = record {
+    sound = sym (sym none ∙ found.1 ∙ ap (λ (l : List Decl). first_fault (sig_rows meaning l)) same);
+    are = subst (λ (l : List Decl). AreSigs meaning.kind l sigs) same found.0;
+  }
 
-  pub sigs_fault : (table : List NodeSig) (joins first : Option ℕ) (mid whole : Option (FaultKind × ℕ)) → table ≡ sigs → joins ≡ joins_along (sig_at table) None ds nodes → mid ≡ fault_or JoinTypes joins None → first ≡ soonest None (no_signatures ds) → whole ≡ fault_or NoSignature first mid
-      → whole ≡ first_fault (sig_rows kind decls)
-  sigs_fault table joins first mid whole t j m f w =
-      let join : joins ≡ soonest None (join_types (named_sig kind decls) decls) = j ∙ (rw (t, same_decls, own_nodes) refl) ∙ joins_same kind decls sigs sigs_are in
-      w ∙ (rw (f, m, join, same_decls) refl)
-
-pub sources_fault : (kind : Kinds) (decls ds : List Decl) (named : Named) (lines : List SourceLine) (sigs table : List NodeSig) (place : Option ℕ) → named ≡ named_of decls → AreSigs kind decls sigs → ds ≡ decls → lines ≡ named.program.sources
-    → table ≡ sigs → place ≡ soonest None (sources_along (sig_at table) ds lines) → fault_or SourceTypes place None ≡ first_fault (source_rows kind decls)
-sources_fault kind decls ds named lines sigs table place is are same_decls same_lines same_sigs p =
-    let own_lines : lines ≡ flat_map (source_of (names_of decls)) decls = same_lines ∙ ap (λ (n : Named). n.program.sources) is in
-    let e : place ≡ soonest None (source_types (named_sig kind decls) decls) = p ∙ (rw (same_decls, own_lines, same_sigs) refl) ∙ ap (soonest None) (sources_same kind decls sigs are) in
-    ap (λ (f : Option ℕ). fault_or SourceTypes f None) e
+-- a fault that was found is the least of its rows
+pub least_is : (rows : List Decl → List Row) (ds decls : List Decl) (fault : Option (FaultKind × ℕ)) (kind : FaultKind) (at : ℕ) (refusal : CheckFault) → ds ≡ decls
+    → fault ≡ first_fault (rows ds) → fault ≡ Some (kind, at) → IsLeastFault (Some (kind, at)) refusal → IsLeastFault (first_fault (rows decls)) refusal
+least_is rows ds decls fault kind at refusal same found some is =
+    subst (λ (f : Option (FaultKind × ℕ)). IsLeastFault f refusal) (sym some ∙ found ∙ ap (λ (l : List Decl). first_fault (rows l)) same) is

@@ -1,4 +1,7 @@
+pub mod Keys
+pub mod Lasts
 pub mod Looking
 pub mod Written
-pub mod AlongDecls
+pub mod Passes
+pub mod Told
 pub mod Answered

@@ -1,5 +1,4 @@
 pub mod Signatures
-pub mod Filling
 pub mod Rows
-pub mod Along
 pub mod Typing
+pub mod steps

@@ -1,13 +1,18 @@
-//! Types, compared as they are spelled.
+//! Types, compared as they are spelled, and kinds.
 
 ghost use Rattle.std.specs.Prelude.{◌≡◌};
-ghost use Rattle.flux_types.specs.Rows.{same_types, differing};
+ghost use Rattle.flux_types.specs.Rows.{same_types, same_kind, have_kinds, takes, unless};
 ghost use Rattle.flux_syntax.specs.Least.{soonest};
 
 use flux_model::TypeText;
 use flux_syntax::{Word, sooner};
+use flux_values::Kind;
 
-fn same_types(a: &[TypeText], b: &[TypeText]) -> bool
+/// The least place so far, from 0; None where there is none.
+pub type Place = Option<u32>;
+
+/// Whether types are spelled alike, in number and order.
+pub fn same_types(a: &[TypeText], b: &[TypeText]) -> bool
     ensures { result ≡ same_types a.now b.now }
 {
     let mut rest = a;
@@ -25,16 +30,51 @@ fn same_types(a: &[TypeText], b: &[TypeText]) -> bool
     left.is_empty()
 }
 
-/// The least place so far, or the word's, where what comes differs from what is taken there.
-pub fn differing(
-    outs: &[TypeText],
-    ins: &[TypeText],
-    word: &Word,
-    place: Option<u32>,
-) -> Option<u32>
-    ensures { result ≡ soonest place (differing outs.now ins.now word.now) }
+fn same_kind(a: Kind, b: Kind) -> bool
+    ensures { result ≡ same_kind a b }
 {
-    if same_types(outs, ins) {
+    match (a, b) {
+        (Kind::Int, Kind::Int) => true,
+        (Kind::Bool, Kind::Bool) => true,
+        (Kind::Text, Kind::Text) => true,
+        _ => false,
+    }
+}
+
+/// Whether types are of these kinds, in number and order.
+pub fn have_kinds(types: &[TypeText], kinds: &[Kind]) -> bool
+    ensures { result ≡ have_kinds types.now kinds.now }
+{
+    let mut rest = types;
+    let mut left = kinds;
+    while let [ty, others @ ..] = rest {
+        let [kind, more @ ..] = left else {
+            return false;
+        };
+        if !same_kind(ty.kind, *kind) {
+            return false;
+        }
+        rest = others;
+        left = more;
+    }
+    left.is_empty()
+}
+
+/// Whether a predicate takes a kind; one that isn't known takes none.
+pub fn takes(own: Option<Kind>, kind: Kind) -> bool
+    ensures { result ≡ takes own kind }
+{
+    match own {
+        Some(own) => same_kind(own, kind),
+        None => false,
+    }
+}
+
+/// The least place so far, or the word's, where something doesn't hold.
+pub fn unless(holds: bool, word: &Word, place: Place) -> Place
+    ensures { result ≡ soonest place (unless holds word.now) }
+{
+    if holds {
         place
     } else {
         Some(sooner(place, word.at))

@@ -1,13 +1,13 @@
-//! The signatures of nodes: what concrete nodes' lines write, and what flows have of their members.
+//! The signatures of nodes: what concrete nodes' lines write, and what abstract nodes have of their
+//! members.
 
-ghost use Rattle.std.specs.Prelude.{◌≡◌, ◌≤◌, ◌++◌, IfOk, OnOk, IfSome};
-ghost use Rattle.std.specs.List.{flat_map};
-ghost use Rattle.flux_syntax.specs.Words.{spelling};
-ghost use Rattle.flux_model.specs.Soundness.{sig_at};
-ghost use Rattle.flux_types.specs.Signatures.{with_kind, type_of, types_of, nothing, written, all_written, last_of, case_sig, cases_sig};
-ghost use Rattle.flux_graph.specs.Tables.{put_all};
-ghost use Rattle.flux_types.specs.Filling.{put_node};
+ghost use Rattle.std.specs.Prelude.{◌≡◌, ◌≤◌, ◌++◌, IfOk, OnOk, fold, replicate, length, slice_set};
+ghost use Rattle.flux_model.specs.Kinds.{sig_at};
+ghost use Rattle.flux_types.specs.Signatures.{type_of, types_of, nothing, last_of, case_sig, cases_sig};
+ghost use Rattle.flux_types.specs.steps.Filling.{put_line, put_lines, put_node};
 
+use crate::tables::Names;
+use crate::words::{ins_of, outs_of};
 use flux_library::Library;
 use flux_model::{Body, Case, Node, NodeNo, NodeSig, TypeText};
 use flux_syntax::{Decl, Param};
@@ -21,7 +21,8 @@ fn add_type<L: Library>(
     param: &Param,
     types: &mut List<TypeText>,
 ) -> Result<(), Memory>
-    ensures { OnOk result (types.new ≡ types.old ++ type_of (L.kind_of library.now) param.now) }
+    ensures { OnOk result
+        (types.new ≡ types.old ++ type_of (L.meaning library.now).kind param.now) }
 {
     let spelling = param.spelling(alloc)?;
     let Some(kind) = library.kind(spelling.as_bytes()) else {
@@ -32,10 +33,7 @@ fn add_type<L: Library>(
         Err(TextFault::TooLong) => unreachable!(),
         Err(TextFault::Memory) => return Err(Memory),
     };
-    match types.push(TypeText { words, kind }) {
-        Ok(()) => Ok(()),
-        Err(_) => Err(Memory),
-    }
+    types.add(TypeText { words, kind })
 }
 
 fn types_of<L: Library>(
@@ -43,7 +41,7 @@ fn types_of<L: Library>(
     library: &L,
     params: &[Param],
 ) -> Result<List<TypeText>, Memory>
-    ensures { IfOk result (λ types. types ≡ types_of (L.kind_of library.now) params.now) }
+    ensures { IfOk result (λ types. types ≡ types_of (L.meaning library.now).kind params.now) }
 {
     let mut types = List::new(alloc);
     let mut rest = params;
@@ -63,41 +61,62 @@ fn nothing(alloc: Global) -> NodeSig
     }
 }
 
-/// Adds what the naming line of a node writes.
-fn add_written<L: Library>(
+/// So many nodes that take and give nothing.
+fn blank(alloc: Global, count: usize) -> Result<List<NodeSig>, Memory>
+    ensures { IfOk result (λ sigs. sigs ≡ replicate count nothing) }
+{
+    let mut sigs = List::new(alloc);
+    for _ in 0..count {
+        sigs.add(nothing(alloc))?;
+    }
+    Ok(sigs)
+}
+
+/// Puts what a signature line writes into its node's place.
+fn put_line<L: Library>(
     alloc: Global,
     library: &L,
+    names: &Names,
     decl: &Decl,
     sigs: &mut List<NodeSig>,
 ) -> Result<(), Memory>
-    ensures { OnOk result (sigs.new ≡ sigs.old ++ written (L.kind_of library.now) decl.now) }
+    ensures { OnOk result
+        (sigs.new ≡ put_line (L.meaning library.now).kind names.now decl.now sigs.old) }
 {
-    let sig = match decl {
-        Decl::Signature { ins, outs, .. } => NodeSig {
-            ins: types_of(alloc, library, ins.as_slice())?,
-            outs: types_of(alloc, library, outs.as_slice())?,
-        },
-        Decl::Flow { .. } => nothing(alloc),
-        _ => return Ok(()),
+    let Decl::Signature { name, ins, outs } = decl else {
+        return Ok(());
     };
-    match sigs.push(sig) {
-        Ok(()) => Ok(()),
-        Err(_) => Err(Memory),
+    let sig = NodeSig {
+        ins: types_of(alloc, library, ins.as_slice())?,
+        outs: types_of(alloc, library, outs.as_slice())?,
+    };
+    put(sigs, names.place(name.text.as_bytes()), sig);
+    Ok(())
+}
+
+/// Puts a signature into a place, if there is one.
+fn put(sigs: &mut List<NodeSig>, place: usize, sig: NodeSig)
+    ensures { sigs.new ≡ slice_set sigs.old place sig }
+{
+    if place < sigs.len() {
+        sigs.set(place, sig);
     }
 }
 
-/// For each node what its naming line writes.
-fn all_written<L: Library>(
+/// What signature lines write, for each node; of two lines of one node the first counts.
+fn lines<L: Library>(
     alloc: Global,
     library: &L,
+    names: &Names,
     decls: &[Decl],
 ) -> Result<List<NodeSig>, Memory>
-    ensures { IfOk result (λ sigs. sigs ≡ all_written (L.kind_of library.now) decls.now) }
+    ensures { IfOk result (λ sigs. sigs ≡ put_lines (L.meaning library.now).kind names.now decls.now
+        (replicate (length names.now) nothing)) }
 {
-    let mut sigs = List::new(alloc);
+    let mut sigs = blank(alloc, names.len())?;
     let mut rest = decls;
-    while let [decl, others @ ..] = rest {
-        add_written(alloc, library, decl, &mut sigs)?;
+    while let Some((decl, others)) = rest.split_last() {
+        put_line(alloc, library, names, decl, &mut sigs)?;
         rest = others;
     }
     Ok(sigs)
@@ -108,59 +127,34 @@ fn copy_types(alloc: Global, types: &[TypeText]) -> Result<List<TypeText>, Memor
 {
     let mut copied = List::new(alloc);
     for ty in types {
-        let copy = TypeText {
+        copied.add(TypeText {
             words: ty.words.again(alloc)?,
             kind: ty.kind,
-        };
-        if copied.push(copy).is_err() {
-            return Err(Memory);
-        }
+        })?;
     }
     Ok(copied)
 }
 
-/// What a node takes; nothing where it has no signature.
-pub fn ins_of(sigs: &[NodeSig], node: NodeNo) -> &[TypeText]
-    ensures { let sig = sig_at sigs.now node.0 in result.now ≡ sig.ins }
+fn last_of(first: NodeNo, others: &[NodeNo]) -> NodeNo
+    ensures { result ≡ last_of first others.now }
 {
-    match sigs.get(node.0 as usize) {
-        Some(sig) => sig.ins.as_slice(),
-        None => &[],
+    match others.last() {
+        Some(last) => *last,
+        None => first,
     }
 }
 
-/// What a node gives; nothing where it has no signature.
-pub fn outs_of(sigs: &[NodeSig], node: NodeNo) -> &[TypeText]
-    ensures { let sig = sig_at sigs.now node.0 in result.now ≡ sig.outs }
-{
-    match sigs.get(node.0 as usize) {
-        Some(sig) => sig.outs.as_slice(),
-        None => &[],
-    }
-}
-
-fn last_of(first: NodeNo, members: &[NodeNo]) -> NodeNo
-    ensures { result ≡ last_of first members.now }
-{
-    let mut last = first;
-    let mut rest = members;
-    while let [next, others @ ..] = rest {
-        last = *next;
-        rest = others;
-    }
-    last
-}
-
-/// The signature of the first case that isn't empty.
+/// What the first case has that isn't empty.
 fn cases_sig(alloc: Global, sigs: &[NodeSig], cases: &[Case]) -> Result<NodeSig, Memory>
     ensures { IfOk result (λ sig. sig ≡ cases_sig (sig_at sigs.now) cases.now) }
 {
     let mut rest = cases;
     while let [case, others @ ..] = rest {
         if let [first, members @ ..] = case.members.as_slice() {
+            let last = last_of(*first, members);
             return Ok(NodeSig {
-                ins: copy_types(alloc, ins_of(sigs, *first))?,
-                outs: copy_types(alloc, outs_of(sigs, last_of(*first, members)))?,
+                ins: copy_types(alloc, ins_of(sigs, first.0 as usize))?,
+                outs: copy_types(alloc, outs_of(sigs, last.0 as usize))?,
             });
         }
         rest = others;
@@ -168,7 +162,7 @@ fn cases_sig(alloc: Global, sigs: &[NodeSig], cases: &[Case]) -> Result<NodeSig,
     Ok(nothing(alloc))
 }
 
-/// Puts a flow's signature into its place, once its members have theirs.
+/// Puts an abstract node's signature into its place, once its members have theirs.
 fn put_node(
     alloc: Global,
     nodes: &[Node],
@@ -184,9 +178,7 @@ fn put_node(
         return Ok(());
     };
     let sig = cases_sig(alloc, sigs.as_slice(), cases.as_slice())?;
-    if (number.0 as usize) < sigs.as_slice().len() {
-        sigs.set(number.0 as usize, sig);
-    }
+    put(sigs, number.0 as usize, sig);
     Ok(())
 }
 
@@ -194,17 +186,18 @@ fn put_node(
 pub fn fill<L: Library>(
     alloc: Global,
     library: &L,
+    names: &Names,
     decls: &[Decl],
     nodes: &[Node],
     order: &[NodeNo],
 ) -> Result<List<NodeSig>, Memory>
-    ensures { IfOk result (λ sigs. sigs ≡ put_all (put_node nodes.now) (all_written (L.kind_of library.now) decls.now) order.now) }
+    ensures { IfOk result (λ sigs. sigs ≡ fold (put_node nodes.now)
+        (put_lines (L.meaning library.now).kind names.now decls.now
+            (replicate (length names.now) nothing)) order.now) }
 {
-    let mut sigs = all_written(alloc, library, decls)?;
-    let mut rest = order;
-    while let [number, others @ ..] = rest {
+    let mut sigs = lines(alloc, library, names, decls)?;
+    for number in order {
         put_node(alloc, nodes, &mut sigs, *number)?;
-        rest = others;
     }
     Ok(sigs)
 }

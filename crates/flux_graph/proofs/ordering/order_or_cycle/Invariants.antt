@@ -1,5 +1,5 @@
 use Rattle.std.proofs.Common.{◌≡◌, ◌-◌, length}
-use Rattle.flux_graph.specs.Search.{Holds}
+use Rattle.flux_graph.specs.steps.Search.{Holds}
 use Rattle.flux_graph.proofs.ordering.order_or_cycle.Given as goal
 
 abbrev pub invariant-loop-search : goal.invariant-loop-search

@@ -1,5 +1,5 @@
 use Rattle.std.proofs.Common.{◌-◌, length}
-use Rattle.flux_graph.specs.Returning.{Seeks}
+use Rattle.flux_graph.specs.steps.Returning.{Seeks}
 use Rattle.flux_graph.proofs.returning.way_back.Given as goal
 
 abbrev pub invariant-loop-node : goal.invariant-loop-node

@@ -1,9 +1,6 @@
-use Rattle.std.proofs.Common.{◌≡◌, ◌++◌, length}
-use Rattle.flux_graph.specs.Searching.{leaves_of}
+use Rattle.std.proofs.Common.{◌≡◌, take}
+use Rattle.flux_graph.specs.steps.Searching.{leaves_of}
 use Rattle.flux_graph.proofs.steps.leaves.Given as goal
 
-abbrev pub invariant-loop-rest : goal.invariant-loop-rest
-invariant-loop-rest l = leaves_of l.fn.steps ≡ (l.leaves ++ leaves_of l.rest)
-
-abbrev pub decreases-loop-rest : goal.decreases-loop-rest
-decreases-loop-rest l = length l.rest
+abbrev pub invariant-loop-step : goal.invariant-loop-step
+invariant-loop-step l = l.leaves ≡ leaves_of (take l.step-index l.steps)

@@ -1,5 +1,5 @@
 use Rattle.std.proofs.Common.{◌≡◌, length}
-use Rattle.flux_model.specs.Soundness.{sig_at}
+use Rattle.flux_model.specs.Kinds.{sig_at}
 use Rattle.flux_types.specs.Signatures.{cases_sig}
 use Rattle.flux_types.proofs.signatures.cases_sig.Given as goal
 

@@ -1,11 +1,9 @@
-use Rattle.std.proofs.Common.{◌≡◌, length}
-use Rattle.flux_types.specs.Signatures.{all_written}
-use Rattle.flux_graph.specs.Tables.{put_all}
-use Rattle.flux_types.specs.Filling.{put_node}
+use Rattle.std.proofs.Common.{◌≡◌, length, replicate, fold, take}
+use Rattle.flux_types.specs.Signatures.{nothing}
+use Rattle.flux_types.specs.steps.Filling.{put_lines, put_node}
 use Rattle.flux_types.proofs.signatures.fill.Given as goal
 
-abbrev pub invariant-loop-rest : goal.invariant-loop-rest
-invariant-loop-rest g l = put_all (put_node l.nodes) (all_written (g.L.Meaning.kind_of l.library) l.decls) l.fn.order ≡ put_all (put_node l.nodes) l.sigs l.rest
-
-abbrev pub decreases-loop-rest : goal.decreases-loop-rest
-decreases-loop-rest g l = length l.rest
+abbrev pub invariant-loop-number : goal.invariant-loop-number
+invariant-loop-number g l =
+    let meaning = g.L.Meaning.meaning l.library in
+    l.sigs ≡ fold (put_node l.nodes) (put_lines meaning.kind l.names l.decls (replicate (length l.names) nothing)) (take l.number-index l.order)

@@ -1,0 +1,85 @@
+//! The order in which a search in depth against leading leaves nodes.
+//!
+//! Where a node leads on to another that doesn't lead back, the other, or a node on a cycle with it, is left after all
+//! nodes on a cycle with the first. So `clearing`, which goes through this order from its end, is fast and clears each
+//! node that is on no cycle. No answer rests on that: contracts say nothing of the order.
+
+ghost use Rattle.std.specs.Prelude.{◌≤◌, length};
+
+use crate::steps::{Step, enter_all, enter_below};
+use crate::visits::Visits;
+use flux_model::{Node, NodeNo};
+use flux_values::{List, Memory};
+use std::alloc::Global;
+
+/// How far the search is.
+#[derive(Drop)]
+struct Leaving {
+    steps: List<Step>,
+    entered: Visits,
+    left: List<NodeNo>,
+}
+
+impl Leaving {
+    /// Goes from a node to those that lead to it.
+    fn enter(&mut self, leaders: &[Vec<NodeNo>], node: NodeNo) -> Result<(), Memory> {
+        self.entered.add(node.0)?;
+        self.steps.add(Step::Leave(node))?;
+        match leaders.get(node.0 as usize) {
+            Some(leaders) => enter_all(&mut self.steps, leaders.as_slice()),
+            None => Ok(()),
+        }
+    }
+
+    /// The next node that hasn't been entered. Nodes with nothing left to enter are left on the way.
+    fn next(&mut self) -> Result<Option<NodeNo>, Memory> {
+        while let Some(step) = self.steps.pop() {
+            match step {
+                Step::Leave(node) => self.left.add(node)?,
+                Step::Enter(node) => {
+                    if !self.entered.has(node.0) {
+                        return Ok(Some(node));
+                    }
+                }
+            }
+        }
+        Ok(None)
+    }
+}
+
+/// For each node those that lead to it.
+fn leaders(alloc: Global, nodes: &[Node]) -> Result<Vec<Vec<NodeNo>>, Memory>
+    requires few { length nodes.now ≤ 1048576 }
+{
+    let mut leaders = Vec::new(alloc);
+    for _ in nodes {
+        leaders.push(Vec::new(alloc))?;
+    }
+    for (number, node) in nodes.iter().enumerate() {
+        for led in node.leads_to(alloc)?.as_slice() {
+            if let Some(list) = leaders.get_mut(led.0 as usize) {
+                list.push(NodeNo(number as u32))?;
+            }
+        }
+    }
+    Ok(leaders)
+}
+
+/// The nodes, in the order in which the search leaves them.
+pub fn leaving_order(alloc: Global, nodes: &[Node]) -> Result<List<NodeNo>, Memory>
+    requires few { length nodes.now ≤ 1048576 }
+{
+    let leaders = leaders(alloc, nodes)?;
+    let mut search = Leaving {
+        steps: enter_below(alloc, nodes.len())?,
+        entered: Visits::new(alloc),
+        left: List::new(alloc),
+    };
+    // each node is entered once, and in the last turn what is still to be left is left
+    for _ in 0..nodes.len() + 1 {
+        if let Some(node) = search.next()? {
+            search.enter(leaders.as_slice(), node)?;
+        }
+    }
+    Ok(search.left)
+}

@@ -1,0 +1,27 @@
+use Rattle.std.proofs.Common.{List, sym, ap, subst, ◌∙◌}
+use Rattle.flux_model.specs.declared.signatures.NodeSig.{NodeSig}
+use Rattle.flux_syntax.specs.declared.declarations.Decl.{Decl}
+use Rattle.flux_syntax.specs.ProgramOfText.{named_of}
+use Rattle.flux_syntax.specs.Least.{first_fault}
+use Rattle.flux_types.specs.Signatures.{AreSigs}
+use Rattle.flux_types.specs.Rows.{source_rows}
+use Rattle.flux_types.proofs.Answered.{least_is}
+use Rattle.flux_types.proofs.typing.source_types.Goals as goal
+
+pub sources-requires-clause-named : goal.sources-requires-clause-named
+sources-requires-clause-named g c = λ κs lives. c.requires.named ∙ ap named_of (sym c.as_slice.ensures)
+
+pub sources-requires-clause-sigs : goal.sources-requires-clause-sigs
+sources-requires-clause-sigs g c = λ κs lives. let kind = (g.L.Meaning.meaning c.args.library.now).kind in
+    subst (λ (l : List Decl). AreSigs kind l c.as_slice-2.result.now) (sym c.as_slice.ensures)
+    (subst (λ (sigs : List NodeSig). AreSigs kind c.args.decls.now sigs) (sym c.as_slice-2.ensures) c.requires.sigs)
+
+pub returns-in-Ok-None-clause-fits : goal.returns-in-Ok-None-clause-fits
+returns-in-Ok-None-clause-fits g c =
+    sym (sym c.in-Ok-None.field-0-is ∙ c.in-Ok-None.ensures ∙ ap (λ (l : List Decl). first_fault (source_rows (g.L.Meaning.meaning c.args.library.now) l)) c.as_slice.ensures)
+
+pub returns-in-Ok-Some-clause-fault : goal.returns-in-Ok-Some-clause-fault
+returns-in-Ok-Some-clause-fault g c =
+    let w = c.in-Ok-Some in
+    least_is (source_rows (g.L.Meaning.meaning c.args.library.now)) c.as_slice.result.now c.args.decls.now w.field-0 w.kind w.at c.fault_at.result
+    c.as_slice.ensures c.in-Ok-Some.ensures w.field-0-is c.fault_at.ensures
