@@ -1,6 +1,10 @@
-pub mod Numbers
-pub mod Bodies
-pub mod Loose
+pub mod Pieces
+pub mod Opened
+pub mod Fronts
+pub mod TextsRead
+pub mod NumbersRead
+pub mod WordsRead
+pub mod Causes
 pub mod Sorted
 pub mod CellLemmas
 pub mod Sets

@@ -46,3 +46,11 @@ impl From<Memory> for ValueFault {
         ValueFault::Memory
     }
 }
+
+impl<T: Drop> From<AllocFailed<T>> for ValueFault {
+    ghost from_gives = { λ _ fault. fault ≡ faults.Memory };
+
+    fn from(_e: AllocFailed<T>) -> ValueFault {
+        ValueFault::Memory
+    }
+}

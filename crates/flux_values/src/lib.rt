@@ -23,6 +23,6 @@ pub use failures::{Memory, TextFault, ValueFault};
 pub use lists::List;
 pub use meanings::{CellUse, Meaning, Role, Sig};
 pub use printing::{append_number, append_text, append_value, print_value};
-pub use reading::read_value;
+pub use reading::{read_printed_value, read_value};
 pub use texts::{Bytes, TEXT_LIMIT, TextBytes};
 pub use values::{Kind, Value};

@@ -1,12 +1,13 @@
-//! Values read from the front of bytes. For now the printed spellings alone are read.
+//! Values read from the front of bytes.
 
-ghost use Rattle.std.specs.Prelude.{◌≡◌, ◌<◌, ◌≤◌, ℤ, length, drop, FitsSigned, IfSome};
-ghost use Rattle.std.specs.Int.{w64};
-ghost use Rattle.std.specs.Fmt.{signed_decimal};
-ghost use Rattle.std.specs.List.{prefix_len};
-ghost use Rattle.std.specs.Char.{is_ascii_digit};
+ghost use Rattle.std.specs.Prelude.{◌≡◌, ◌≢◌, ◌<◌, ◌≤◌, ◌++◌, ◌*◌, ◌+◌, ◌-◌, ◌^◌, ◌∷◌, ◌⊎◌, ℕ, ℤ, [], length, drop, take, IfSome, Ok, Err, slice_index, slice_get};
 ghost use Rattle.flux_values.specs.declared.values.Value.{Value};
-ghost use Rattle.flux_values.specs.Reading.{step_of, IsPlace, hex_value, IsBodyAnswer, number_len, NoDigitFirst, ReadsBack, IsRead, IsLooseRead, BeginsWith, ReadsNumber};
+ghost use Rattle.flux_values.specs.declared.failures.ValueFault.TheVariants as faults;
+ghost use Rattle.flux_values.specs.Texts.{printed_bool};
+ghost use Rattle.flux_values.specs.Reading.{ReadsBack, IsRead, BeginsWith};
+ghost use Rattle.flux_values.specs.Spellings.{with_sign, HasCause, IsOrMemory, IsFirstValue, IsTooLong, IsBadValue};
+ghost use Rattle.flux_values.specs.steps.Pieces.{piece_of, escape_of, hexadecimal_of, digit_in};
+ghost use Rattle.flux_values.specs.steps.Numbers.{IsSigned, AreDigitsRead, limit_of};
 
 use crate::failures::ValueFault;
 use crate::printing::print_value;
@@ -14,45 +15,51 @@ use crate::texts::{TEXT_LIMIT, TextBytes};
 use crate::values::Value;
 use std::alloc::Global;
 
-/// Where the reading of a text stands between two bytes.
+/// How the bytes of a text go on between its quotes.
 #[derive(Clone, Copy, Debug)]
-enum Place {
-    /// Between two bytes of the text.
-    Plain,
-    /// After a `\`.
-    Escape,
-    /// After `\x`.
-    High,
-    /// After `\x` and a first digit.
-    Low(u8),
+enum Piece {
+    /// So many bytes spell this byte.
+    Spells { byte: u8, length: usize },
+    /// No spelling goes on past so many bytes, or the bytes end there.
+    Stops { after: usize },
 }
 
-/// What one more byte does.
-#[derive(Clone, Copy, Debug)]
-enum Move {
-    /// The text has this byte next.
-    Put(u8),
-    Go(Place),
-    /// The closing quote.
-    Close,
-    /// No spelling goes on so.
-    Bad,
+/// The value whose longest spelling begins the bytes, and that spelling's length.
+///
+/// Besides printed spellings it reads leading zeros, `-0`, hexadecimal digits in either case, `\x` for any
+/// byte, and any raw byte other than `"`, `\` and LF within a text. An Int ends where no digit follows.
+/// `TooLong` and `BadValue` are of the first byte at which no spelling goes on.
+pub fn read_value(alloc: Global, bytes: &[u8]) -> Result<(Value, usize), ValueFault>
+    // Each answer has its cause.
+    ensures cause { HasCause result bytes.now }
+    // Each cause has its answer, but for want of memory.
+    ensures value { (value : Value) (n : ℕ) → IsFirstValue bytes.now value n
+        → IsOrMemory (Ok (value, n)) result }
+    ensures too_long { (at : ℕ) → IsTooLong bytes.now at
+        → IsOrMemory (Err (faults.TooLong at)) result }
+    ensures bad { (at : ℕ) → IsBadValue bytes.now at
+        → IsOrMemory (Err (faults.BadValue at)) result }
+    // A printed value is read back with its length, whatever follows it that isn't a digit after an Int.
+    ensures again { (value : Value) → BeginsWith value bytes.now → ReadsBack result value }
+{
+    read_front(alloc, bytes)
 }
 
 /// The value whose printed spelling begins the bytes, and that spelling's length.
-///
-/// The place of a `BadValue` isn't claimed yet, and `TooLong` doesn't come yet: a longer text has no value.
-pub fn read_value(alloc: Global, bytes: &[u8]) -> Result<(Value, usize), ValueFault>
+/// This call goes when items are read by their whole text.
+pub fn read_printed_value(alloc: Global, bytes: &[u8]) -> Result<(Value, usize), ValueFault>
     // Each answer has its cause.
     ensures read { IsRead result bytes.now }
     // A printed value is read back with its length, whatever follows it that isn't a digit after an Int.
     ensures again { (value : Value) → BeginsWith value bytes.now → ReadsBack result value }
 {
-    let (value, length) = read_loosely(alloc, bytes)?;
-    let printed = match print_value(alloc, &value) {
-        Ok(printed) => printed,
-        Err(_) => return Err(ValueFault::Memory),
+    let (value, length) = match read_value(alloc, bytes) {
+        Ok(read) => read,
+        Err(ValueFault::Memory) => return Err(ValueFault::Memory),
+        Err(ValueFault::BadValue { at }) => return Err(ValueFault::BadValue { at }),
+        Err(ValueFault::TooLong { at }) => return Err(ValueFault::BadValue { at }),
     };
+    let printed = print_value(alloc, &value)?;
     if &bytes[..length] == printed.as_bytes() {
         Ok((value, length))
     } else {
@@ -60,139 +67,159 @@ pub fn read_value(alloc: Global, bytes: &[u8]) -> Result<(Value, usize), ValueFa
     }
 }
 
-/// A value that begins the bytes, in its printed spelling or in one that reads alike.
-fn read_loosely(alloc: Global, bytes: &[u8]) -> Result<(Value, usize), ValueFault>
-    ensures shape { IsLooseRead result bytes.now }
-    ensures again { (value : Value) → BeginsWith value bytes.now → ReadsBack result value }
+/// Reads by the first byte what it can begin.
+fn read_front(alloc: Global, bytes: &[u8]) -> Result<(Value, usize), ValueFault>
+    ensures { HasCause result bytes.now }
 {
-    if bytes.starts_with(b"\"") {
-        let (text, length) = read_body(alloc, &bytes[1..])?;
-        return Ok((Value::Text(text), length + 1));
-    }
-    if bytes.starts_with(b"true") {
-        return Ok((Value::Bool(true), 4));
-    }
-    if bytes.starts_with(b"false") {
-        return Ok((Value::Bool(false), 5));
-    }
-    match read_number(bytes) {
-        Some((number, length)) => Ok((Value::Int(number), length)),
+    match bytes.first() {
         None => Err(ValueFault::BadValue { at: 0 }),
+        Some(b'"') => read_text(alloc, bytes),
+        Some(b't') => read_word(bytes, b"true", true),
+        Some(b'f') => read_word(bytes, b"false", false),
+        Some(b'-') => read_number(bytes, true),
+        Some(first) if first.is_ascii_digit() => read_number(bytes, false),
+        Some(_) => Err(ValueFault::BadValue { at: 0 }),
     }
 }
 
-/// The number that the sign and the digits at the front spell, and how many bytes they are.
-fn read_number(bytes: &[u8]) -> Option<(i64, usize)>
-    ensures shape { IfSome result (λ read. (read.1 ≤ length bytes.now) × NoDigitFirst (drop read.1 bytes.now)) }
-    ensures again { ReadsNumber result bytes.now }
+fn read_word(bytes: &[u8], word: &[u8], truth: bool) -> Result<(Value, usize), ValueFault>
+    requires word { word.now ≡ printed_bool truth }
+    requires first { slice_index bytes.now 0 ≡ slice_index word.now 0 }
+    requires some { 0 < length bytes.now }
+    ensures { HasCause result bytes.now }
 {
-    let end = number_length(bytes);
-    let number = parse_number(&bytes[..end])?;
-    Some((number, end))
+    let mut at = 0;
+    while at < word.len() {
+        if at == bytes.len() || bytes[at] != word[at] {
+            return Err(ValueFault::BadValue { at });
+        }
+        at += 1;
+    }
+    Ok((Value::Bool(truth), at))
 }
 
-fn parse_number(digits: &[u8]) -> Option<i64>
-    ensures { (number : ℤ) → FitsSigned w64 number → digits.now ≡ signed_decimal number → result ≡ Some number }
+fn read_number(bytes: &[u8], negative: bool) -> Result<(Value, usize), ValueFault>
+    requires { IsSigned negative bytes.now }
+    ensures { HasCause result bytes.now }
 {
-    match str::from_utf8(digits) {
-        Ok(text) => text.parse::<i64>().ok(),
-        Err(_) => None,
+    let sign = usize::from(negative);
+    let limit = i64::MAX as u64 + u64::from(negative);
+    match read_digits(&bytes[sign..], limit) {
+        Ok((magnitude, length)) => {
+            let number = signed(negative, magnitude);
+            Ok((Value::Int(number), sign + length))
+        }
+        Err(at) => Err(ValueFault::BadValue { at: sign + at }),
     }
 }
 
-fn number_length(bytes: &[u8]) -> usize
-    ensures value { result ≡ number_len bytes.now }
-    ensures within { result ≤ length bytes.now }
-    ensures stops { NoDigitFirst (drop result bytes.now) }
+fn signed(negative: bool, magnitude: u64) -> i64
+    requires { magnitude ≤ limit_of negative }
+    ensures { result ≡ with_sign negative magnitude }
 {
-    let sign = usize::from(bytes.starts_with(b"-"));
-    sign + digits_length(&bytes[sign..])
+    if !negative {
+        return magnitude as i64;
+    }
+    match magnitude {
+        0 => 0,
+        _ => -((magnitude - 1) as i64) - 1,
+    }
 }
 
-fn digits_length(bytes: &[u8]) -> usize
-    ensures value { result ≡ prefix_len is_ascii_digit bytes.now }
-    ensures within { result ≤ length bytes.now }
+/// The number that the digits at the front spell, and how many they are; or where no spelling of a number
+/// up to the limit goes on.
+fn read_digits(bytes: &[u8], limit: u64) -> Result<(u64, usize), usize>
+    requires { 9 ≤ limit }
+    ensures { AreDigitsRead result bytes.now limit }
 {
-    bytes
-        .iter()
-        .take_while(|byte| byte.is_ascii_digit())
-        .count()
+    let mut number = 0;
+    let mut at = 0;
+    while at < bytes.len() && bytes[at].is_ascii_digit() {
+        let digit = u64::from(bytes[at] - b'0');
+        if number > (limit - digit) / 10 {
+            return Err(at);
+        }
+        number = 10 * number + digit;
+        at += 1;
+    }
+    if at == 0 { Err(0) } else { Ok((number, at)) }
 }
 
-/// The text that stands before its closing quote, and the bytes up to and with that.
-fn read_body(alloc: Global, bytes: &[u8]) -> Result<(TextBytes, usize), ValueFault>
-    ensures { IsBodyAnswer result bytes.now }
+fn read_text(alloc: Global, bytes: &[u8]) -> Result<(Value, usize), ValueFault>
+    requires { bytes.now ≡ 34 ∷ drop 1 bytes.now }
+    ensures { HasCause result bytes.now }
 {
     let mut text = Vec::new(alloc);
-    let mut place = Place::Plain;
-    for (at, byte) in bytes.iter().enumerate() {
-        match step(place, *byte) {
-            Move::Put(put) => {
-                if text.len() >= TEXT_LIMIT {
-                    return Err(ValueFault::BadValue { at });
-                }
-                if text.push(put).is_err() {
-                    return Err(ValueFault::Memory);
-                }
-                place = Place::Plain;
+    let mut at = 1;
+    while at < bytes.len() && bytes[at] != b'"' {
+        if text.len() == TEXT_LIMIT {
+            return Err(ValueFault::TooLong { at });
+        }
+        match read_piece(&bytes[at..]) {
+            Piece::Spells { byte, length } => {
+                text.push(byte)?;
+                at += length;
             }
-            Move::Go(next) => place = next,
-            Move::Close => return Ok((TextBytes::from_vec(text), at + 1)),
-            Move::Bad => return Err(ValueFault::BadValue { at }),
+            Piece::Stops { after } => return Err(ValueFault::BadValue { at: at + after }),
         }
     }
-    Err(ValueFault::BadValue { at: bytes.len() })
+    if at == bytes.len() {
+        return Err(ValueFault::BadValue { at });
+    }
+    Ok((Value::Text(TextBytes::from_vec(text)), at + 1))
 }
 
-fn step(place: Place, byte: u8) -> Move
-    requires { IsPlace place }
-    ensures { result ≡ step_of place byte }
+/// The piece at the front of the bytes.
+fn read_piece(bytes: &[u8]) -> Piece
+    ensures { result ≡ piece_of bytes.now }
 {
-    match place {
-        Place::Plain => plain_step(byte),
-        Place::Escape => escape_step(byte),
-        Place::High => match hex_digit_value(byte) {
-            Some(digit) => Move::Go(Place::Low(digit)),
-            None => Move::Bad,
+    match bytes.first() {
+        None | Some(b'"' | b'\n') => Piece::Stops { after: 0 },
+        Some(b'\\') => read_escape(&bytes[1..]),
+        Some(byte) => Piece::Spells {
+            byte: *byte,
+            length: 1,
         },
-        Place::Low(high) => match hex_digit_value(byte) {
-            Some(digit) => Move::Put(16 * high + digit),
-            None => Move::Bad,
-        },
     }
 }
 
-fn plain_step(byte: u8) -> Move
-    ensures { result ≡ step_of Place.Plain byte }
+/// The piece whose bytes after its `\` are at the front.
+fn read_escape(bytes: &[u8]) -> Piece
+    ensures { result ≡ escape_of bytes.now }
 {
-    match byte {
-        b'"' => Move::Close,
-        b'\\' => Move::Go(Place::Escape),
-        _ => Move::Put(byte),
-    }
+    let byte = match bytes.first() {
+        Some(b'x') => return read_hexadecimal(&bytes[1..]),
+        Some(b'"') => b'"',
+        Some(b'\\') => b'\\',
+        Some(b'n') => b'\n',
+        Some(b'r') => b'\r',
+        Some(b't') => b'\t',
+        _ => return Piece::Stops { after: 1 },
+    };
+    Piece::Spells { byte, length: 2 }
 }
 
-fn escape_step(byte: u8) -> Move
-    ensures { result ≡ step_of Place.Escape byte }
+/// The piece whose bytes after its `\x` are at the front.
+fn read_hexadecimal(bytes: &[u8]) -> Piece
+    ensures { result ≡ hexadecimal_of bytes.now }
 {
-    match byte {
-        b'"' => Move::Put(b'"'),
-        b'\\' => Move::Put(b'\\'),
-        b'n' => Move::Put(b'\n'),
-        b'r' => Move::Put(b'\r'),
-        b't' => Move::Put(b'\t'),
-        b'x' => Move::Go(Place::High),
-        _ => Move::Bad,
+    let Some(high) = digit_at(bytes, 0) else {
+        return Piece::Stops { after: 2 };
+    };
+    let Some(low) = digit_at(bytes, 1) else {
+        return Piece::Stops { after: 3 };
+    };
+    Piece::Spells {
+        byte: 16 * high + low,
+        length: 4,
     }
 }
 
-fn hex_digit_value(byte: u8) -> Option<u8>
-    ensures value { result ≡ hex_value byte }
+/// The hexadecimal digit at a place.
+fn digit_at(bytes: &[u8], place: usize) -> Option<u8>
+    ensures value { result ≡ digit_in (slice_get bytes.now place) }
     ensures small { IfSome result (λ digit. digit < 16) }
 {
-    match byte {
-        b'0'..=b'9' => Some(byte - b'0'),
-        b'a'..=b'f' => Some(byte - b'a' + 10),
-        _ => None,
-    }
+    let digit = char::from(*bytes.get(place)?).to_digit(16)?;
+    Some(digit as u8)
 }

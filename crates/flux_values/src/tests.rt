@@ -2,7 +2,7 @@
 
 use crate::{
     Bytes, Cell, Kind, List, Memory, TextBytes, TextFault, Value, ValueFault, append_number,
-    append_text, append_value, print_value, read_value,
+    append_text, append_value, print_value, read_printed_value, read_value,
 };
 use std::test::Fail;
 
@@ -39,37 +39,103 @@ fn values_have_their_printed_spellings(rt: HostRuntime) -> Result<(), Fail> {
 }
 
 #[test]
-fn a_printed_value_is_read_with_its_length(rt: HostRuntime) -> Result<(), Fail> {
+fn the_longest_spelling_is_read_with_its_length(rt: HostRuntime) -> Result<(), Fail> {
     let alloc = rt.alloc();
     let table = [
-        (b"12, 3)".as_slice(), Kind::Int, 2),
-        (b"-7x", Kind::Int, 2),
-        (b"truth", Kind::Bool, 0),
-        (b"trueness", Kind::Bool, 4),
-        (b"\"a\\x00\" b", Kind::Text, 7),
-        (b"\"aA\"\"", Kind::Text, 4),
-        (b"-0 x", Kind::Int, 0),
-        (b"007", Kind::Int, 0),
-        (b"\"a\\x41\"", Kind::Text, 0),
-        (b"9223372036854775807", Kind::Int, 19),
-        (b"9223372036854775808", Kind::Int, 0),
-        (b"tru", Kind::Bool, 0),
-        (b"\"open", Kind::Text, 0),
-        (b"", Kind::Int, 0),
+        (b"12, 3)".as_slice(), b"12".as_slice(), 2),
+        (b"-7x", b"-7", 2),
+        (b"-0 x", b"0", 2),
+        (b"007", b"7", 3),
+        (b"-000000000000000000000000000012", b"-12", 31),
+        (b"9223372036854775807", b"9223372036854775807", 19),
+        (b"-9223372036854775808", b"-9223372036854775808", 20),
+        (b"truex", b"true", 4),
+        (b"false9", b"false", 5),
+        (b"\"\"", b"\"\"", 2),
+        (b"\"a\\x41\"", b"\"aA\"", 7),
+        (b"\"aA\"\"", b"\"aA\"", 4),
+        (b"\"\\x0A\\xfF\\x7e\" b", b"\"\\n\\xff~\"", 14),
+        (b"\"\x00\t\xe9\"", b"\"\\x00\\t\\xe9\"", 5),
+        (b"\"\\\"\\\\\\n\\r\\t\"", b"\"\\\"\\\\\\n\\r\\t\"", 12),
     ];
-    for (bytes, kind, length) in table {
-        match read_value(alloc, bytes) {
-            Ok((value, read)) => {
-                assert_eq!(rt; (value.kind(), read), (kind, length), "{bytes:?}");
-                let copied = value.copy(alloc)?;
-                assert_eq!(rt;
-                    print_value(alloc, &copied)?.as_bytes(),
-                    bytes.get(..length).ok_or("length")?
-                );
-            }
-            Err(ValueFault::BadValue { .. }) => assert_eq!(rt; length, 0, "{bytes:?}"),
-            Err(fault) => assert!(rt; false, "{bytes:?} gave {fault:?}"),
+    for (bytes, printed, length) in table {
+        let (value, read) = read_value(alloc, bytes).expect(&rt, "a value");
+        assert_eq!(rt;
+            print_value(alloc, &value)?.as_bytes(),
+            printed,
+            "{bytes:?}"
+        );
+        assert_eq!(rt; read, length, "{bytes:?}");
+        let again = read_printed_value(alloc, bytes).is_ok();
+        assert_eq!(rt; again, &bytes[..length] == printed, "{bytes:?}");
+    }
+    Ok(())
+}
+
+#[test]
+fn a_refusal_names_the_first_byte_that_no_spelling_has(rt: HostRuntime) -> Result<(), Fail> {
+    let alloc = rt.alloc();
+    let table = [
+        (b"".as_slice(), 0),
+        (b"x", 0),
+        (b" 1", 0),
+        (b"+1", 0),
+        (b".", 0),
+        (b"tru", 3),
+        (b"trux", 3),
+        (b"fAlse", 1),
+        (b"-", 1),
+        (b"--1", 1),
+        (b"-x", 1),
+        (b"9223372036854775808", 18),
+        (b"99999999999999999999999", 18),
+        (b"-9223372036854775809", 19),
+        (b"0009223372036854775808x", 21),
+        (b"92233720368547758070", 19),
+        (b"\"", 1),
+        (b"\"open", 5),
+        (b"\"a\n\"", 2),
+        (b"\"\\q\"", 2),
+        (b"\"\\", 2),
+        (b"\"\\x", 3),
+        (b"\"\\xg0\"", 3),
+        (b"\"\\x4", 4),
+        (b"\"\\x4\"", 4),
+        (b"\"\\X41\"", 2),
+    ];
+    for (bytes, at) in table {
+        assert_eq!(rt;
+            read_value(alloc, bytes).err(),
+            Some(ValueFault::BadValue { at }),
+            "{bytes:?}"
+        );
+        assert!(rt; read_printed_value(alloc, bytes).is_err());
+    }
+    Ok(())
+}
+
+#[test]
+fn a_text_is_read_up_to_65536_bytes(rt: HostRuntime) -> Result<(), Fail> {
+    let alloc = rt.alloc();
+    let full = 65_537;
+    let mut bytes = vec![in alloc; b'a'; full]?;
+    bytes[0] = b'"';
+    let ends = ValueFault::BadValue { at: full };
+    assert_eq!(rt; read_value(alloc, &bytes).err(), Some(ends));
+    for (rest, answer) in [
+        (b"\"".as_slice(), None),
+        (b"a", Some(ValueFault::TooLong { at: full })),
+        (b"\\", Some(ValueFault::TooLong { at: full })),
+        (b"\n\"", Some(ValueFault::TooLong { at: full })),
+    ] {
+        let mut longer = Vec::from_slice(alloc, &bytes)?;
+        longer.extend_from_slice(rest)?;
+        let read = read_value(alloc, &longer);
+        match &read {
+            Ok((_, length)) => assert_eq!(rt; *length, full + 1),
+            Err(_) => {}
         }
+        assert_eq!(rt; read.err(), answer, "{rest:?}");
     }
     Ok(())
 }

@@ -1,19 +1,18 @@
-use Rattle.std.proofs.Common.{◌∙◌, ap, ◌≡◌, take, ℕ, refl}
+use Rattle.std.proofs.Common.{ap, ◌+◌}
 use Rattle.std.specs.Int.{w64}
 use Rattle.std.proofs.lemmas.Int.{to_z-of_z}
-use Rattle.flux_values.proofs.Numbers.{number_at_front}
+use Rattle.std.proofs.lemmas.List.{take_rest}
+use Rattle.flux_values.specs.Spellings.{with_sign}
+use Rattle.flux_values.proofs.NumbersRead.{signed_read, signed_bad, fits_signed}
 use Rattle.flux_values.proofs.reading.read_number.Goals as goal
 
-pub returns-in_err-number-clause-again : goal.returns-in_err-number-clause-again
-returns-in_err-number-clause-again c number begins =
-    let h = number_at_front number c.args.bytes.now begins in
-    let none = c.in_err-number.ensures number begins.is_value (ap (λ (n : ℕ). take n c.args.bytes.now) c.number_length-end.ensures.value ∙ h.1) in
-    absurd cc
+pub returns-in-Ok : goal.returns-in-Ok
+returns-in-Ok c =
+    let digits = rw take_rest at c.in-Ok.ensures in
+    let r = signed_read c.args.negative c.args.bytes.now c.from-sign.result _ c.in-Ok.magnitude c.in-Ok.length c.requires c.from-sign.ensures (ap (λ n. 9223372036854775807 + n) c.from.ensures) digits in
+    rw (c.signed-number.ensures, to_z-of_z w64 (with_sign c.args.negative c.in-Ok.magnitude) (fits_signed c.args.negative c.in-Ok.magnitude r.1)) r.0
 
-pub returns-clause-again : goal.returns-clause-again
-returns-clause-again c number begins =
-    let h = number_at_front number c.args.bytes.now begins in
-    let same = c.in_ok-number.ensures number begins.is_value (ap (λ (n : ℕ). take n c.args.bytes.now) c.number_length-end.ensures.value ∙ h.1) in
-    let len = c.number_length-end.ensures.value ∙ h.0 in
-    let is : c.in_ok-number.number ≡ number = cc in
-    rw (is, to_z-of_z w64 number begins.is_value, len) refl
+pub returns-in-Err : goal.returns-in-Err
+returns-in-Err c =
+    let digits = rw take_rest at c.in-Err.ensures in
+    signed_bad c.args.negative c.args.bytes.now c.from-sign.result _ c.in-Err.at c.requires c.from-sign.ensures (ap (λ n. 9223372036854775807 + n) c.from.ensures) digits
