@@ -11,3 +11,12 @@ pub mod Turns
 pub mod Walks
 pub mod ItemLines
 pub mod Sourced
+pub mod Stub
+pub mod Once
+pub mod Answered
+pub mod Simple
+pub mod Named
+pub mod Prepared
+pub mod Told
+pub mod Unbuilt
+pub mod Passed

@@ -1,14 +1,20 @@
 -- The headline: what `run` prints is the journal of a run that really follows the program.
-use Rattle.std.specs.Prelude.{List}
+use Rattle.std.specs.Prelude.{◌≡◌, ℕ, List}
 use Rattle.flux_values.specs.Meanings.{LibraryMeaning}
 use Rattle.flux_values.specs.Cells.{no_cell}
 use Rattle.flux_model.specs.declared.programs.Program.{Program}
 use Rattle.flux_model.specs.declared.journals.Entry.{Entry}
 use Rattle.flux_model.specs.declared.journals.Item.{Item}
+use Rattle.flux_model.specs.declared.journals.Journal.{Journal}
 use Rattle.flux_model.specs.Locks.{Holds}
 use Rattle.flux_model.specs.Setup.{Setup}
 use Rattle.flux_model.specs.Legal.{IsLegal, IsWhole}
 use Rattle.flux_model.specs.Serial.{AreWalks}
+use Rattle.flux_model.specs.Texts.{printed_journal}
+use Rattle.flux_syntax.specs.ProgramOfText.{program_of}
+use Rattle.flux_driver.specs.Worlds.{Files}
+use Rattle.flux_driver.specs.Inputs.{HasItems, kinds_in}
+use Rattle.flux_driver.specs.Items.{AreItemsOf}
 
 -- a program with its locks, items, a library, and cells that are all empty at the start
 abbrev pub setup_of : Program → Holds → List Item → LibraryMeaning → Setup
@@ -33,3 +39,13 @@ pub record IsTrueRun (program : Program) (items : List Item) (meaning : LibraryM
   pub legal : IsLegal (setup_of program locks items meaning) entries
   pub whole : IsWhole (setup_of program locks items meaning) entries
   pub serial : AreWalks (setup_of program locks items meaning) 0 items entries
+
+-- the text is the printed journal of a true run of the items of the items file through the program of the program's
+pub record IsJournalText (meaning : LibraryMeaning) (told : Files) (file items text : List ℕ)
+    : Type 0 where
+  pub has : HasItems meaning told file items
+  pub its : List Item
+  pub are_items : AreItemsOf (program_of has.decls) (kinds_in meaning has.decls) its has.text
+  pub journal : Journal
+  pub true_run : IsTrueRun (program_of has.decls) its meaning journal.entries
+  pub printed : text ≡ printed_journal (program_of has.decls) journal

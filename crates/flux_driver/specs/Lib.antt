@@ -1,5 +1,11 @@
 pub mod steps
 pub mod Statuses
 pub mod Worlds
-pub mod Headline
+pub mod Commands
+pub mod Inputs
 pub mod Items
+pub mod Headline
+pub mod Printed
+pub mod Causes
+pub mod Answers
+pub mod Top

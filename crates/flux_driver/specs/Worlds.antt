@@ -52,3 +52,7 @@ pub record Broke (before after : Stream) (bytes : List ℕ) : Type 0 where
   pub is : bytes ≡ front ++ rest
   pub gains : Gains before after front
   pub rose : Rose before.faults after.faults
+
+-- either
+abbrev pub WroteOrBroke : Stream → Stream → List ℕ → Type 0
+WroteOrBroke before after bytes = Wrote before after bytes ⊎ Broke before after bytes

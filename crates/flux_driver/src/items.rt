@@ -15,7 +15,7 @@ ghost use Rattle.flux_driver.specs.steps.ItemLines.{IsNext, IsClosed, IsLine, cl
 
 use flux_hoist::Checked;
 use flux_model::{Item, NodeNo, NodeSig, Program, SourceLine, SourceNo, TypeText};
-use flux_values::{Kind, List, Memory, Value, ValueFault, read_value};
+use flux_values::{Kind, List, Memory, Value, ValueFault, read_printed_value};
 use std::alloc::Global;
 
 /// The most items of an items text.
@@ -51,7 +51,7 @@ fn read_next(
     let Some(rest) = strip(mark, text) else {
         return Ok(None);
     };
-    match read_value(alloc, rest) {
+    match read_printed_value(alloc, rest) {
         Ok((value, length)) => {
             if value.kind() == kind {
                 Ok(Some((value, mark.len() + length)))
