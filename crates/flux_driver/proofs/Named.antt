@@ -164,9 +164,10 @@ texts_new : (before decls : List Decl) → repeated_after sourced before decls �
 texts_new before [] e = tt
 texts_new before (Source name target ∷ decls) e =
     let d = Source name target in
-    let both = nil_append (listed_if (list_any (repeats sourced d) before) (Some name)) (repeated_after sourced (before ++ d ∷ []) decls) e in
-    (sym (repeats_known name target before) ∙ unlisted (list_any (repeats sourced d) before) name both.0,
-     same_new (texts_of sourced (before ++ d ∷ [])) (texts_of sourced before ++ name.text ∷ []) (texts_of sourced decls) (texts_added before d) (texts_new (before ++ d ∷ []) decls both.1))
+    let both = nil_append (listed_if (list_any (repeats sourced d) before) (Some name)) (repeated_after sourced (before ++ d ∷ []) decls) e in (
+      sym (repeats_known name target before) ∙ unlisted (list_any (repeats sourced d) before) name both.0,
+      same_new (texts_of sourced (before ++ d ∷ [])) (texts_of sourced before ++ name.text ∷ []) (texts_of sourced decls) (texts_added before d) (texts_new (before ++ d ∷ []) decls both.1),
+    )
 texts_new before (Signature name ins outs ∷ decls) e =
     let d = Signature name ins outs in
     other_new before d (texts_of sourced decls) refl (texts_new (before ++ d ∷ []) decls (later (list_any (repeats sourced d) before) None (repeated_after sourced (before ++ d ∷ []) decls) e))
@@ -221,7 +222,7 @@ module _ (decls : List Decl) where
       let both = nil_append (not_among names (used_names (Source name target))) (flat_map (λ d. not_among names (used_names d)) ds) e in
       let stands = place_known name names (first_known name (target ∷ []) both.0) in
       let own : name_in (slice_get p.nodes (place_of names name)) ≡ name.text =
-          ap name_in (slice_get-map (node_of names (texts_of defined decls) (classes_of decls) decls) names (place_of names name) ∙ ap (option_map (node_of names (texts_of defined decls) (classes_of decls) decls)) stands) in
+      ap name_in (slice_get-map (node_of names (texts_of defined decls) (classes_of decls) decls) names (place_of names name) ∙ ap (option_map (node_of names (texts_of defined decls) (classes_of decls) decls)) stands) in
       λ i. own i ∷ lines_named ds both.1 i
   lines_named (Signature name ins outs ∷ ds) e = lines_named ds (nil_append (not_among names (used_names (Signature name ins outs))) (flat_map (λ d. not_among names (used_names d)) ds) e).1
   lines_named (Flow name patterns members ∷ ds) e = lines_named ds (nil_append (not_among names (used_names (Flow name patterns members))) (flat_map (λ d. not_among names (used_names d)) ds) e).1

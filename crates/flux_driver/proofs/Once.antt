@@ -57,8 +57,9 @@ module _ (meaning : LibraryMeaning) (files : Told) where
   not_unbuilt : (file text : List ℕ) (fault : StaticFault) (decls : List Decl) → CanBeRun meaning (Some files) file decls → Gives (Some files) file PROGRAM_FILE_LIMIT (Found text) → IsNotRun meaning text fault → ⊥
   not_unbuilt file text fault decls h gives n =
       let program = h.program in
-      let same : n.decls ≡ decls = one_list text n.decls decls n.declared (declared_here file text decls program.has gives) in
-      let none = sym h.built ∙ sym (ap first_patterned same) ∙ n.first in absurd cc
+      let form = n.form in
+      let same : form.decls ≡ decls = one_list text form.decls decls form.declared (declared_here file text decls program.has gives) in
+      let none = sym h.built ∙ sym (ap first_patterned same) ∙ form.first in absurd cc
 
   not_static : (file text : List ℕ) (fault : StaticFault) (decls : List Decl) → CanBeRun meaning (Some files) file decls → Gives (Some files) file PROGRAM_FILE_LIMIT (Found text) → IsTextFault meaning text fault ⊎ IsNotRun meaning text fault → ⊥
   not_static file text fault decls h gives (inl stands) = not_faulty file text fault decls h.program gives stands

@@ -29,7 +29,7 @@ use Rattle.flux_driver.specs.Inputs.{HasDecls, HasProgram, CanBeRun, HasItems, k
 use Rattle.flux_driver.specs.Items.{AreItemsOf, IsItemFault}
 use Rattle.flux_driver.specs.Headline.{IsTrueRun}
 use Rattle.flux_driver.specs.Printed.{IsPrinted}
-use Rattle.flux_driver.specs.Causes.{IsNotRun, IsStaticOf}
+use Rattle.flux_driver.specs.Causes.{IsUnbuilt, IsStaticOf}
 use Rattle.flux_driver.specs.Top.{AsksFor}
 use Rattle.flux_driver.specs.steps.ItemLines.{AreNamedSources}
 use Rattle.flux_driver.specs.steps.Running.{IsSimple, IsRunnable}
@@ -103,8 +103,8 @@ module _ (meaning : LibraryMeaning) (told : Files) where
   pub run_refused : (file items text : List ℕ) (refusal : Refusal) → Gives told file PROGRAM_FILE_LIMIT (Found text) → IsCheckRefused meaning text refusal → IsRefused meaning (run file items) told refusal
   run_refused file items text refusal gives says = says_refused (run file items) file text (IsTextFault meaning text) refl gives (λ fault stands. inl stands) refusal says
 
-  pub unbuilt_refused : (file items text : List ℕ) (refusal : Refusal) → Gives told file PROGRAM_FILE_LIMIT (Found text) → IsRunRefused meaning text refusal → IsRefused meaning (run file items) told refusal
-  unbuilt_refused file items text refusal gives says = says_refused (run file items) file text (IsNotRun meaning text) refl gives (λ fault stands. inr stands) refusal says
+  pub unbuilt_refused : (file items text : List ℕ) (refusal : Refusal) → IsSoundText meaning text → Gives told file PROGRAM_FILE_LIMIT (Found text) → IsRunRefused text refusal → IsRefused meaning (run file items) told refusal
+  unbuilt_refused file items text refusal sound gives says = says_refused (run file items) file text (IsUnbuilt text) refl gives (λ fault stands. inr (record { sound = sound; form = stands })) refusal says
 
 -- ---- statuses that rest on no items
 
@@ -130,25 +130,26 @@ passed_firm meaning command told Says own (Err e) is says = text_firm meaning co
 
 module _ (meaning : LibraryMeaning) (text : List ℕ) (program : Program) (sigs : List NodeSig) (order : List NodeNo) (sizes : List ℕ) (c : IsChecked meaning text program sigs order sizes) where
   abbrev decls : List Decl
-  decls = let sound = c.text_sound in sound.decls
+  decls = c.decls
+
+  pub has_decls : (ds : List Decl) × Declares ds text
+  has_decls = (c.decls, c.declared)
 
   pub text_sound : IsSoundText meaning text
-  text_sound = c.text_sound
+  text_sound = record { decls = c.decls; declared = c.declared; sound = c.checked.sound }
 
   pub sources_are_named : AreNamedSources program
-  sources_are_named =
-      let s = c.text_sound in let sound = s.sound in let ordered = sound.ordered in let names = ordered.names in
-      subst AreNamedSources (sym c.is) (are_named meaning text s.decls s.declared names.named)
+  sources_are_named = subst AreNamedSources (sym c.checked.is) (are_named meaning text c.decls c.declared c.checked.sound.ordered.names.named)
 
   pub has_program : (told : Files) (file : List ℕ) → Gives told file PROGRAM_FILE_LIMIT (Found text) → HasProgram meaning told file decls
-  has_program told file gives = let s = c.text_sound in record { has = record { text = text; gives = gives; declared = s.declared }; sound = s.sound }
+  has_program told file gives = record { has = record { text = text; gives = gives; declared = c.declared }; sound = c.checked.sound }
 
   own_kinds : kinds_at sigs ≡ kinds_in meaning decls
-  own_kinds = λ i number. node_kinds (sigs_same meaning.kind decls sigs c.sigs_ i number)
+  own_kinds = λ i number. node_kinds (sigs_same meaning.kind decls sigs c.checked.sigs_ i number)
 
   module _ (built : (ds : List Decl) → Declares ds text → first_patterned ds ≡ None) where
     own_built : first_patterned decls ≡ None
-    own_built = let s = c.text_sound in built s.decls s.declared
+    own_built = built c.decls c.declared
 
     pub can_be_run : (told : Files) (file : List ℕ) → Gives told file PROGRAM_FILE_LIMIT (Found text) → CanBeRun meaning told file decls
     can_be_run told file gives = record { program = has_program told file gives; built = own_built }
@@ -162,13 +163,12 @@ module _ (meaning : LibraryMeaning) (text : List ℕ) (program : Program) (sigs 
     }
 
     pub runnable : IsRunnable meaning program (kinds_at sigs)
-    runnable =
-        let s = c.text_sound in let sound = s.sound in record {
-          sound = c.sound;
-          order = order;
-          ordered = c.ordered;
-          simple = subst (λ (p : Program). AllByRecursion IsSimple p.nodes) (sym c.is) (nodes_simple meaning decls own_built sound.built);
-        }
+    runnable = record {
+      sound = c.checked.for_library;
+      order = order;
+      ordered = c.checked.keeps.ordered;
+      simple = subst (λ (p : Program). AllByRecursion IsSimple p.nodes) (sym c.checked.is) (nodes_simple meaning decls own_built c.checked.sound.ordered.names.built);
+    }
 
     module _ (told : Files) (file items items_text : List ℕ) (gives : Gives told file PROGRAM_FILE_LIMIT (Found text)) (more : Gives told items ITEMS_FILE_LIMIT (Found items_text)) where
       abbrev has_items : HasItems meaning told file items
@@ -178,19 +178,22 @@ module _ (meaning : LibraryMeaning) (text : List ℕ) (program : Program) (sigs 
       is_printed printed w = record {
         has = has_items;
         its = w.items;
-        are_items = subst (λ (k : ℕ → NodeKinds). AreItemsOf (program_of decls) k w.items items_text) own_kinds (subst (λ (p : Program). AreItemsOf p (kinds_at sigs) w.items items_text) c.is w.are_items);
+        are_items = subst (λ (k : ℕ → NodeKinds). AreItemsOf (program_of decls) k w.items items_text) own_kinds (subst (λ (p : Program). AreItemsOf p (kinds_at sigs) w.items items_text) c.checked.is w.are_items);
         journal = w.journal;
-        true_run = subst (λ (p : Program). let journal = w.journal in IsTrueRun p w.items meaning journal.entries) c.is w.true_run;
-        printed = w.is ∙ ap (λ (p : Program). printed_journal p w.journal) c.is;
+        true_run = subst (λ (p : Program). let journal = w.journal in IsTrueRun p w.items meaning journal.entries) c.checked.is w.true_run;
+        printed = w.is ∙ ap (λ (p : Program). printed_journal p w.journal) c.checked.is;
       }
 
       pub items_refused : (refusal : Refusal) → AreRefused program sigs items_text refusal → IsRefused meaning (run file items) told refusal
-      items_refused (refusals.Items place) r = inl (record {
-        has = has_items;
-        place = place;
-        fault = subst (λ (k : ℕ → NodeKinds). IsItemFault (program_of decls) k place items_text) own_kinds (subst (λ (p : Program). IsItemFault p (kinds_at sigs) place items_text) c.is r);
-        said = refl;
-      }, refl)
+      items_refused (refusals.Items place) r = inl (
+        record {
+          has = has_items;
+          place = place;
+          fault = subst (λ (k : ℕ → NodeKinds). IsItemFault (program_of decls) k place items_text) own_kinds (subst (λ (p : Program). IsItemFault p (kinds_at sigs) place items_text) c.checked.is r);
+          said = refl;
+        },
+        refl,
+      )
       items_refused refusals.Memory r = inr (inr refl)
       items_refused refusals.Usage r = absurd r
       items_refused (refusals.Static line) r = absurd r
@@ -205,14 +208,14 @@ module _ (meaning : LibraryMeaning) (text : List ℕ) (program : Program) (sigs 
 
       their_items : (h : HasItems meaning (Some files) file items) (its : List Item) → AreItemsOf (program_of h.decls) (kinds_in meaning h.decls) its h.text → AreItemsOf program (kinds_at sigs) its items_text
       their_items h its are =
-          subst (λ (p : Program). AreItemsOf p (kinds_at sigs) its items_text) (sym c.is)
+          subst (λ (p : Program). AreItemsOf p (kinds_at sigs) its items_text) (sym c.checked.is)
           (subst (λ (k : ℕ → NodeKinds). AreItemsOf (program_of decls) k its items_text) (sym own_kinds)
           (subst (λ (x : List ℕ). AreItemsOf (program_of decls) (kinds_in meaning decls) its x) (text_is files items ITEMS_FILE_LIMIT h.text items_text h.gives more)
           (subst (λ (ds : List Decl). AreItemsOf (program_of ds) (kinds_in meaning ds) its h.text) (same_decls h) are)))
 
       their_fault : (h : HasItems meaning (Some files) file items) (place : ℕ) → IsItemFault (program_of h.decls) (kinds_in meaning h.decls) place h.text → IsItemFault program (kinds_at sigs) place items_text
       their_fault h place is =
-          subst (λ (p : Program). IsItemFault p (kinds_at sigs) place items_text) (sym c.is)
+          subst (λ (p : Program). IsItemFault p (kinds_at sigs) place items_text) (sym c.checked.is)
           (subst (λ (k : ℕ → NodeKinds). IsItemFault (program_of decls) k place items_text) (sym own_kinds)
           (subst (λ (x : List ℕ). IsItemFault (program_of decls) (kinds_in meaning decls) place x) (text_is files items ITEMS_FILE_LIMIT h.text items_text h.gives more)
           (subst (λ (ds : List Decl). IsItemFault (program_of ds) (kinds_in meaning ds) place h.text) (same_decls h) is)))

@@ -67,7 +67,7 @@ module _ (walks : ℕ → Walking) where
         ap (λ (ts : List Task). do_all ts ended) (sym (append_assoc tasks (visits_back members) (Visit member ∷ [])))
         ∙ do_last (tasks ++ visits_back members) (Visit member) ended
         ∙ then_same (do_task (Visit member) ended) (do_all (tasks ++ visits_back members)) (λ e. then (go_on (members_walk walks members) e) (do_all tasks))
-          (bare_go_on member.0 ended) (do_members tasks members)
+        (bare_go_on member.0 ended) (do_members tasks members)
         ∙ sym (then_assoc (do_task (Visit member) ended) (go_on (members_walk walks members)) (do_all tasks))
         ∙ ap (λ (w : Walked). then w (do_all tasks)) (sym (some_members member members ended.outcome ended.values ended.left))
 

@@ -1,6 +1,5 @@
 -- Texts with forms that aren't run yet.
 use Rattle.std.proofs.Common.{◌≡◌, ◌≤◌, ◌<◌, ℕ, List, [], ◌∷◌, length, Option, Some, None, refl, sym, ap, ◌∙◌, arith}
-use Rattle.flux_values.specs.Meanings.{LibraryMeaning}
 use Rattle.flux_faults.specs.declared.faults.StaticFault.{StaticFault}
 use Rattle.flux_faults.specs.declared.faults.FaultKind.TheVariants.{NotBuilt}
 use Rattle.flux_faults.specs.declared.places.TheConstants.{PLACE_LIMIT}
@@ -10,7 +9,6 @@ use Rattle.flux_syntax.specs.Declares.{Declares}
 use Rattle.flux_syntax.proofs.Standing.{AllStandIn, all_stand}
 use Rattle.flux_syntax.proofs.Texts.{one_list, no_decls}
 use Rattle.flux_names.specs.Building.{first_patterned}
-use Rattle.flux_check.specs.Judgement.{IsSoundText}
 use Rattle.flux_driver.specs.declared.refusals.Refusal.{Refusal}
 use Rattle.flux_driver.specs.declared.refusals.Refusal.TheVariants as refusals
 use Rattle.flux_driver.specs.Causes.{fault_text}
@@ -38,32 +36,25 @@ module _ (text : List ℕ) (decls : List Decl) (declared : Declares decls text) 
 
 -- ---- what is refused
 
-module _ (meaning : LibraryMeaning) (text : List ℕ) (sound : IsSoundText meaning text) where
-  -- a sound text has none of the faults 1 to 4
-  pub never_read : (refusal : Refusal) → IsTextRefused text refusal → IsRunRefused meaning text refusal
-  never_read (refusals.Static line) says = let fault = says.fault in absurd (no_decls fault.kind fault.at text sound.decls says.stands.0 sound.declared)
-  never_read refusals.Memory says = tt
-  never_read refusals.Usage says = absurd says
-  never_read (refusals.Items place) says = absurd says
-  never_read refusals.Read says = absurd says
-  never_read (refusals.Missing name) says = absurd says
+module _ (text : List ℕ) where
+  -- a text with declarations has none of the faults 1 to 4
+  pub never_read : (refusal : Refusal) → (decls : List Decl) × Declares decls text → IsTextRefused text refusal → IsRunRefused text refusal
+  never_read (refusals.Static line) has says = let fault = says.fault in absurd (no_decls fault.kind fault.at text has.0 says.stands.0 has.1)
+  never_read refusals.Memory has says = tt
+  never_read refusals.Usage has says = absurd says
+  never_read (refusals.Items place) has says = absurd says
+  never_read refusals.Read has says = absurd says
+  never_read (refusals.Missing name) has says = absurd says
 
   module _ (decls : List Decl) (declared : Declares decls text) where
     pub all_built : first_patterned decls ≡ None → (others : List Decl) → Declares others text → first_patterned others ≡ None
     all_built none others theirs = ap first_patterned (one_list text others decls theirs declared) ∙ none
 
     pub form_refused : (at : ℕ) (path : List (List ℕ)) (refusal : Refusal) → first_patterned decls ≡ Some at → path ≡ []
-        → SaysOrMemory (λ line. line ≡ fault_text text (record { kind = NotBuilt; at = at; path = path })) refusal → IsRunRefused meaning text refusal
+        → SaysOrMemory (λ line. line ≡ fault_text text (record { kind = NotBuilt; at = at; path = path })) refusal → IsRunRefused text refusal
     form_refused at path (refusals.Static line) first none says = record {
       fault = record { kind = NotBuilt; at = at; path = path };
-      stands = record {
-        decls = sound.decls;
-        declared = sound.declared;
-        sound = sound.sound;
-        first = ap first_patterned (one_list text sound.decls decls sound.declared declared) ∙ first;
-        kind = refl;
-        path = none;
-      };
+      stands = record { decls = decls; declared = declared; first = first; kind = refl; path = none };
       said = says;
     }
     form_refused at path refusals.Memory first none says = tt

@@ -62,8 +62,8 @@ module _ (setup : Setup) (unlocked : (number : ℕ) → setup.locks number ≡ [
   events_at f n zero (first ∷ items) entries lt is (events, rest, is_flow, split, run) =
       let same : n ≡ f = omega (arith, is) in
       let are : events_by f entries ≡ events =
-          ap (events_by f) (split ∙ ap (λ (m : ℕ). entries_of m events ++ rest) same) ∙ by_own f events rest
-          ∙ ap (λ (l : List Event). events ++ l) (events_before f (suc n) items rest (omega (arith, same)) run) ∙ append-nil events in
+      ap (events_by f) (split ∙ ap (λ (m : ℕ). entries_of m events ++ rest) same) ∙ by_own f events rest
+      ∙ ap (λ (l : List Event). events ++ l) (events_before f (suc n) items rest (omega (arith, same)) run) ∙ append-nil events in
       subst (IsFlow setup f) (sym are) (subst (λ (m : ℕ). IsFlow setup m events) same is_flow)
   events_at f n (suc i) (first ∷ items) entries lt is (events, rest, is_flow, split, run) =
       let others : events_by f entries ≡ events_by f rest = ap (events_by f) split ∙ by_other f n events rest (λ (e : n ≡ f). omega (arith, e, is)) in

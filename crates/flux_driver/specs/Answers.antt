@@ -30,7 +30,8 @@ abbrev pub IsDue : LibraryMeaning → List (List ℕ) → Files → Status → L
 IsDue meaning words told status text line = IsUsage words status text line
     ⊎ ((command : Command) × Asks words command × Decided meaning command told status text line)
 
--- what else a command can come to: reading failed, or writing failed (the text is the one that was to be printed)
+-- what else a command can come to: reading failed, or writing failed (the text is the one that was to
+-- be printed)
 abbrev pub Happened : LibraryMeaning → Command → Files → Status → List ℕ → List ℕ → Type 0
 Happened meaning command told statuses.Read text line =
     ((file : List ℕ) × ReadsProgram command file) × (text ≡ []) × (line ≡ read_line)

@@ -11,7 +11,7 @@ use Rattle.flux_syntax.specs.Declares.{Declares}
 use Rattle.flux_syntax.specs.Unexpected.{IsFaulty}
 use Rattle.flux_syntax.specs.ProgramOfText.{program_of}
 use Rattle.flux_names.specs.Building.{first_patterned}
-use Rattle.flux_check.specs.Judgement.{AreSound, IsTextFault}
+use Rattle.flux_check.specs.Judgement.{IsSoundText, IsTextFault}
 use Rattle.flux_driver.specs.declared.files.TheConstants.{PROGRAM_FILE_LIMIT, ITEMS_FILE_LIMIT}
 use Rattle.flux_driver.specs.Worlds.{Files, Gives, IsLost}
 use Rattle.flux_driver.specs.Commands.{Command, check, format, run, help, ReadsProgram}
@@ -40,14 +40,18 @@ lost_line name = codes "flux: missing or too long: " ++ name ++ codes "\n"
 
 -- ---- the program's text has a fault
 
--- a sound text has a flow with patterns or a `handle` line, which aren't run yet
-pub record IsNotRun (meaning : LibraryMeaning) (text : List ℕ) (fault : StaticFault) : Type 0 where
+-- a text has a flow with patterns or a `handle` line, which aren't run yet: at the first one's name
+pub record IsUnbuilt (text : List ℕ) (fault : StaticFault) : Type 0 where
   pub decls : List Decl
   pub declared : Declares decls text
-  pub sound : AreSound meaning decls
   pub first : first_patterned decls ≡ Some fault.at
   pub kind : fault.kind ≡ NotBuilt
   pub path : fault.path ≡ []
+
+-- and no other fault
+pub record IsNotRun (meaning : LibraryMeaning) (text : List ℕ) (fault : StaticFault) : Type 0 where
+  pub sound : IsSoundText meaning text
+  pub form : IsUnbuilt text fault
 
 -- the fault of a program's text that a command looks for: `format` looks for faults 1 to 4 alone
 abbrev pub IsStaticOf : LibraryMeaning → Command → List ℕ → StaticFault → Type 0
@@ -69,7 +73,8 @@ pub record IsStatic (meaning : LibraryMeaning) (command : Command) (told : Files
 
 -- ---- the items text has a fault
 
-pub record IsItemsText (meaning : LibraryMeaning) (told : Files) (file items line : List ℕ) : Type 0 where
+pub record IsItemsText (meaning : LibraryMeaning) (told : Files) (file items line : List ℕ)
+    : Type 0 where
   pub has : HasItems meaning told file items
   pub place : ℕ
   pub fault : IsItemFault (program_of has.decls) (kinds_in meaning has.decls) place has.text

@@ -27,12 +27,13 @@ setup_of program locks items meaning = record {
 }
 
 -- The entries are a true run of the items:
---   whole           each item's flow is one whole path of its walk, on the answers of its own calls;
---   legal.answers   each call has the answer of its library node, on the cells as the entries before it left them;
---   legal.excludes  no take and no section overlaps one of another flow that conflicts with it;
+--   whole           each item's flow is one whole path of its walk, on its own calls' answers;
+--   legal.answers   each call has its library node's answer, on the cells as they then stand;
+--   legal.excludes  no take and no section overlaps one of another flow in conflict with it;
 --   legal.waits     each wait stands where a take is blocked, and nobody overtakes it;
 --   legal.free      at no moment do flows wait for each other in a circle;
--- and the flows come one after the other, in the order of the items. `legal` says too that the locks are the program's.
+-- and the flows come one after the other, in the order of the items. `legal` says too that the
+-- locks are the program's.
 pub record IsTrueRun (program : Program) (items : List Item) (meaning : LibraryMeaning)
     (entries : List Entry) : Type 0 where
   pub locks : Holds
@@ -40,7 +41,8 @@ pub record IsTrueRun (program : Program) (items : List Item) (meaning : LibraryM
   pub whole : IsWhole (setup_of program locks items meaning) entries
   pub serial : AreWalks (setup_of program locks items meaning) 0 items entries
 
--- the text is the printed journal of a true run of the items of the items file through the program of the program's
+-- the text is the printed journal of a true run: of the items of the one file, through the program of
+-- the other
 pub record IsJournalText (meaning : LibraryMeaning) (told : Files) (file items text : List ℕ)
     : Type 0 where
   pub has : HasItems meaning told file items

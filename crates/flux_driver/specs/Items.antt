@@ -13,8 +13,9 @@ use Rattle.flux_driver.specs.declared.items.TheConstants.{ITEM_LIMIT}
 abbrev pub item_line : Program → Item → List ℕ
 item_line p item = printed_item p item ++ codes "\n"
 
--- the text is these items, at most 64
-pub record AreItemsOf (p : Program) (kinds : ℕ → NodeKinds) (items : List Item) (text : List ℕ) : Type 0 where
+-- the text is these items, at most 64 of them
+pub record AreItemsOf (p : Program) (kinds : ℕ → NodeKinds) (items : List Item) (text : List ℕ)
+    : Type 0 where
   pub lines : text ≡ flat_map (item_line p) items
   pub each : AllByRecursion (IsItemFor p kinds) items
   pub few : length items ≤ ITEM_LIMIT

@@ -12,7 +12,8 @@ use Rattle.flux_driver.specs.Headline.{IsJournalText}
 abbrev pub help_text : List ℕ
 help_text = codes "flux check FILE\nflux format FILE\nflux run FILE ITEMS\nflux help or --help\n"
 
--- `check` prints `ok`, `format` the formatted text of the declarations, `run` a journal, and `help` the help text
+-- `check` prints `ok`, `format` the formatted text of the declarations, `run` a journal, and `help`
+-- the help text
 abbrev pub IsPrinted : LibraryMeaning → Command → Files → List ℕ → Type 0
 IsPrinted meaning (check file) told text =
     (decls : List Decl) × HasProgram meaning told file decls × (text ≡ codes "ok\n")

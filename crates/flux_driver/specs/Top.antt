@@ -12,7 +12,8 @@ use Rattle.flux_driver.specs.Answers.{IsDue, IsAnswer, OrMemory}
 
 -- ---- what was asked for
 
--- the names of files that a command asks for, in order: `run` asks for the items only behind a program that can be run
+-- the names of files that a command asks for, in order: `run` asks for the items only behind a program
+-- that can be run
 abbrev pub AreAsked : LibraryMeaning → Command → Files → List (List ℕ) → Type 0
 AreAsked meaning (check file) told names = names ≡ file ∷ []
 AreAsked meaning (format file) told names = names ≡ file ∷ []
@@ -28,14 +29,15 @@ pub record AsksFor (meaning : LibraryMeaning) (command : Command) (told : Files)
   pub are : AreAsked meaning command told names
 
 -- words that are no command ask for nothing
-abbrev pub HaveAsked : LibraryMeaning → List (List ℕ) → Files → List (List ℕ) → List (List ℕ) → Type 0
+abbrev pub HaveAsked : LibraryMeaning → List (List ℕ) → Files → List (List ℕ) → List (List ℕ)
+    → Type 0
 HaveAsked meaning words told before after = (AsksNothing words × (after ≡ before))
     ⊎ ((command : Command) × Asks words command × AsksFor meaning command told before after)
 
 -- ---- what was printed and said
 
--- the text is on `out`, all of it, or a front of it where writing failed; the line is on `err`, all of it, or a front
--- of it where `err` failed
+-- the text is on `out`, all of it, or a front of it where writing failed; the line is on `err`, all of
+-- it, or a front of it where `err` failed
 pub record HasAnswered (meaning : LibraryMeaning) (words : List (List ℕ)) (before : Seen)
     (status : Status) (after : Seen) : Type 0 where
   pub text : List ℕ
@@ -73,9 +75,10 @@ IsComplete meaning words told status = IfSome told (λ files. (due : Status) (te
 -- ---- the whole
 
 -- A call with these words answers this status:
---   the files are as before, and no count of failures falls; what was asked for is what the words say;
+--   the files are as before, no count of failures falls, and the words say which files were asked for;
 --   the status has its cause, and `out` and `err` have gained what belongs to it;
---   status 5 comes where the count of the files rose, and else that count stands as before; so do status 6 and `out`;
+--   with status 5 the count of the files rose, and with any other it stands as before; the same of
+--   status 6 and the count of `out`;
 --   words that are no command are refused, and what is due is answered, unless memory was short.
 pub record HasDone (meaning : LibraryMeaning) (words : List (List ℕ)) (before : Seen)
     (status : Status) (after : Seen) : Type 0 where

@@ -39,13 +39,18 @@ fn run_text<'a, L: Library>(
     checked: &Checked,
     text: &[u8],
 ) -> Result<Bytes, Refusal<'a>>
-    requires runs { IsRunnable (L.meaning library.now) checked.now.program (kinds_at checked.now.sigs.nodes) }
+    requires runs { IsRunnable (L.meaning library.now) checked.now.program
+        (kinds_at checked.now.sigs.nodes) }
     requires named { AreNamedSources checked.now.program }
-    ensures printed { IfOk result (IsWritten (L.meaning library.now) checked.now.program checked.now.sigs.nodes text.now) }
-    ensures refused { IfErr result (AreRefused checked.now.program checked.now.sigs.nodes text.now) }
-    ensures items { (items : List Item) → AreItemsOf checked.now.program (kinds_at checked.now.sigs.nodes) items text.now
+    ensures printed { IfOk result (IsWritten
+        (L.meaning library.now) checked.now.program checked.now.sigs.nodes text.now) }
+    ensures refused { IfErr result
+        (AreRefused checked.now.program checked.now.sigs.nodes text.now) }
+    ensures items { (items : List Item) → AreItemsOf checked.now.program
+        (kinds_at checked.now.sigs.nodes) items text.now
         → IfErr result (λ refusal. refusal ≡ refusals.Memory) }
-    ensures fault { (place : ℕ) → IsItemFault checked.now.program (kinds_at checked.now.sigs.nodes) place text.now
+    ensures fault { (place : ℕ) → IsItemFault checked.now.program
+        (kinds_at checked.now.sigs.nodes) place text.now
         → IfOk result (λ _. ⊥) }
 {
     match read_items(alloc, checked, text)? {
@@ -66,11 +71,15 @@ fn prepare_check<'a, L: Library, S: Store>(
 ) -> Result<Bytes, Refusal<'a>>
     ensures kept { S.files store.new ≡ S.files store.old }
     ensures later { S.faults store.old ≤ S.faults store.new }
-    ensures asked { AsksFor (L.meaning library.now) (check file.now) (S.files store.old) (S.asked store.old) (S.asked store.new) }
-    ensures done { IfOk result (IsPrinted (L.meaning library.now) (check file.now) (S.files store.old)) }
-    ensures refused { IfErr result (IsRefused (L.meaning library.now) (check file.now) (S.files store.old)) }
+    ensures asked { AsksFor (L.meaning library.now) (check file.now) (S.files store.old)
+        (S.asked store.old) (S.asked store.new) }
+    ensures done { IfOk result (IsPrinted (L.meaning library.now) (check file.now)
+        (S.files store.old)) }
+    ensures refused { IfErr result (IsRefused (L.meaning library.now) (check file.now)
+        (S.files store.old)) }
     ensures counts { Counts result (S.faults store.old) (S.faults store.new) }
-    ensures firm { IfSome (S.files store.old) (λ told. IsFirm (L.meaning library.now) (check file.now) (Some told) (prepared_status result)) }
+    ensures firm { IfSome (S.files store.old) (λ told. IsFirm (L.meaning library.now)
+        (check file.now) (Some told) (prepared_status result)) }
 {
     let text = load(alloc, store, file, PROGRAM_FILE_LIMIT)?;
     check_text(alloc, library, text.as_bytes())?;
@@ -86,11 +95,15 @@ fn prepare_format<'a, L: Library, S: Store>(
 ) -> Result<Bytes, Refusal<'a>>
     ensures kept { S.files store.new ≡ S.files store.old }
     ensures later { S.faults store.old ≤ S.faults store.new }
-    ensures asked { AsksFor (L.meaning library.now) (format file.now) (S.files store.old) (S.asked store.old) (S.asked store.new) }
-    ensures done { IfOk result (IsPrinted (L.meaning library.now) (format file.now) (S.files store.old)) }
-    ensures refused { IfErr result (IsRefused (L.meaning library.now) (format file.now) (S.files store.old)) }
+    ensures asked { AsksFor (L.meaning library.now) (format file.now) (S.files store.old)
+        (S.asked store.old) (S.asked store.new) }
+    ensures done { IfOk result (IsPrinted (L.meaning library.now) (format file.now)
+        (S.files store.old)) }
+    ensures refused { IfErr result (IsRefused (L.meaning library.now) (format file.now)
+        (S.files store.old)) }
     ensures counts { Counts result (S.faults store.old) (S.faults store.new) }
-    ensures firm { IfSome (S.files store.old) (λ told. IsFirm (L.meaning library.now) (format file.now) (Some told) (prepared_status result)) }
+    ensures firm { IfSome (S.files store.old) (λ told. IsFirm (L.meaning library.now)
+        (format file.now) (Some told) (prepared_status result)) }
 {
     let _ = library;
     let text = load(alloc, store, file, PROGRAM_FILE_LIMIT)?;
@@ -108,15 +121,19 @@ fn prepare_run<'a, L: Library, S: Store>(
 ) -> Result<Bytes, Refusal<'a>>
     ensures kept { S.files store.new ≡ S.files store.old }
     ensures later { S.faults store.old ≤ S.faults store.new }
-    ensures asked { AsksFor (L.meaning library.now) (run file.now items.now) (S.files store.old) (S.asked store.old) (S.asked store.new) }
-    ensures done { IfOk result (IsPrinted (L.meaning library.now) (run file.now items.now) (S.files store.old)) }
-    ensures refused { IfErr result (IsRefused (L.meaning library.now) (run file.now items.now) (S.files store.old)) }
+    ensures asked { AsksFor (L.meaning library.now) (run file.now items.now) (S.files store.old)
+        (S.asked store.old) (S.asked store.new) }
+    ensures done { IfOk result (IsPrinted (L.meaning library.now) (run file.now items.now)
+        (S.files store.old)) }
+    ensures refused { IfErr result (IsRefused (L.meaning library.now) (run file.now items.now)
+        (S.files store.old)) }
     ensures counts { Counts result (S.faults store.old) (S.faults store.new) }
-    ensures firm { IfSome (S.files store.old) (λ told. IsFirm (L.meaning library.now) (run file.now items.now) (Some told) (prepared_status result)) }
+    ensures firm { IfSome (S.files store.old) (λ told. IsFirm (L.meaning library.now)
+        (run file.now items.now) (Some told) (prepared_status result)) }
 {
     let text = load(alloc, store, file, PROGRAM_FILE_LIMIT)?;
     let checked = check_text(alloc, library, text.as_bytes())?;
-    expect_built(alloc, library, text.as_bytes())?;
+    expect_built(alloc, text.as_bytes())?;
     let items_text = load(alloc, store, items, ITEMS_FILE_LIMIT)?;
     run_text(alloc, library, &checked, items_text.as_bytes())
 }
@@ -137,11 +154,16 @@ pub fn prepare<'a, L: Library, S: Store>(
 ) -> Result<Bytes, Refusal<'a>>
     ensures kept { S.files store.new ≡ S.files store.old }
     ensures later { S.faults store.old ≤ S.faults store.new }
-    ensures asked { HaveAsked (L.meaning library.now) words.now (S.files store.old) (S.asked store.old) (S.asked store.new) }
-    ensures done { IfOk result (λ text. (command : Command) × Asks words.now command × IsPrinted (L.meaning library.now) command (S.files store.old) text) }
-    ensures refused { IfErr result (λ refusal. IsAnswer (L.meaning library.now) words.now (S.files store.old) (status_of refusal) [] (line_of refusal)) }
+    ensures asked { HaveAsked (L.meaning library.now) words.now (S.files store.old)
+        (S.asked store.old) (S.asked store.new) }
+    ensures done { IfOk result (λ text. (command : Command) × Asks words.now command × IsPrinted
+        (L.meaning library.now) command (S.files store.old) text) }
+    ensures refused { IfErr result (λ refusal. IsAnswer (L.meaning library.now) words.now
+        (S.files store.old) (status_of refusal) [] (line_of refusal)) }
     ensures counts { Counts result (S.faults store.old) (S.faults store.new) }
-    ensures firm { IfSome (S.files store.old) (λ told. (command : Command) → Asks words.now command → IsFirm (L.meaning library.now) command (Some told) (prepared_status result)) }
+    ensures firm { IfSome (S.files store.old) (λ told. (command : Command)
+        → Asks words.now command → IsFirm (L.meaning library.now) command (Some told)
+        (prepared_status result)) }
 {
     match read_words(words) {
         Some(Asked::Check { file }) => prepare_check(alloc, library, store, file),

@@ -26,7 +26,8 @@ pub fn load<'a, S: Store>(
     ensures kept { S.files store.new ≡ S.files store.old }
     ensures asked { S.asked store.new ≡ S.asked store.old ++ name.now ∷ [] }
     ensures later { S.faults store.old ≤ S.faults store.new }
-    ensures found { IfOk result (λ text. Gives (S.files store.old) name.now max (files.Found text)) }
+    ensures found { IfOk result (λ text. Gives (S.files store.old) name.now max
+        (files.Found text)) }
     ensures unread { IfErr result (IsUnread (S.files store.old) name.now max) }
     ensures counts { Counts result (S.faults store.old) (S.faults store.new) }
 {

@@ -45,8 +45,13 @@ fn read_next(
     text: &[u8],
 ) -> Result<Option<(Value, usize)>, Memory>
     ensures found { IfOk result (λ read. IfSome read (IsNext mark.now kind text.now)) }
-    ensures only { (value : Value) (rest : List ℕ) → IsValue value → kind_of value ≡ kind → EndsBefore value rest → text.now ≡ mark.now ++ (printed_value value ++ rest)
-        → IfOk result (λ read. read ≡ Some (value, length mark.now + length (printed_value value))) }
+    ensures only { (value : Value) (rest : List ℕ) → IsValue value → kind_of value ≡ kind
+        → EndsBefore value rest → text.now ≡ mark.now ++ (printed_value value ++ rest)
+        → IfOk result (λ read. read ≡ Some (
+          value,
+          length mark.now + length
+              (printed_value value),
+        )) }
 {
     let Some(rest) = strip(mark, text) else {
         return Ok(None);
@@ -72,7 +77,8 @@ fn read_values(
     text: &[u8],
 ) -> Result<Option<(List<Value>, usize)>, Memory>
     ensures found { IfOk result (λ read. IfSome read (IsClosed kinds.now text.now)) }
-    ensures only { (values : List Value) (rest : List ℕ) → AreValues kinds.now values → text.now ≡ closed values ++ rest
+    ensures only { (values : List Value) (rest : List ℕ) → AreValues kinds.now values
+        → text.now ≡ closed values ++ rest
         → IfOk result (λ read. read ≡ Some (values, length (closed values))) }
 {
     let mut values = List::new(alloc);
@@ -111,7 +117,8 @@ fn read_line(
     text: &[u8],
 ) -> Result<Option<(List<Value>, usize)>, Memory>
     ensures found { IfOk result (λ read. IfSome read (IsLine name.now kinds.now text.now)) }
-    ensures only { (values : List Value) (rest : List ℕ) → AreValues kinds.now values → text.now ≡ line_of name.now values ++ rest
+    ensures only { (values : List Value) (rest : List ℕ) → AreValues kinds.now values
+        → text.now ≡ line_of name.now values ++ rest
         → IfOk result (λ read. read ≡ Some (values, length (line_of name.now values))) }
 {
     let Some(behind) = strip(name, text) else {
@@ -194,9 +201,17 @@ fn read_item_of(
     text: &[u8],
 ) -> Result<Option<(Item, usize)>, Memory>
     requires { IsNamed checked.now.program name.now place }
-    ensures found { IfOk result (λ read. IfSome read (IsItemLine checked.now.program (kinds_at checked.now.sigs.nodes) text.now)) }
-    ensures only { (values : List Value) (rest : List ℕ) → IsItemOf (kinds_at checked.now.sigs.nodes) (slice_get checked.now.program.sources place) values → text.now ≡ line_of name.now values ++ rest
-        → IfOk result (λ read. read ≡ Some (record { source = record { 0 = place }; values = values }, length (line_of name.now values))) }
+    ensures found { IfOk result (λ read. IfSome read (IsItemLine checked.now.program
+        (kinds_at checked.now.sigs.nodes) text.now)) }
+    ensures only { (values : List Value) (rest : List ℕ)
+        → IsItemOf (kinds_at checked.now.sigs.nodes)
+        (slice_get checked.now.program.sources place) values
+        → text.now ≡ line_of name.now values ++ rest
+        → IfOk result (λ read. read ≡ Some (
+          record { source = record { 0 = place }; values = values },
+          length
+              (line_of name.now values),
+        )) }
 {
     let Some(line) = checked.program.sources.as_slice().get(place) else {
         unreachable!()
@@ -214,8 +229,11 @@ fn read_item_of(
 /// The item whose line begins a text, and how many bytes it is.
 fn read_item(alloc: Global, checked: &Checked, text: &[u8]) -> Result<Option<(Item, usize)>, Memory>
     requires { AreNamedSources checked.now.program }
-    ensures found { IfOk result (λ read. IfSome read (IsItemLine checked.now.program (kinds_at checked.now.sigs.nodes) text.now)) }
-    ensures only { (item : Item) (rest : List ℕ) → IsItemFor checked.now.program (kinds_at checked.now.sigs.nodes) item → text.now ≡ item_line checked.now.program item ++ rest
+    ensures found { IfOk result (λ read. IfSome read (IsItemLine checked.now.program
+        (kinds_at checked.now.sigs.nodes) text.now)) }
+    ensures only { (item : Item) (rest : List ℕ)
+        → IsItemFor checked.now.program (kinds_at checked.now.sigs.nodes) item
+        → text.now ≡ item_line checked.now.program item ++ rest
         → IfOk result (λ read. read ≡ Some (item, length (item_line checked.now.program item))) }
 {
     let name = front_name(text);
@@ -228,9 +246,14 @@ fn read_item(alloc: Global, checked: &Checked, text: &[u8]) -> Result<Option<(It
 /// The items of a text, at most 64, or the first line that is none.
 pub fn read_items(alloc: Global, checked: &Checked, text: &[u8]) -> Result<ItemsRead, Memory>
     requires { AreNamedSources checked.now.program }
-    ensures read { IfOk result (IsItemsRead checked.now.program (kinds_at checked.now.sigs.nodes) text.now) }
-    ensures items { (items : List Item) → AreItemsOf checked.now.program (kinds_at checked.now.sigs.nodes) items text.now → IfOk result (λ read. read ≡ ItemsRead.Items items) }
-    ensures fault { (line : ℕ) → IsItemFault checked.now.program (kinds_at checked.now.sigs.nodes) line text.now → IfOk result (λ read. read ≡ ItemsRead.Fault line) }
+    ensures read { IfOk result (IsItemsRead checked.now.program
+        (kinds_at checked.now.sigs.nodes) text.now) }
+    ensures items { (items : List Item) → AreItemsOf checked.now.program
+        (kinds_at checked.now.sigs.nodes) items text.now
+        → IfOk result (λ read. read ≡ ItemsRead.Items items) }
+    ensures fault { (line : ℕ) → IsItemFault checked.now.program
+        (kinds_at checked.now.sigs.nodes) line text.now
+        → IfOk result (λ read. read ≡ ItemsRead.Fault line) }
 {
     let mut items = List::new(alloc);
     let mut rest = text;

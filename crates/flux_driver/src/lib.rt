@@ -1,7 +1,8 @@
 //! The command line: all that the program does, as one call.
 //!
-//! `top` takes the words and the outside world, and answers a status. With status 0 of `run` it has printed the
-//! journal of a true run of the items through the program of the text; every other status comes exactly for its cause.
+//! `top` takes the words and the outside world, and answers a status. Where `run` ends with status 0, it
+//! has printed the journal of a true run of the items through the program of the text; every other status
+//! comes exactly for its cause.
 #![tactic(auto)]
 
 mod commands;

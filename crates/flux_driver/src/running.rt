@@ -1,5 +1,5 @@
-//! The flows of items, run one after the other. What a flow has still to do stands on a list, so nested flows take no
-//! room of the machine's stack.
+//! The flows of items, run one after the other. What a flow has still to do stands on a list, so nested
+//! flows take no room of the machine's stack.
 
 ghost use Rattle.std.specs.Prelude.{◌≡◌, ◌++◌, [], ◌∷◌, ◌<◌, ◌≤◌, IfOk, OnOk, Some, length, slice_get};
 ghost use Rattle.flux_library.specs.Libraries.{IsCallable};
@@ -64,7 +64,8 @@ fn copy_values(alloc: Global, values: &[Value]) -> Result<List<Value>, Memory>
 
 /// Adds an event of a flow.
 fn record_event(entries: &mut List<Entry>, flow: FlowNo, event: Event) -> Result<(), Memory>
-    ensures { OnOk result (entries.new ≡ entries.old ++ record { flow = flow; event = event } ∷ []) }
+    ensures { OnOk result (entries.new ≡ entries.old
+        ++ record { flow = flow; event = event } ∷ []) }
 {
     entries.add(Entry { flow, event })
 }
@@ -76,7 +77,8 @@ fn record_call(
     made: CallMade,
     outcome: Outcome,
 ) -> Result<(), Memory>
-    ensures { OnOk result (entries.new ≡ entries.old ++ entries_of flow.0 (Enter made.node ∷ Call made ∷ Exit made.node outcome ∷ [])) }
+    ensures { OnOk result (entries.new ≡ entries.old ++ entries_of flow.0
+        (Enter made.node ∷ Call made ∷ Exit made.node outcome ∷ [])) }
 {
     let node = made.node;
     record_event(entries, flow, Event::Enter(node))?;
@@ -108,8 +110,14 @@ impl Progress {
         entries: &mut List<Entry>,
     ) -> Result<(), Memory>
         requires { IsCallable ((L.meaning library.now).node name.now) self.old.values [] }
-        ensures entries { OnOk result (entries.new ≡ entries.old ++ entries_of flow.0 (called (L.meaning library.now) name.now self.old.values node)) }
-        ensures progress { OnOk result (self.new ≡ (let answer = (L.meaning library.now).call name.now self.old.values [] in record { tasks = self.old.tasks; outcome = outcome_of answer.result; values = values_of answer.result })) }
+        ensures entries { OnOk result (entries.new ≡ entries.old
+            ++ entries_of flow.0 (called (L.meaning library.now) name.now self.old.values node)) }
+        ensures progress { OnOk result (self.new
+            ≡ (let answer = (L.meaning library.now).call name.now self.old.values [] in record {
+              tasks = self.old.tasks;
+              outcome = outcome_of answer.result;
+              values = values_of answer.result;
+            })) }
     {
         let answer = library.call(alloc, name, self.values.as_slice(), &[])?;
         let outcome = outcome_of(&answer.result);
@@ -134,7 +142,8 @@ impl Progress {
         cases: &[Case],
         entries: &mut List<Entry>,
     ) -> Result<(), Memory>
-        ensures entries { OnOk result (entries.new ≡ entries.old ++ entries_of flow.0 (case_events node cases.now)) }
+        ensures entries { OnOk result (entries.new ≡ entries.old ++ entries_of flow.0
+            (case_events node cases.now)) }
         ensures progress { OnOk result (self.new ≡ case_progress self.old node cases.now) }
     {
         record_event(entries, flow, Event::Enter(node))?;
@@ -163,8 +172,10 @@ impl Progress {
         entries: &mut List<Entry>,
     ) -> Result<(), Memory>
         requires { IsReadyBody (L.meaning library.now) body.now self.old.values }
-        ensures entries { OnOk result (entries.new ≡ entries.old ++ entries_of flow.0 (body_events (L.meaning library.now) node self.old.values body.now)) }
-        ensures progress { OnOk result (self.new ≡ body_progress (L.meaning library.now) self.old node body.now) }
+        ensures entries { OnOk result (entries.new ≡ entries.old ++ entries_of flow.0 (body_events
+            (L.meaning library.now) node self.old.values body.now)) }
+        ensures progress { OnOk result (self.new ≡ body_progress
+            (L.meaning library.now) self.old node body.now) }
     {
         match body {
             Body::Concrete(name) => self.call(alloc, library, flow, node, name.as_bytes(), entries),
@@ -182,9 +193,12 @@ impl Progress {
         found: &Node,
         entries: &mut List<Entry>,
     ) -> Result<(), Memory>
-        requires { IsReadyFor (L.meaning library.now) self.old.outcome self.old.values (Some found.now) }
-        ensures entries { OnOk result (entries.new ≡ entries.old ++ entries_of flow.0 (visit_events (L.meaning library.now) self.old node (Some found.now))) }
-        ensures progress { OnOk result (self.new ≡ visit_progress (L.meaning library.now) self.old node (Some found.now)) }
+        requires { IsReadyFor (L.meaning library.now) self.old.outcome self.old.values
+            (Some found.now) }
+        ensures entries { OnOk result (entries.new ≡ entries.old ++ entries_of flow.0
+            (visit_events (L.meaning library.now) self.old node (Some found.now))) }
+        ensures progress { OnOk result (self.new ≡ visit_progress
+            (L.meaning library.now) self.old node (Some found.now)) }
     {
         match self.outcome {
             Outcome::Good => self.enter(alloc, library, flow, node, &found.body, entries),
@@ -203,9 +217,12 @@ impl Progress {
         node: NodeNo,
         entries: &mut List<Entry>,
     ) -> Result<(), Memory>
-        requires { IsReadyFor (L.meaning library.now) self.old.outcome self.old.values (slice_get nodes.now node.0) }
-        ensures entries { OnOk result (entries.new ≡ entries.old ++ entries_of flow.0 (visit_events (L.meaning library.now) self.old node (slice_get nodes.now node.0))) }
-        ensures progress { OnOk result (self.new ≡ visit_progress (L.meaning library.now) self.old node (slice_get nodes.now node.0)) }
+        requires { IsReadyFor (L.meaning library.now) self.old.outcome self.old.values
+            (slice_get nodes.now node.0) }
+        ensures entries { OnOk result (entries.new ≡ entries.old ++ entries_of flow.0
+            (visit_events (L.meaning library.now) self.old node (slice_get nodes.now node.0))) }
+        ensures progress { OnOk result (self.new ≡ visit_progress
+            (L.meaning library.now) self.old node (slice_get nodes.now node.0)) }
     {
         match nodes.get(node.0 as usize) {
             Some(found) => self.pass(alloc, library, flow, node, found, entries),
@@ -216,7 +233,8 @@ impl Progress {
 
 /// A flow that is to visit its source's target.
 fn begin(alloc: Global, program: &Program, item: &Item) -> Result<Progress, Memory>
-    ensures { IfOk result (λ progress. progress ≡ begun item.now (slice_get program.now.sources item.now.source.0)) }
+    ensures { IfOk result (λ progress. progress ≡ begun item.now
+        (slice_get program.now.sources item.now.source.0)) }
 {
     let mut tasks = List::new(alloc);
     if let Some(line) = program.sources.get(item.source.0 as usize) {
@@ -240,7 +258,8 @@ fn run_item<L: Library>(
 ) -> Result<(), Memory>
     requires can { CanRun program.now items.now (L.meaning library.now) }
     requires flow { flow.0 < length items.now }
-    ensures { OnOk result (HasRun (setup_of program.now no_locks items.now (L.meaning library.now)) flow.0 entries.old entries.new) }
+    ensures { OnOk result (HasRun (setup_of program.now no_locks items.now
+        (L.meaning library.now)) flow.0 entries.old entries.new) }
 {
     let nodes = program.nodes.as_slice();
     let item = &items[flow.0 as usize];
@@ -265,7 +284,8 @@ pub fn run<L: Library>(
 ) -> Result<Journal, Memory>
     requires can { CanRun program.now items.now (L.meaning library.now) }
     requires few { length items.now ≤ 64 }
-    ensures { IfOk result (λ journal. IsTrueRun program.now items.now (L.meaning library.now) journal.entries) }
+    ensures { IfOk result (λ journal. IsTrueRun program.now items.now
+        (L.meaning library.now) journal.entries) }
 {
     let mut entries = List::new(alloc);
     for flow in 0..items.len() {

@@ -19,7 +19,8 @@ fn say<E: Sink>(err: &mut E, line: &[u8])
     let _ = write_all(err, line);
 }
 
-/// Writes the line about a refusal. That reading failed is told without taking memory, so that it is told for sure.
+/// Writes the line about a refusal. That reading failed is told without taking memory, so that want of
+/// memory never stands for it.
 pub fn refuse<E: Sink>(alloc: Global, err: &mut E, refusal: Refusal) -> Status
     ensures later { E.faults err.old ≤ E.faults err.new }
     ensures told { IsTold refusal.entry result

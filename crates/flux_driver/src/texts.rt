@@ -5,7 +5,7 @@ ghost use Rattle.flux_faults.specs.declared.places.TheConstants.{PLACE_LIMIT};
 ghost use Rattle.flux_syntax.specs.declared.declarations.Decl.{Decl};
 ghost use Rattle.flux_syntax.specs.Declares.{Declares};
 ghost use Rattle.flux_names.specs.Building.{first_patterned};
-ghost use Rattle.flux_check.specs.Judgement.{IsChecked, IsSoundText};
+ghost use Rattle.flux_check.specs.Judgement.{IsChecked};
 ghost use Rattle.flux_driver.specs.Causes.{fault_text};
 ghost use Rattle.flux_driver.specs.steps.Refusals.{SaysOrMemory, IsTextRefused, IsCheckRefused, IsRunRefused};
 
@@ -70,17 +70,13 @@ pub fn check_text<'a, L: Library>(
     }
 }
 
-/// Refuses a sound text with a flow with patterns or a `handle` line: these aren't run yet.
-pub fn expect_built<'a, L: Library>(
-    alloc: Global,
-    library: &L,
-    text: &[u8],
-) -> Result<(), Refusal<'a>>
-    requires sound { IsSoundText (L.meaning library.now) text.now }
-    ensures built { OnOk result ((decls : List Decl) → Declares decls text.now → first_patterned decls ≡ None) }
-    ensures refused { IfErr result (IsRunRefused (L.meaning library.now) text.now) }
+/// Refuses a text with a flow with patterns or a `handle` line: these aren't run yet.
+pub fn expect_built<'a>(alloc: Global, text: &[u8]) -> Result<(), Refusal<'a>>
+    requires { (decls : List Decl) × Declares decls text.now }
+    ensures built { OnOk result ((decls : List Decl) → Declares decls text.now
+        → first_patterned decls ≡ None) }
+    ensures refused { IfErr result (IsRunRefused text.now) }
 {
-    let _ = library;
     let decls = read_text(alloc, text)?;
     match first_patterned(&decls) {
         None => Ok(()),

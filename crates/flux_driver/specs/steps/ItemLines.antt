@@ -47,13 +47,15 @@ separator (value ∷ values) = codes ", "
 abbrev pub line_of : List ℕ → List Value → List ℕ
 line_of name values = name ++ codes " " ++ printed_values values ++ codes "\n"
 
-pub record IsLine (name : List ℕ) (kinds : List Kind) (text : List ℕ) (read : List Value × ℕ) : Type 0 where
+pub record IsLine (name : List ℕ) (kinds : List Kind) (text : List ℕ)
+    (read : List Value × ℕ) : Type 0 where
   pub values : AreValues kinds read.0
   pub within : read.1 ≤ length text
   pub spelled : take read.1 text ≡ line_of name read.0
 
 -- the line of an item begins the text
-pub record IsItemLine (p : Program) (kinds : ℕ → NodeKinds) (text : List ℕ) (read : Item × ℕ) : Type 0 where
+pub record IsItemLine (p : Program) (kinds : ℕ → NodeKinds) (text : List ℕ) (read : Item × ℕ)
+    : Type 0 where
   pub item : IsItemFor p kinds read.0
   pub within : read.1 ≤ length text
   pub spelled : take read.1 text ≡ item_line p read.0

@@ -52,7 +52,7 @@ abbrev pub prepared_status : Result (List ℕ) Refusal → Status
 prepared_status (Ok text) = statuses.Done
 prepared_status (Err refusal) = status_of refusal
 
--- where a journal is printed the items text has no fault, and where it has one no journal is printed
+-- where a journal is printed the items text has no fault, and where it has one no journal is
 abbrev pub IsFirm : LibraryMeaning → Command → Files → Status → Type 0
 IsFirm meaning command told statuses.Done =
     (line : List ℕ) → IsItems meaning command told line → ⊥

@@ -11,7 +11,7 @@ use Rattle.flux_driver.specs.declared.refusals.Refusal.{Refusal}
 use Rattle.flux_driver.specs.declared.refusals.Refusal.TheVariants.{Usage, Static, Items, Read, Missing, Memory}
 use Rattle.flux_driver.specs.Worlds.{Files, IsLost}
 use Rattle.flux_driver.specs.Commands.{Command}
-use Rattle.flux_driver.specs.Causes.{usage_line, fault_text, item_fault_line, read_line, lost_line, IsNotRun}
+use Rattle.flux_driver.specs.Causes.{usage_line, fault_text, item_fault_line, read_line, lost_line, IsUnbuilt}
 use Rattle.flux_driver.specs.Answers.{Decided, Happened}
 
 -- the status of a refusal
@@ -83,8 +83,8 @@ abbrev pub IsCheckRefused : LibraryMeaning → List ℕ → Refusal → Type 0
 IsCheckRefused meaning text = SaysOrMemory (IsFaultLine (IsTextFault meaning text) text)
 
 -- it has a form that isn't run yet
-abbrev pub IsRunRefused : LibraryMeaning → List ℕ → Refusal → Type 0
-IsRunRefused meaning text = SaysOrMemory (IsFaultLine (IsNotRun meaning text) text)
+abbrev pub IsRunRefused : List ℕ → Refusal → Type 0
+IsRunRefused text = SaysOrMemory (IsFaultLine (IsUnbuilt text) text)
 
 -- ---- commands
 

@@ -29,7 +29,8 @@ pub record IsSimple (node : Node) : Type 0 where
   pub free : node.declared ≡ []
 
 -- the program is sound for the library, with these kinds; its nodes have an order and are simple
-pub record IsRunnable (meaning : LibraryMeaning) (program : Program) (kinds : ℕ → NodeKinds) : Type 0 where
+pub record IsRunnable (meaning : LibraryMeaning) (program : Program) (kinds : ℕ → NodeKinds)
+    : Type 0 where
   pub sound : IsSound meaning program kinds
   pub order : List NodeNo
   pub ordered : IsOrder program.nodes order

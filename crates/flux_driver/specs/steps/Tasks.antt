@@ -34,7 +34,7 @@ abbrev pub visits_back : List NodeNo → List Task
 visits_back [] = []
 visits_back (node ∷ nodes) = visits_back nodes ++ Visit node ∷ []
 
--- ---- a node is visited where all went well so far: a concrete node is called, and an abstract one entered
+-- ---- a node is visited where all went well so far: it is called, or entered
 
 abbrev pub called : LibraryMeaning → List ℕ → List Value → NodeNo → List Event
 called meaning name args node =

@@ -1,11 +1,11 @@
 use Rattle.flux_driver.specs.Commands.{run}
 use Rattle.flux_driver.specs.Printed.{IsPrinted}
-use Rattle.flux_driver.specs.Causes.{IsNotRun}
+use Rattle.flux_driver.specs.Causes.{IsUnbuilt}
 use Rattle.flux_driver.specs.steps.Refusals.{IsFaultLine, IsRefused}
 use Rattle.flux_driver.specs.steps.Preparing.{IsWritten, AreRefused}
 use Rattle.flux_driver.proofs.Steps.{if_ok, if_err}
 use Rattle.flux_driver.proofs.Passed.{passed}
-use Rattle.flux_driver.proofs.Prepared.{unread_items, run_refused, unbuilt_refused, passed_firm, sources_are_named, can_be_run, asks_both, runnable, is_printed, items_refused, firm}
+use Rattle.flux_driver.proofs.Prepared.{unread_items, run_refused, unbuilt_refused, passed_firm, has_decls, text_sound, sources_are_named, can_be_run, asks_both, runnable, is_printed, items_refused, firm}
 use Rattle.flux_driver.proofs.commands.prepare_run.Goals as goal
 
 -- ---- the text has a fault
@@ -22,17 +22,25 @@ pub returns-in_err-expect_built-clause-refused : goal.returns-in_err-expect_buil
 returns-in_err-expect_built-clause-refused g c =
     let meaning = g.L.Meaning.meaning c.args.library.now in
     let told = g.S.Store.files c.args.store.now in
+    let checked = rw c.as_bytes.ensures at c.in_ok-checked.ensures.checked in
+    let sound = text_sound meaning c.in_ok-text.text c.in_ok-checked.checked.program c.in_ok-checked.checked.sigs.nodes c.in_ok-checked.checked.order.nodes c.in_ok-checked.checked.sizes checked in
     let refused = rw c.as_bytes-2.ensures at c.in_err-expect_built.ensures.refused in
     passed (IsRefused meaning (run c.args.file.now c.args.items.now) told) c.in_err-expect_built.field-0.0 c.from_residual-in_err-expect_built.result c.from_residual-in_err-expect_built.ensures.1
-    (unbuilt_refused meaning told c.args.file.now c.args.items.now c.in_ok-text.text c.in_err-expect_built.field-0.0 c.in_ok-text.ensures.found refused)
+    (unbuilt_refused meaning told c.args.file.now c.args.items.now c.in_ok-text.text c.in_err-expect_built.field-0.0 sound c.in_ok-text.ensures.found refused)
 
 pub returns-in_err-expect_built-clause-firm : goal.returns-in_err-expect_built-clause-firm
 returns-in_err-expect_built-clause-firm g c =
     let meaning = g.L.Meaning.meaning c.args.library.now in
     let told = g.S.Store.files c.args.store.now in
     let refused = rw c.as_bytes-2.ensures at c.in_err-expect_built.ensures.refused in
-    passed_firm meaning (run c.args.file.now c.args.items.now) told (IsFaultLine (IsNotRun meaning c.in_ok-text.text) c.in_ok-text.text) c.in_err-expect_built.field-0.0
+    passed_firm meaning (run c.args.file.now c.args.items.now) told (IsFaultLine (IsUnbuilt c.in_ok-text.text) c.in_ok-text.text) c.in_err-expect_built.field-0.0
     c.from_residual-in_err-expect_built.result c.from_residual-in_err-expect_built.ensures.1 refused
+
+pub expect_built-requires : goal.expect_built-requires
+expect_built-requires g c =
+    let checked = rw c.as_bytes.ensures at c.in_ok-checked.ensures.checked in
+    rw c.as_bytes-2.ensures
+    (has_decls (g.L.Meaning.meaning c.args.library.now) c.in_ok-text.text c.in_ok-checked.checked.program c.in_ok-checked.checked.sigs.nodes c.in_ok-checked.checked.order.nodes c.in_ok-checked.checked.sizes checked)
 
 -- ---- the items file isn't read
 
