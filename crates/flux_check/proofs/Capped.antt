@@ -1,6 +1,6 @@
 -- Sizes as they are counted are the sizes of the program, as far as the limit.
 use Rattle.std.proofs.Common.{◌≡◌, ◌<◌, ◌≤◌, ◌+◌, ℕ, zero, suc, inl, inr, Bool, true, false, ltb, List, [], ◌∷◌, length, replicate, Option, Some, None, refl, sym, ap, ◌∙◌, arith}
-use Rattle.std.specs.List.{slice_get}
+use Rattle.std.specs.List.{fold, slice_get}
 use Rattle.std.specs.Option.{unwrap_or}
 use Rattle.std.proofs.lemmas.Bool.Decides.{nat_tests}
 use Rattle.std.proofs.lemmas.List.{length-set}
@@ -8,16 +8,15 @@ use Rattle.std.proofs.lemmas.Option.{slice_get_past}
 use Rattle.flux_values.proofs.Sets.{get_put, get_beside}
 use Rattle.flux_model.specs.declared.programs.NodeNo.{NodeNo}
 use Rattle.flux_model.specs.declared.programs.Node.{Node}
-use Rattle.flux_model.specs.Leading.{leads_to}
+use Rattle.flux_model.specs.Leading.{leads_to, leads_in}
 use Rattle.flux_model.specs.Children.{IsIn}
 use Rattle.flux_model.specs.Nested.{for_node, nested, LooksDown}
+use Rattle.flux_model.specs.Locks.{no_locks}
 use Rattle.flux_model.specs.Sizes.{sizes_of, size_by, size_of}
-use Rattle.flux_graph.specs.Ordering.{IsOrder}
-use Rattle.flux_graph.specs.Tables.{put_all}
-use Rattle.flux_graph.specs.Reaching.{leads_in}
-use Rattle.flux_graph.proofs.Depths.{kept}
-use Rattle.flux_graph.proofs.Fillings.{Puts, table_many, table_is}
-use Rattle.flux_check.specs.Summing.{capped, size_at, capped_sum, put_found, put_size}
+use Rattle.flux_model.specs.Ordering.{IsOrder}
+use Rattle.flux_graph.proofs.Depths.{through-rule}
+use Rattle.flux_graph.proofs.Fillings.{Puts, slice_get-filled, length-filled}
+use Rattle.flux_check.specs.steps.Summing.{capped, size_at, capped_sum, put_found, put_size}
 
 capped_more : (total size t s : ℕ) → total ≡ capped t → size ≡ capped s → capped (total + size) ≡ capped (t + s)
 capped_more total size t s a b = omega (arith, a, b)
@@ -28,7 +27,7 @@ sum_is table size total t (node ∷ nodes) is known =
     sum_is table size (capped (total + size_at table node.0)) (t + size node.0) nodes (capped_more total (size_at table node.0) t (size node.0) is (known node.0 (inl refl))) (λ led i. known led (inr i))
     ∙ ap capped (omega arith)
 
-pub looks_down : LooksDown size_by
+pub looks_down : LooksDown (size_by no_locks)
 looks_down f g number node agree = ap (λ (n : ℕ). 3 + n) (same (leads_to node) agree)
   where
     same : (nodes : List NodeNo) → ((led : ℕ) → IsIn led nodes → f led ≡ g led) → sizes_of f nodes ≡ sizes_of g nodes
@@ -44,20 +43,20 @@ zeros_many : (count : ℕ) → length (replicate {A = ℕ} count 0) ≡ count
 zeros_many zero = refl
 zeros_many (suc count) = ap suc (zeros_many count)
 
-past_nested : (nodes : List Node) (depth number : ℕ) → slice_get nodes number ≡ None → nested 0 size_by nodes depth number ≡ 0
+past_nested : (nodes : List Node) (depth number : ℕ) → slice_get nodes number ≡ None → nested 0 (size_by no_locks) nodes depth number ≡ 0
 past_nested nodes zero number none = refl
-past_nested nodes (suc depth) number none = ap (for_node 0 (size_by (nested 0 size_by nodes depth) number)) none
+past_nested nodes (suc depth) number none = ap (for_node 0 (size_by no_locks (nested 0 (size_by no_locks) nodes depth) number)) none
 
 module _ (nodes : List Node) (order : List NodeNo) (is_order : IsOrder nodes order) where
   abbrev value : ℕ → ℕ
-  value number = capped (size_of nodes number)
+  value number = capped (size_of no_locks nodes number)
 
   own_size : (table : List ℕ) (number : ℕ) (node : Node) → number < length nodes → length table ≡ length nodes → slice_get nodes number ≡ Some node
       → ((led : ℕ) → IsIn led (leads_in nodes number) → slice_get table led ≡ Some (value led)) → slice_get (put_found table number (Some node)) number ≡ Some (value number)
   own_size table number node below many at known =
       get_put table number (capped_sum table 3 (leads_to node)) (omega (arith, below, many))
-      ∙ ap Some (sum_is table (size_of nodes) 3 3 (leads_to node) refl (λ led is. ap (λ (s : Option ℕ). unwrap_or s 0) (known led (rw at is)))
-      ∙ ap capped (sym (kept 0 size_by looks_down nodes order is_order number node at)))
+      ∙ ap Some (sum_is table (size_of no_locks nodes) 3 3 (leads_to node) refl (λ led is. ap (λ (s : Option ℕ). unwrap_or s 0) (known led (rw at is)))
+      ∙ ap capped (sym (through-rule 0 (size_by no_locks) looks_down nodes order is_order number node at)))
 
   puts : Puts value nodes (replicate (length nodes) 0) (put_size nodes)
   puts = record {
@@ -77,16 +76,16 @@ module _ (nodes : List Node) (order : List NodeNo) (is_order : IsOrder nodes ord
       beside table number other apart (Some node) = get_beside table number other (capped_sum table 3 (leads_to node)) apart
 
   -- each number's size stands in the table
-  pub sizes_stand : (number : ℕ) → size_at (put_all (put_size nodes) (replicate (length nodes) 0) order) number ≡ value number
+  pub sizes_stand : (number : ℕ) → size_at (fold (put_size nodes) (replicate (length nodes) 0) order) number ≡ value number
   sizes_stand number = one (ltb number (length nodes)) refl
     where
       zeros : length (replicate {A = ℕ} (length nodes) 0) ≡ length nodes
       zeros = zeros_many (length nodes)
 
-      one : (t : Bool) → ltb number (length nodes) ≡ t → size_at (put_all (put_size nodes) (replicate (length nodes) 0) order) number ≡ value number
-      one true e = ap (λ (s : Option ℕ). unwrap_or s 0) (table_is value nodes (replicate (length nodes) 0) (put_size nodes) puts order is_order zeros number (grind (arith, nat_tests, e)))
+      one : (t : Bool) → ltb number (length nodes) ≡ t → size_at (fold (put_size nodes) (replicate (length nodes) 0) order) number ≡ value number
+      one true e = ap (λ (s : Option ℕ). unwrap_or s 0) (slice_get-filled value nodes (replicate (length nodes) 0) (put_size nodes) puts order is_order zeros number (grind (arith, nat_tests, e)))
       one false e =
           let past : length nodes ≤ number = grind (arith, nat_tests, e) in
-          let table_size = table_many value nodes (replicate (length nodes) 0) (put_size nodes) puts order is_order zeros in
-          ap (λ (s : Option ℕ). unwrap_or s 0) (slice_get_past (put_all (put_size nodes) (replicate (length nodes) 0) order) number (omega (arith, past, table_size)))
+          let table_size = length-filled value nodes (replicate (length nodes) 0) (put_size nodes) puts order is_order zeros in
+          ap (λ (s : Option ℕ). unwrap_or s 0) (slice_get_past (fold (put_size nodes) (replicate (length nodes) 0) order) number (omega (arith, past, table_size)))
           ∙ ap capped (sym (past_nested nodes (length nodes) number (slice_get_past nodes number past)))

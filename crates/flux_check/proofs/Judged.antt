@@ -1,7 +1,10 @@
 -- What the steps of checking give is the judgement of the declarations and of the text.
-use Rattle.std.proofs.Common.{◌≡◌, ◌<◌, ℕ, zero, suc, inl, inr, List, [], ◌∷◌, ◌++◌, length, map, Option, Some, None, refl, sym, ap, subst, ◌∙◌, arith}
-use Rattle.std.specs.List.{slice_get, flat_map, AllByRecursion}
-use Rattle.flux_faults.specs.declared.faults.FaultKind.TheVariants.{Cycle}
+use Rattle.std.proofs.Common.{◌≡◌, ◌<◌, ℕ, zero, suc, inl, inr, Bool, true, false, if◌then◌else◌, List, [], ◌∷◌, ◌++◌, length, map, Option, Some, None, refl, sym, ap, subst, ◌∙◌, arith, append_assoc}
+use Rattle.std.specs.List.{slice_get, AllByRecursion}
+use Rattle.std.proofs.lemmas.List.{append-nil}
+use Rattle.flux_values.specs.Meanings.{LibraryMeaning}
+use Rattle.flux_faults.specs.declared.faults.FaultKind.{FaultKind}
+use Rattle.flux_faults.specs.declared.faults.FaultKind.TheVariants.{Cycle, HandlerTypes, NoSession}
 use Rattle.flux_faults.specs.declared.faults.CheckFault.{CheckFault}
 use Rattle.flux_faults.specs.declared.faults.CheckFault.TheVariants as causes
 use Rattle.flux_model.specs.declared.programs.Program.{Program}
@@ -9,46 +12,75 @@ use Rattle.flux_model.specs.declared.programs.NodeNo.{NodeNo}
 use Rattle.flux_model.specs.declared.programs.Node.{Node}
 use Rattle.flux_model.specs.declared.named.Named.{Named}
 use Rattle.flux_model.specs.declared.signatures.NodeSig.{NodeSig}
-use Rattle.flux_model.specs.Leading.{AreBelow, IsNumbered, leads_to}
-use Rattle.flux_model.specs.Children.{IsIn, numbers_of}
+use Rattle.flux_model.specs.Numbered.{AreBelow, IsNumbered}
+use Rattle.flux_model.specs.Leading.{leads_to, leads_in, numbers_of}
+use Rattle.flux_model.specs.Children.{IsIn}
+use Rattle.flux_model.specs.Ordering.{IsOrder, IsLed, HasCycle, IsCycle, IsLowestCycle}
+use Rattle.flux_model.specs.Names.{IsNamed}
+use Rattle.flux_model.specs.Kinds.{NodeKinds, Agree, sig_at, kinds_at}
+use Rattle.flux_model.specs.Soundness.{IsSound}
 use Rattle.flux_model.specs.Texts.{node_name}
-use Rattle.flux_model.specs.Soundness.{Agree, IsSound, kinds_at}
+use Rattle.flux_syntax.specs.declared.declarations.Word.{Word}
 use Rattle.flux_syntax.specs.declared.declarations.Decl.{Decl}
-use Rattle.flux_syntax.specs.declared.declarations.Decl.TheVariants.{Signature, Flow, Source, Typedef, Handler, Atomic, Session}
 use Rattle.flux_syntax.specs.Declares.{Declares}
 use Rattle.flux_syntax.specs.Unexpected as syntax
-use Rattle.flux_syntax.specs.Words.{naming, listed}
-use Rattle.flux_syntax.specs.ProgramOfText.{node_of, places, named_of}
-use Rattle.flux_syntax.specs.Least.{first_fault, IsLeastFault}
-use Rattle.flux_syntax.proofs.Standing.{all_stand, text_few}
-use Rattle.flux_names.specs.Rows.{Kinds, Nodes}
-use Rattle.flux_names.specs.Building.{first_unbuilt}
-use Rattle.flux_names.specs.Resolving.{IsNamed}
-use Rattle.flux_graph.specs.Ordering.{IsOrder, IsLed, HasCycle, IsCycle, IsLowestCycle}
-use Rattle.flux_graph.specs.Reaching.{leads_in}
-use Rattle.flux_types.specs.Signatures.{nodes_of}
-use Rattle.flux_hoist.specs.Keeping.{AreNamedApart, Keeps}
-use Rattle.flux_check.specs.Rows.{later_rows}
-use Rattle.flux_check.specs.Judgement.{AreSound, IsCycleFault, IsChecked, IsRefusalOf}
-use Rattle.flux_check.specs.Steps.{AreTyped, AreChecked, IsDeclsRefusal, site_of}
-use Rattle.flux_check.proofs.Rowless.{no_names}
-use Rattle.flux_check.proofs.Soundness.{at_of, sound}
-use Rattle.flux_check.proofs.Numbered.{names_apart}
+use Rattle.flux_syntax.specs.Words.{naming, known, and_name, names_after, names_of, unless_known, first_words_after, first_words}
+use Rattle.flux_syntax.specs.ProgramOfText.{places, program_of, named_of}
+use Rattle.flux_syntax.specs.Least.{Row, fault_or, soonest, first_fault, IsLeastFault}
+use Rattle.flux_syntax.proofs.Standing.{AllStandIn, all_stand, text_few}
+use Rattle.flux_names.specs.Rows.{rows}
+use Rattle.flux_names.specs.Building.{first_constrained}
+use Rattle.flux_names.specs.Resolving.{IsResolved}
+use Rattle.flux_types.specs.Signatures.{nodes_of, sig_of, AreSigs}
+use Rattle.flux_types.specs.Rows.{sig_rows, source_rows}
+use Rattle.flux_types.specs.Typing.{AreTyped}
+use Rattle.flux_types.proofs.Written.{sigs_same}
+use Rattle.flux_edges.specs.Places.{least_of}
+use Rattle.flux_edges.specs.Handlers.{unlike_handlers}
+use Rattle.flux_edges.specs.Sessions.{unserved_sources}
+use Rattle.flux_edges.specs.Rows.{handler_rows, session_rows}
+use Rattle.flux_edges.proofs.Texts.{HasNode, handlers_least, sessions_least}
+use Rattle.flux_hoist.specs.Keeping.{Keeps}
+use Rattle.flux_check.specs.Rows.{size_rows, last_rows, edge_rows, later_rows}
+use Rattle.flux_check.specs.Judgement.{AreNamed, AreOrdered, AreSound, IsCycleOf, AreChecked, IsChecked, IsRefusalOf, IsDeclsFault}
+use Rattle.flux_check.specs.steps.Checking.{IsDeclared, AreSizes, IsUnbuiltRefusal, IsCycleRefusal, IsDeclsRefusal, site_of}
+use Rattle.flux_check.proofs.Firsts.{first_fault-behind, first_fault-before}
 use Rattle.flux_check.proofs.Places.{fault_within}
+use Rattle.flux_check.proofs.Handled.{handles_named}
+use Rattle.flux_check.proofs.Kept.{checked}
 
 -- ---- one site for each node
 
-pub sites_many : (names : List (List ℕ)) (decls : List Decl) → length (flat_map (λ d. places (listed (naming d))) decls) ≡ length (flat_map (node_of names) decls)
-sites_many names [] = refl
-sites_many names (Signature name ins outs ∷ decls) = ap suc (sites_many names decls)
-sites_many names (Flow name patterns members ∷ decls) = ap suc (sites_many names decls)
-sites_many names (Source name target ∷ decls) = sites_many names decls
-sites_many names (Typedef name function ∷ decls) = sites_many names decls
-sites_many names (Handler node codes handler ∷ decls) = sites_many names decls
-sites_many names (Atomic node constraints ∷ decls) = sites_many names decls
-sites_many names (Session source function ∷ decls) = sites_many names decls
+first_many : (names : List (List ℕ)) (decls : List Decl) → length (names_after names decls) ≡ length (names ++ map (λ word. word.text) (first_words_after names decls))
+first_many names [] = ap length (sym (append-nil names))
+first_many names (d ∷ decls) = one (naming d) (λ more. first_many more decls)
+  where
+    one : (w : Option Word) → ((more : List (List ℕ)) → length (names_after more decls) ≡ length (more ++ map (λ word. word.text) (first_words_after more decls)))
+        → length (names_after (and_name names w) decls) ≡ length (names ++ map (λ word. word.text) (unless_known names w ++ first_words_after (and_name names w) decls))
+    one None each = each names
+    one (Some w) each = two (known names w.text) refl
+      where
+        two : (t : Bool) → known names w.text ≡ t
+            → length (names_after (if known names w.text then names else names ++ w.text ∷ []) decls)
+            ≡ length (names ++ map (λ word. word.text) ((if known names w.text then [] else w ∷ []) ++ first_words_after (if known names w.text then names else names ++ w.text ∷ []) decls))
+        two true e = rw e (each names)
+        two false e = rw e (each (names ++ w.text ∷ []) ∙ ap length (append_assoc names (w.text ∷ []) (map (λ word. word.text) (first_words_after (names ++ w.text ∷ []) decls))))
+
+map_many : {A B : Type 0} (f : A → B) (xs : List A) → length (map f xs) ≡ length xs
+map_many f [] = refl
+map_many f (x ∷ xs) = ap suc (map_many f xs)
+
+pub sites_many : (decls : List Decl) → length (places (first_words decls)) ≡ length (nodes_of decls)
+sites_many decls =
+    map_many (λ word. word.at) (first_words decls) ∙ sym (map_many (λ word. word.text) (first_words decls))
+    ∙ sym (first_many [] decls) ∙ sym (map_many _ (names_of decls))
 
 -- ---- cycles
+
+pub at_of : {A : Type 0} (P : A → Type 0) (xs : List A) (n : ℕ) (x : A) → slice_get xs n ≡ Some x → AllByRecursion P xs → P x
+at_of P [] n x at all = absurd cc
+at_of P (y ∷ xs) zero x at all = let same : y ≡ x = cc in subst P same all.0
+at_of P (y ∷ xs) (suc n) x at all = at_of P xs n x at all.1
 
 below_of : (count x : ℕ) (numbers : List NodeNo) → AreBelow count numbers → IsIn x numbers → x < count
 below_of count x [] all is = absurd is
@@ -86,7 +118,7 @@ module _ (named : Named) (path : List NodeNo) (numbered : IsNumbered named.progr
       one : (slice_get named.sites.nodes (let first = round.first in first.0) ≡ None → ⊥) → ⊥
       one never = never (sym first_site ∙ none)
 
-  cycle_told : (at : ℕ) (names : List (List ℕ)) → site_of named.sites.nodes path ≡ Some at → names ≡ map (node_name named.program) path → IsCycleFault named (record { kind = Cycle; at = at; path = names })
+  cycle_told : (at : ℕ) (names : List (List ℕ)) → site_of named.sites.nodes path ≡ Some at → names ≡ map (node_name named.program) path → IsCycleOf named (record { kind = Cycle; at = at; path = names })
   cycle_told at names site is = record { is = refl; path = path; cycle = cycle; names = is; site = sym first_site ∙ site }
 
   -- the same, of what the code looks at
@@ -97,7 +129,7 @@ module _ (named : Named) (path : List NodeNo) (numbered : IsNumbered named.progr
   some_site sites way found a b f none = no_site (sym (site_is sites way found a b f) ∙ none)
 
   pub cycle_found : (sites : List ℕ) (way again : List NodeNo) (found : Option ℕ) (at : ℕ) (names : List (List ℕ)) → sites ≡ named.sites.nodes → way ≡ path → found ≡ site_of sites way → found ≡ Some at → again ≡ path → names ≡ map (node_name named.program) again
-      → IsCycleFault named (record { kind = Cycle; at = at; path = names })
+      → IsCycleOf named (record { kind = Cycle; at = at; path = names })
   cycle_found sites way again found at names a b f some c is = cycle_told at names (sym (site_is sites way found a b f) ∙ some) (is ∙ ap (map (node_name named.program)) c)
 
 -- ---- refusals of declarations
@@ -105,60 +137,121 @@ module _ (named : Named) (path : List NodeNo) (numbered : IsNumbered named.progr
 abbrev pub Acyclic : Named → Type 0
 Acyclic named = HasCycle named.program.nodes → ⊥
 
-own_acyclic : (decls : List Decl) (named : Named) → named ≡ named_of decls → Acyclic named → HasCycle (nodes_of decls) → ⊥
-own_acyclic decls named is acyclic = subst Acyclic is acyclic
+module _ (meaning : LibraryMeaning) (decls : List Decl) (built : first_constrained meaning decls ≡ None) where
+  pub unbuilt_refused : (fault : CheckFault) → IsUnbuiltRefusal meaning decls fault → IsDeclsRefusal meaning decls fault
+  unbuilt_refused causes.Memory u = tt
+  unbuilt_refused (causes.Static fault) u = inl u
 
-pub later_refused : (kind : Kinds) (node : Nodes) (decls : List Decl) (named : Named) (fault : CheckFault) → first_unbuilt decls ≡ None → IsNamed kind node decls named → Acyclic named → IsLeastFault (first_fault (later_rows kind decls)) fault → IsDeclsRefusal kind node decls fault
-later_refused kind node decls named causes.Memory built is acyclic f = tt
-later_refused kind node decls named (causes.Static fault) built is acyclic f =
-    inr (inr (inr (record { names = record { built = built; named = is.sound }; acyclic = own_acyclic decls named is.is acyclic }, f.0, f.1)))
+  pub names_refused : (fault : CheckFault) → IsLeastFault (first_fault (rows meaning decls)) fault → IsDeclsRefusal meaning decls fault
+  names_refused causes.Memory f = tt
+  names_refused (causes.Static fault) f = inr (inl (record { built = built; first = record { is = f.0; path = f.1 } }))
 
--- ---- sound declarations
+  module _ (named : Named) (resolved : IsResolved meaning decls named) where
+    are_named : AreNamed meaning decls
+    are_named = record { built = built; named = resolved.sound }
 
-module _ (kind : Kinds) (node : Nodes) (decls : List Decl) (named : Named) (order : List NodeNo) (sigs : List NodeSig) (sizes : List ℕ)
-    (built : first_unbuilt decls ≡ None) (is : IsNamed kind node decls named) (ordered : IsOrder named.program.nodes order) (acyclic : Acyclic named) (typed : AreTyped kind decls named.program (sigs, sizes)) where
-  all_sound : AreSound kind node decls
-  all_sound = record { ordered = record { names = record { built = built; named = is.sound }; acyclic = own_acyclic decls named is.is acyclic }; later = typed.sound }
+    pub cycle_refused : (fault : CheckFault) → IsCycleRefusal named fault → IsDeclsRefusal meaning decls fault
+    cycle_refused causes.Memory f = tt
+    cycle_refused (causes.Static fault) f = inr (inr (inl (record { names = are_named; cycle = subst (λ (n : Named). IsCycleOf n fault) resolved.is f })))
 
-  pub keeps : Keeps named.program sigs order sizes
-  keeps =
-      let own = sound kind node decls order sigs (subst (λ (n : Named). IsOrder n.program.nodes order) is.is ordered) typed.sigs is.sound typed.sound in
-      record {
-        numbered = is.numbered;
-        apart = subst (λ (n : Named). AreNamedApart n.program.nodes) (sym is.is) (let rowless = no_names kind node decls is.sound in names_apart decls rowless.twice);
-        acyclic = acyclic;
-        agree = subst (λ (n : Named). Agree n.program (kinds_at sigs)) (sym is.is) own.agree;
-        ordered = ordered;
-        sizes_ = typed.sizes;
-        small = typed.small;
-      }
+    module _ (acyclic : Acyclic named) where
+      are_ordered : AreOrdered meaning decls
+      are_ordered = record { names = are_named; acyclic = subst Acyclic resolved.is acyclic }
 
-  pub checked : AreChecked kind node decls named.program sigs order sizes
-  checked = record { sound = all_sound; is = ap (λ (n : Named). n.program) is.is; sigs_ = typed.sigs; ordered = ordered; keeps = keeps }
+      later_refused : (fault : CheckFault) → IsLeastFault (first_fault (later_rows meaning decls)) fault → IsDeclsRefusal meaning decls fault
+      later_refused causes.Memory f = tt
+      later_refused (causes.Static fault) f = inr (inr (inr (record { ordered = are_ordered; first = record { is = f.0; path = f.1 } })))
+
+      abbrev sigs_part : List Row
+      sigs_part = sig_rows meaning decls
+
+      abbrev handlers_part : List Row
+      handlers_part = handler_rows (sig_of meaning.kind decls) decls
+
+      abbrev sources_part : List Row
+      sources_part = source_rows meaning decls
+
+      -- rows in front of others
+      earlier : (a b : List Row) (fault : CheckFault) → IsLeastFault (first_fault a) fault → IsLeastFault (first_fault (a ++ b)) fault
+      earlier a b causes.Memory f = tt
+      earlier a b (causes.Static fault) f = (first_fault-before a b (fault.kind, fault.at) f.0, f.1)
+
+      -- rows behind others of which none stands
+      behind : (a b : List Row) (fault : CheckFault) → first_fault a ≡ None → IsLeastFault (first_fault b) fault → IsLeastFault (first_fault (a ++ b)) fault
+      behind a b fault none f = subst (λ (x : Option (FaultKind × ℕ)). IsLeastFault x fault) (sym (first_fault-behind a b none)) f
+
+      pub sigs_refused : (fault : CheckFault) → IsLeastFault (first_fault (sig_rows meaning decls)) fault → IsDeclsRefusal meaning decls fault
+      sigs_refused fault f = later_refused fault (earlier sigs_part (edge_rows meaning decls) fault f)
+
+      module _ (sigs : List NodeSig) (typed : AreTyped meaning decls sigs) where
+        handled : fault_or HandlerTypes (least_of None (unlike_handlers (sig_at sigs) named)) None ≡ first_fault (handler_rows (sig_of meaning.kind decls) decls)
+        handled =
+            ap (λ (p : Option ℕ). fault_or HandlerTypes p None)
+              (ap (λ (n : Named). least_of None (unlike_handlers (sig_at sigs) n)) resolved.is
+              ∙ handlers_least (sig_at sigs) decls (handles_named meaning decls resolved.sound))
+            ∙ ap (λ (s : ℕ → NodeSig). first_fault (handler_rows s decls)) (sigs_same meaning.kind decls sigs typed.are)
+
+        pub handlers_refused : (fault : CheckFault) → IsLeastFault (fault_or HandlerTypes (least_of None (unlike_handlers (sig_at sigs) named)) None) fault → IsDeclsRefusal meaning decls fault
+        handlers_refused fault f =
+            later_refused fault (behind sigs_part (edge_rows meaning decls) fault typed.sound
+              (earlier handlers_part (sources_part ++ last_rows decls) fault (subst (λ (x : Option (FaultKind × ℕ)). IsLeastFault x fault) handled f)))
+
+        module _ (fits : least_of None (unlike_handlers (sig_at sigs) named) ≡ None) where
+          no_handlers : first_fault (handler_rows (sig_of meaning.kind decls) decls) ≡ None
+          no_handlers = sym handled ∙ ap (λ (p : Option ℕ). fault_or HandlerTypes p None) fits
+
+          edges : (fault : CheckFault) → IsLeastFault (first_fault (sources_part ++ last_rows decls)) fault → IsDeclsRefusal meaning decls fault
+          edges fault f = later_refused fault (behind sigs_part (edge_rows meaning decls) fault typed.sound (behind handlers_part (sources_part ++ last_rows decls) fault no_handlers f))
+
+          pub sources_refused : (fault : CheckFault) → IsLeastFault (first_fault (source_rows meaning decls)) fault → IsDeclsRefusal meaning decls fault
+          sources_refused fault f = edges fault (earlier sources_part (last_rows decls) fault f)
+
+          module _ (sourced : first_fault (source_rows meaning decls) ≡ None) where
+            served : fault_or NoSession (least_of None (unserved_sources named)) None ≡ first_fault (session_rows decls)
+            served = ap (λ (p : Option ℕ). fault_or NoSession p None) (ap (λ (n : Named). least_of None (unserved_sources n)) resolved.is ∙ sessions_least decls)
+
+            pub sessions_refused : (fault : CheckFault) → IsLeastFault (fault_or NoSession (least_of None (unserved_sources named)) None) fault → IsDeclsRefusal meaning decls fault
+            sessions_refused fault f =
+                edges fault (behind sources_part (last_rows decls) fault sourced
+                  (earlier (session_rows decls) (size_rows decls) fault (subst (λ (x : Option (FaultKind × ℕ)). IsLeastFault x fault) served f)))
+
+            module _ (no_sessions : least_of None (unserved_sources named) ≡ None) where
+              none_unserved : first_fault (session_rows decls) ≡ None
+              none_unserved = sym served ∙ ap (λ (p : Option ℕ). fault_or NoSession p None) no_sessions
+
+              pub sizes_refused : (fault : CheckFault) → IsLeastFault (first_fault (size_rows decls)) fault → IsDeclsRefusal meaning decls fault
+              sizes_refused fault f = edges fault (behind sources_part (last_rows decls) fault sourced (behind (session_rows decls) (size_rows decls) fault none_unserved f))
+
+              -- ---- sound declarations
+
+              module _ (order : List NodeNo) (sizes : List ℕ) (ordered : IsOrder named.program.nodes order) (sized : AreSizes decls named.program sizes) where
+                none_later : first_fault (later_rows meaning decls) ≡ None
+                none_later =
+                    first_fault-behind sigs_part (edge_rows meaning decls) typed.sound
+                    ∙ first_fault-behind handlers_part (sources_part ++ last_rows decls) no_handlers
+                    ∙ first_fault-behind sources_part (last_rows decls) sourced
+                    ∙ first_fault-behind (session_rows decls) (size_rows decls) none_unserved
+                    ∙ sized.sound
+
+                pub all_sound : AreSound meaning decls
+                all_sound = record { ordered = are_ordered; later = none_later }
+
+                program_is : named.program ≡ program_of decls
+                program_is = ap (λ (n : Named). n.program) resolved.is
+
+                pub checked_is : IsDeclared decls → AreChecked meaning decls named.program sigs order sizes
+                checked_is (text, declared) = subst (λ (p : Program). AreChecked meaning decls p sigs order sizes) (sym program_is)
+                    (checked meaning text decls order sigs sizes declared (subst IsNumbered program_is resolved.numbered)
+                      (subst (λ (p : Program). IsOrder p.nodes order) program_is ordered) typed.are all_sound (subst (λ (p : Program). AreSizes decls p sizes) program_is sized))
 
 -- ---- texts
 
-pub text_checked : (kind : Kinds) (node : Nodes) (text : List ℕ) (decls : List Decl) (program : Program) (sigs : List NodeSig) (order : List NodeNo) (sizes : List ℕ) → Declares decls text → AreChecked kind node decls program sigs order sizes
-    → IsChecked kind node text program sigs order sizes
-text_checked kind node text decls program sigs order sizes declared c =
-    let ok = c.sound in let names = ok.ordered in let named = names.names in let kept = c.keeps in
-    record {
-      text_sound = record { decls = decls; declared = declared; sound = ok };
-      is = c.is;
-      numbered = kept.numbered;
-      sigs_ = c.sigs_;
-      sound = subst (λ (p : Program). IsSound node p (kinds_at sigs)) (sym c.is) (sound kind node decls order sigs (subst (λ (p : Program). IsOrder p.nodes order) c.is c.ordered) c.sigs_ named.named ok.later);
-      ordered = c.ordered;
-      sizes_ = kept.sizes_;
-      small = kept.small;
-    }
-
-pub text_refused : (kind : Kinds) (node : Nodes) (text : List ℕ) (decls : List Decl) (fault : CheckFault) → Declares decls text → IsDeclsRefusal kind node decls fault → IsRefusalOf kind node text fault
-text_refused kind node text decls causes.Memory declared f = tt
-text_refused kind node text decls (causes.Static fault) declared f =
-    let within = fault_within kind node text decls fault (all_stand decls text declared) f in
+pub text_refused : (meaning : LibraryMeaning) (text : List ℕ) (decls : List Decl) (fault : CheckFault) → Declares decls text → IsDeclsRefusal meaning decls fault → IsRefusalOf meaning text fault
+text_refused meaning text decls causes.Memory declared f = tt
+text_refused meaning text decls (causes.Static fault) declared f =
+    let within = fault_within meaning text decls fault (all_stand decls text declared) f in
     (inr (decls, declared, f), within, omega (arith, within, text_few decls text declared))
 
-pub reading_refused : (kind : Kinds) (node : Nodes) (text : List ℕ) (fault : CheckFault) → syntax.IsRefusalOf text fault → IsRefusalOf kind node text fault
-reading_refused kind node text causes.Memory f = tt
-reading_refused kind node text (causes.Static fault) (path, faulty, within, room) = (inl (faulty, path), within, room)
+pub reading_refused : (meaning : LibraryMeaning) (text : List ℕ) (fault : CheckFault) → syntax.IsRefusalOf text fault → IsRefusalOf meaning text fault
+reading_refused meaning text causes.Memory f = tt
+reading_refused meaning text (causes.Static fault) (path, faulty, (within, room)) = (inl (faulty, path), within, room)

@@ -1,10 +1,16 @@
+pub mod Firsts
 pub mod Capped
 pub mod Sized
 pub mod Limits
 pub mod Rowless
 pub mod Spelled
 pub mod Numbered
+pub mod Roles
+pub mod Joins
 pub mod Soundness
+pub mod Identified
+pub mod Kept
+pub mod Handled
 pub mod Places
 pub mod Judged
 pub mod Exclusive

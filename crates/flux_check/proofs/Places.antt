@@ -1,27 +1,43 @@
 -- Faults of declarations stand at places of their words.
-use Rattle.std.proofs.Common.{◌≡◌, ◌≤◌, ◌+◌, ℕ, min, inl, inr, Bool, true, false, nat_lt, if◌then◌else◌, List, [], ◌∷◌, ◌++◌, length, map, Option, Some, None, refl, ap, ◌∙◌, arith}
-use Rattle.std.specs.List.{flat_map, AllByRecursion}
-use Rattle.std.specs.Option.{is_none}
+use Rattle.std.proofs.Common.{◌≡◌, ◌≤◌, ◌+◌, ℕ, zero, suc, min, inl, inr, Bool, true, false, not, nat_lt, if◌then◌else◌, List, [], ◌∷◌, ◌++◌, length, map, filter, drop, Option, Some, None, refl, ap, ◌∙◌, arith}
+use Rattle.std.specs.List.{slice_get, list_any, flat_map, filter_map, AllByRecursion}
+use Rattle.std.specs.Option.{is_none, is_some}
+use Rattle.flux_values.specs.declared.meanings.Sig.{Sig}
+use Rattle.flux_values.specs.Meanings.{LibraryMeaning}
 use Rattle.flux_faults.specs.declared.faults.FaultKind.{FaultKind}
 use Rattle.flux_faults.specs.declared.faults.StaticFault.{StaticFault}
 use Rattle.flux_model.specs.declared.signatures.TypeText.{TypeText}
+use Rattle.flux_model.specs.declared.signatures.NodeSig.{NodeSig}
+use Rattle.flux_model.specs.Types.{same_types}
 use Rattle.flux_syntax.specs.declared.declarations.Word.{Word}
 use Rattle.flux_syntax.specs.declared.declarations.Param.{Param}
+use Rattle.flux_syntax.specs.declared.declarations.Constraint.{Constraint}
 use Rattle.flux_syntax.specs.declared.declarations.Decl.{Decl}
 use Rattle.flux_syntax.specs.declared.declarations.Decl.TheVariants.{Signature, Flow, Source, Typedef, Handler, Atomic, Session}
-use Rattle.flux_syntax.specs.Words.{naming, sourced, inner, and_name, names_of, listed, spelling}
-use Rattle.flux_syntax.specs.ProgramOfText.{library_name, places}
-use Rattle.flux_syntax.proofs.Standing.{StandsIn, fault_words, AllStandIn}
+use Rattle.flux_syntax.specs.Words.{naming, defined, sourced, known, and_name, names_of, unless_known, first_words_after, first_words, listed, texts_of}
+use Rattle.flux_syntax.specs.ProgramOfText.{places, class_of, constraints_of, is_on}
 use Rattle.flux_syntax.specs.Least.{Row, sooner, soonest, fault_or, first_fault}
-use Rattle.flux_names.specs.Rows.{Kinds, Nodes, known, same, among, all_among, again, twice_after, beyond, beyond_after, unknown_type, unknown_in, not_in, is_like, unlike, source_names, rows}
-use Rattle.flux_names.specs.Building.{unbuilt, place_or, first_unbuilt}
-use Rattle.flux_types.specs.Rows.{Sigs, named_sig, same_types, differing, empty_flow, unjoined_after, unjoined, unjoined_in, unlike_target}
+use Rattle.flux_syntax.proofs.Standing.{StandsIn, fault_words, code_words, AllStandIn}
+use Rattle.flux_names.specs.declared.rows.TheConstants.{NODE_LIMIT, CLASS_LIMIT}
+use Rattle.flux_names.specs.Rows as names
+use Rattle.flux_names.specs.Building.{place_or, first_place, uses_cell, constrained, first_constrained}
+use Rattle.flux_types.specs.Rows as types
+use Rattle.flux_types.specs.Signatures.{sig_of}
+use Rattle.flux_edges.specs.Rows as edges
+use Rattle.flux_hoist.specs.declared.checked.TheConstants.{SIZE_LIMIT}
 use Rattle.flux_check.specs.Rows.{past_limit, too_large_after, flow_size, later_rows}
 use Rattle.flux_check.specs.Judgement.{IsDeclsFault}
-use Rattle.flux_check.proofs.Soundness.{at_of}
 
 some_pair : (x y : FaultKind × ℕ) → ◌≡◌ {A = Option (FaultKind × ℕ)} (Some x) (Some y) → x ≡ y
 some_pair x y e = cc
+
+rows_at : {A : Type 0} (P : A → Type 0) (xs : List A) (n : ℕ) (x : A) → slice_get xs n ≡ Some x → AllByRecursion P xs → P x
+rows_at P [] n x at all = absurd cc
+rows_at P (y ∷ xs) zero x at all = let same : y ≡ x = cc in elim_to same all.0
+  where
+    elim_to : y ≡ x → P y → P x
+    elim_to e h = rw (← e) h
+rows_at P (y ∷ xs) (suc n) x at all = rows_at P xs n x at all.1
 
 module _ (n : ℕ) where
   abbrev Within : Word → Type 0
@@ -31,7 +47,10 @@ module _ (n : ℕ) where
   AllIn words = AllByRecursion Within words
 
   abbrev DeclIn : Decl → Type 0
-  DeclIn d = AllIn (fault_words d)
+  DeclIn d = AllIn (fault_words d) × AllIn (code_words d)
+
+  abbrev DeclsIn : List Decl → Type 0
+  DeclsIn decls = AllByRecursion DeclIn decls
 
   -- ---- the least place
 
@@ -59,44 +78,81 @@ module _ (n : ℕ) where
           let h : Some (row.0, p) ≡ Some (kind, at) = (let g : fault_or row.0 (Some p) (first_fault rs) ≡ Some (kind, at) = rw i at e in g) in
           let pair : ◌≡◌ {A = FaultKind × ℕ} (row.0, p) (kind, at) = some_pair (row.0, p) (kind, at) h in
           let same : p ≡ at = ap (λ (x : FaultKind × ℕ). x.1) pair in
-          soonest_in None row.1 at nothing_in all.0 (i ∙ ap Some same)
+          let le = soonest_in None row.1 p nothing_in all.0 i in omega (arith, same, le)
 
-  -- ---- words of words
+  -- ---- lists of words
 
-  all_both : (a b : List Word) → AllIn a → AllIn b → AllIn (a ++ b)
-  all_both [] b x y = y
-  all_both (w ∷ a) b x y = (x.0, all_both a b x.1 y)
+  both_in : (a b : List Word) → AllIn a → AllIn b → AllIn (a ++ b)
+  both_in [] b x y = y
+  both_in (w ∷ a) b x y = (x.0, both_in a b x.1 y)
 
-  if_in : (t : Bool) (w : Word) → Within w → AllIn (if t then [] else w ∷ [])
-  if_in true w h = tt
-  if_in false w h = (h, tt)
+  left_in : (a b : List Word) → AllIn (a ++ b) → AllIn a
+  left_in [] b h = tt
+  left_in (w ∷ a) b h = (h.0, left_in a b h.1)
 
-  if_not_in : (t : Bool) (w : Word) → Within w → AllIn (if t then w ∷ [] else [])
-  if_not_in true w h = (h, tt)
-  if_not_in false w h = tt
+  right_in : (a b : List Word) → AllIn (a ++ b) → AllIn b
+  right_in [] b h = h
+  right_in (w ∷ a) b h = right_in a b h.1
 
-  among_in : (wanted : Bool) (names : List (List ℕ)) (w : Word) → Within w → AllIn (among wanted names w)
-  among_in wanted names w h = if_not_in (same wanted (known names w.text)) w h
+  filter_in : (p : Word → Bool) (words : List Word) → AllIn words → AllIn (filter p words)
+  filter_in p [] h = tt
+  filter_in p (w ∷ words) h = one (p w) refl (filter_in p words h.1)
+    where
+      one : (t : Bool) → p w ≡ t → AllIn (filter p words) → AllIn (filter p (w ∷ words))
+      one true e more = rw e (h.0, more)
+      one false e more = rw e more
 
-  all_among_in : (wanted : Bool) (names : List (List ℕ)) (words : List Word) → AllIn words → AllIn (all_among wanted names words)
-  all_among_in wanted names [] all = tt
-  all_among_in wanted names (w ∷ words) all = all_both (among wanted names w) (all_among wanted names words) (among_in wanted names w all.0) (all_among_in wanted names words all.1)
+  drop_in : (count : ℕ) (words : List Word) → AllIn words → AllIn (drop count words)
+  drop_in zero words h = (rw (drop_none words) h)
+    where
+      drop_none : (ws : List Word) → drop zero ws ≡ ws
+      drop_none [] = refl
+      drop_none (w ∷ ws) = refl
+  drop_in (suc count) [] h = tt
+  drop_in (suc count) (w ∷ words) h = drop_in count words h.1
 
-  flat_in : (f : Decl → List Word) → ((d : Decl) → DeclIn d → AllIn (f d)) → (decls : List Decl) → AllByRecursion DeclIn decls → AllIn (flat_map f decls)
-  flat_in f each [] all = tt
-  flat_in f each (d ∷ decls) all = all_both (f d) (flat_map f decls) (each d all.0) (flat_in f each decls all.1)
+  if_in : (t : Bool) (w : Word) → Within w → AllIn (if t then w ∷ [] else [])
+  if_in true w h = (h, tt)
+  if_in false w h = tt
+
+  unless_in : (t : Bool) (w : Word) → Within w → AllIn (if t then [] else w ∷ [])
+  unless_in true w h = tt
+  unless_in false w h = (h, tt)
+
+  listed_if_in : (t : Bool) (w : Option Word) → AllIn (listed w) → AllIn (if t then listed w else [])
+  listed_if_in true w h = h
+  listed_if_in false w h = tt
+
+  flat_in : {A : Type 0} (P : A → Type 0) (f : A → List Word) → ((x : A) → P x → AllIn (f x)) → (xs : List A) → AllByRecursion P xs → AllIn (flat_map f xs)
+  flat_in P f each [] h = tt
+  flat_in P f each (x ∷ xs) h = both_in (f x) (flat_map f xs) (each x h.0) (flat_in P f each xs h.1)
+
+  mapped_in : {A : Type 0} (f : A → Word) (xs : List A) → AllIn (map f xs) → AllByRecursion (λ x. Within (f x)) xs
+  mapped_in f [] h = tt
+  mapped_in f (x ∷ xs) h = (h.0, mapped_in f xs h.1)
+
+  -- ---- words of declarations by what they are there for
 
   naming_in : (d : Decl) → DeclIn d → AllIn (listed (naming d))
-  naming_in (Signature name ins outs) h = (h.0, tt)
-  naming_in (Flow name patterns members) h = (h.0, tt)
+  naming_in (Signature name ins outs) h = (h.0.0, tt)
+  naming_in (Flow name patterns members) h = (h.0.0, tt)
   naming_in (Source name target) h = tt
   naming_in (Typedef name function) h = tt
   naming_in (Handler node codes handler) h = tt
   naming_in (Atomic node constraints) h = tt
   naming_in (Session source function) h = tt
 
+  defined_in : (d : Decl) → DeclIn d → AllIn (listed (defined d))
+  defined_in (Typedef name function) h = (h.0.0, tt)
+  defined_in (Signature name ins outs) h = tt
+  defined_in (Flow name patterns members) h = tt
+  defined_in (Source name target) h = tt
+  defined_in (Handler node codes handler) h = tt
+  defined_in (Atomic node constraints) h = tt
+  defined_in (Session source function) h = tt
+
   sourced_in : (d : Decl) → DeclIn d → AllIn (listed (sourced d))
-  sourced_in (Source name target) h = (h.0, tt)
+  sourced_in (Source name target) h = (h.0.0, tt)
   sourced_in (Signature name ins outs) h = tt
   sourced_in (Flow name patterns members) h = tt
   sourced_in (Typedef name function) h = tt
@@ -104,193 +160,365 @@ module _ (n : ℕ) where
   sourced_in (Atomic node constraints) h = tt
   sourced_in (Session source function) h = tt
 
-  inner_in : (d : Decl) → DeclIn d → AllIn (inner d)
-  inner_in (Source name target) h = h.1
-  inner_in (Flow name patterns members) h = h.1
+  handled_in : (d : Decl) → DeclIn d → AllIn (listed (names.handled d))
+  handled_in (Handler node [] handler) h = (h.0.0, tt)
+  handled_in (Handler node (code ∷ codes) handler) h = tt
+  handled_in (Signature name ins outs) h = tt
+  handled_in (Flow name patterns members) h = tt
+  handled_in (Source name target) h = tt
+  handled_in (Typedef name function) h = tt
+  handled_in (Atomic node constraints) h = tt
+  handled_in (Session source function) h = tt
+
+  sessioned_in : (d : Decl) → DeclIn d → AllIn (listed (names.sessioned d))
+  sessioned_in (Session source function) h = (h.0.0, tt)
+  sessioned_in (Signature name ins outs) h = tt
+  sessioned_in (Flow name patterns members) h = tt
+  sessioned_in (Source name target) h = tt
+  sessioned_in (Typedef name function) h = tt
+  sessioned_in (Handler node codes handler) h = tt
+  sessioned_in (Atomic node constraints) h = tt
+
+  members_in : (patterns : Option (List (Option Word))) (members : List Word) → AllIn (fault_words (Flow (record { text = []; at = 0 }) patterns members)) → AllIn members
+  members_in None members h = h.1
+  members_in (Some patterns) members h = right_in (filter_map (λ pattern. pattern) patterns) members h.1
+
+  flow_members : (name : Word) (patterns : Option (List (Option Word))) (members : List Word) → DeclIn (Flow name patterns members) → AllIn members
+  flow_members name patterns members h = members_in patterns members (omega arith, h.0.1)
+
+  inner_in : (d : Decl) → DeclIn d → AllIn (names.inner_names d)
+  inner_in (Source name target) h = h.0.1
+  inner_in (Flow name patterns members) h = flow_members name patterns members h
+  inner_in (Handler node codes handler) h = h.0
+  inner_in (Atomic node constraints) h = (h.0.0, tt)
   inner_in (Signature name ins outs) h = tt
   inner_in (Typedef name function) h = tt
-  inner_in (Handler node codes handler) h = tt
-  inner_in (Atomic node constraints) h = tt
   inner_in (Session source function) h = tt
 
-  -- ---- the rows on names
+  used_in : (d : Decl) → DeclIn d → AllIn (names.used_names d)
+  used_in d h =
+      both_in (listed (sourced d)) (listed (names.sessioned d) ++ names.inner_names d) (sourced_in d h)
+        (both_in (listed (names.sessioned d)) (names.inner_names d) (sessioned_in d h) (inner_in d h))
 
-  twice_in : (sort : Decl → Option Word) → ((d : Decl) → DeclIn d → AllIn (listed (sort d))) → (names : List (List ℕ)) (decls : List Decl) → AllByRecursion DeclIn decls → AllIn (twice_after sort names decls)
-  twice_in sort each names [] all = tt
-  twice_in sort each names (d ∷ decls) all = all_both (again names (sort d)) (twice_after sort (and_name names (sort d)) decls) (one (sort d) (each d all.0)) (twice_in sort each (and_name names (sort d)) decls all.1)
+  patterns_in : (d : Decl) → DeclIn d → AllIn (names.pattern_words d)
+  patterns_in (Flow name None members) h = tt
+  patterns_in (Flow name (Some patterns) members) h = left_in (filter_map (λ pattern. pattern) patterns) members h.0.1
+  patterns_in (Signature name ins outs) h = tt
+  patterns_in (Source name target) h = tt
+  patterns_in (Typedef name function) h = tt
+  patterns_in (Handler node codes handler) h = tt
+  patterns_in (Atomic node constraints) h = tt
+  patterns_in (Session source function) h = tt
+
+  -- ---- rows on names
+
+  repeated_in : (sort : Decl → Option Word) → ((d : Decl) → DeclIn d → AllIn (listed (sort d))) → (before decls : List Decl) → DeclsIn decls → AllIn (names.repeated_after sort before decls)
+  repeated_in sort each before [] h = tt
+  repeated_in sort each before (d ∷ decls) h =
+      both_in (names.listed_if (list_any (names.repeats sort d) before) (sort d)) (names.repeated_after sort (before ++ d ∷ []) decls)
+        (listed_if_in (list_any (names.repeats sort d) before) (sort d) (each d h.0)) (repeated_in sort each (before ++ d ∷ []) decls h.1)
+
+  twice_in : (decls : List Decl) → DeclsIn decls → AllIn (names.twice_named decls)
+  twice_in decls h =
+      both_in (names.repeated decls naming) _ (repeated_in naming naming_in [] decls h)
+        (both_in (names.repeated decls defined) _ (repeated_in defined defined_in [] decls h)
+          (both_in (names.repeated decls sourced) _ (repeated_in sourced sourced_in [] decls h)
+            (both_in (names.repeated decls names.handled) _ (repeated_in names.handled handled_in [] decls h)
+              (both_in (names.repeated decls names.sessioned) _ (repeated_in names.sessioned sessioned_in [] decls h) tt))))
+
+  type_in : (meaning : LibraryMeaning) (param : Param) → Within param.ty → AllIn (names.unknown_type meaning param)
+  type_in meaning param h = if_in _ param.ty h
+
+  types_in : (meaning : LibraryMeaning) (d : Decl) → DeclIn d → AllIn (names.unknown_types_in meaning d)
+  types_in meaning (Signature name ins outs) h =
+      let i = mapped_in (λ param. param.ty) ins (left_in (map (λ param. param.ty) ins) (map (λ param. param.ty) outs) h.0.1) in
+      let o = mapped_in (λ param. param.ty) outs (right_in (map (λ param. param.ty) ins) (map (λ param. param.ty) outs) h.0.1) in
+      both_in (flat_map (names.unknown_type meaning) ins) (flat_map (names.unknown_type meaning) outs)
+        (flat_in (λ param. Within param.ty) (names.unknown_type meaning) (type_in meaning) ins i)
+        (flat_in (λ param. Within param.ty) (names.unknown_type meaning) (type_in meaning) outs o)
+  types_in meaning (Flow name patterns members) h = tt
+  types_in meaning (Source name target) h = tt
+  types_in meaning (Typedef name function) h = tt
+  types_in meaning (Handler node codes handler) h = tt
+  types_in meaning (Atomic node constraints) h = tt
+  types_in meaning (Session source function) h = tt
+
+  absent_in : (meaning : LibraryMeaning) (d : Decl) → DeclIn d → AllIn (names.not_in meaning d)
+  absent_in meaning (Signature name ins outs) h = if_in _ name h.0.0
+  absent_in meaning (Flow name patterns members) h = tt
+  absent_in meaning (Source name target) h = tt
+  absent_in meaning (Typedef name function) h = tt
+  absent_in meaning (Handler node codes handler) h = tt
+  absent_in meaning (Atomic node constraints) h = tt
+  absent_in meaning (Session source function) h = tt
+
+  unlike_in : (meaning : LibraryMeaning) (d : Decl) → DeclIn d → AllIn (names.unlike meaning d)
+  unlike_in meaning (Signature name ins outs) h = if_in _ name h.0.0
+  unlike_in meaning (Flow name patterns members) h = tt
+  unlike_in meaning (Source name target) h = tt
+  unlike_in meaning (Typedef name function) h = tt
+  unlike_in meaning (Handler node codes handler) h = tt
+  unlike_in meaning (Atomic node constraints) h = tt
+  unlike_in meaning (Session source function) h = tt
+
+  function_in : (meaning : LibraryMeaning) (d : Decl) → DeclIn d → AllIn (names.unknown_function meaning d)
+  function_in meaning (Typedef name function) h = if_in _ function h.0.1.0
+  function_in meaning (Signature name ins outs) h = tt
+  function_in meaning (Flow name patterns members) h = tt
+  function_in meaning (Source name target) h = tt
+  function_in meaning (Handler node codes handler) h = tt
+  function_in meaning (Atomic node constraints) h = tt
+  function_in meaning (Session source function) h = tt
+
+  session_in : (meaning : LibraryMeaning) (d : Decl) → DeclIn d → AllIn (names.unknown_session meaning d)
+  session_in meaning (Session source function) h = if_in _ function h.0.1.0
+  session_in meaning (Signature name ins outs) h = tt
+  session_in meaning (Flow name patterns members) h = tt
+  session_in meaning (Source name target) h = tt
+  session_in meaning (Typedef name function) h = tt
+  session_in meaning (Handler node codes handler) h = tt
+  session_in meaning (Atomic node constraints) h = tt
+
+  first_in : (known_names : List (List ℕ)) (decls : List Decl) → DeclsIn decls → AllIn (first_words_after known_names decls)
+  first_in known_names [] h = tt
+  first_in known_names (d ∷ decls) h =
+      both_in (unless_known known_names (naming d)) (first_words_after (and_name known_names (naming d)) decls)
+        (one (naming d) (naming_in d h.0)) (first_in (and_name known_names (naming d)) decls h.1)
     where
-      one : (word : Option Word) → AllIn (listed word) → AllIn (again names word)
-      one None h = tt
-      one (Some w) h = among_in true names w h.0
+      one : (w : Option Word) → AllIn (listed w) → AllIn (unless_known known_names w)
+      one None i = tt
+      one (Some w) i = unless_in (known known_names w.text) w i.0
 
-  beyond_in : (names : List (List ℕ)) (decls : List Decl) → AllByRecursion DeclIn decls → AllIn (beyond_after names decls)
-  beyond_in names [] all = tt
-  beyond_in names (d ∷ decls) all = all_both (beyond names (naming d)) (beyond_after (and_name names (naming d)) decls) (one (naming d) (naming_in d all.0)) (beyond_in (and_name names (naming d)) decls all.1)
+  abbrev ConstraintIn : Constraint → Type 0
+  ConstraintIn c = let w = c.name in Within w
+
+  all_constraints : (a b : List Constraint) → AllByRecursion ConstraintIn a → AllByRecursion ConstraintIn b → AllByRecursion ConstraintIn (a ++ b)
+  all_constraints [] b x y = y
+  all_constraints (c ∷ a) b x y = (x.0, all_constraints a b x.1 y)
+
+  constraints_in : (decls : List Decl) → DeclsIn decls → AllByRecursion ConstraintIn (flat_map constraints_of decls)
+  constraints_in [] h = tt
+  constraints_in (Atomic node constraints ∷ decls) h = all_constraints constraints (flat_map constraints_of decls) (mapped_in (λ c. c.name) constraints h.0.0.1) (constraints_in decls h.1)
+  constraints_in (Signature name ins outs ∷ decls) h = constraints_in decls h.1
+  constraints_in (Flow name patterns members ∷ decls) h = constraints_in decls h.1
+  constraints_in (Source name target ∷ decls) h = constraints_in decls h.1
+  constraints_in (Typedef name function ∷ decls) h = constraints_in decls h.1
+  constraints_in (Handler node codes handler ∷ decls) h = constraints_in decls h.1
+  constraints_in (Session source function ∷ decls) h = constraints_in decls h.1
+
+  classes_in : (before constraints : List Constraint) → AllByRecursion ConstraintIn constraints → AllIn (names.class_words_after before constraints)
+  classes_in before [] h = tt
+  classes_in before (c ∷ constraints) h =
+      both_in (names.word_if (not (list_any (is_on (class_of c)) before)) c.name) (names.class_words_after (before ++ c ∷ []) constraints)
+        (if_in (not (list_any (is_on (class_of c)) before)) c.name h.0) (classes_in (before ++ c ∷ []) constraints h.1)
+
+  abbrev CodeIn : names.CodeOn → Type 0
+  CodeIn c = let w = c.number in Within w
+
+  all_codes : (a b : List names.CodeOn) → AllByRecursion CodeIn a → AllByRecursion CodeIn b → AllByRecursion CodeIn (a ++ b)
+  all_codes [] b x y = y
+  all_codes (c ∷ a) b x y = (x.0, all_codes a b x.1 y)
+
+  codes_on : (node : Word) (codes : List Word) → AllIn codes → AllByRecursion CodeIn (map (λ code. record { node = node; number = code }) codes)
+  codes_on node [] h = tt
+  codes_on node (c ∷ codes) h = (h.0, codes_on node codes h.1)
+
+  codes_in : (decls : List Decl) → DeclsIn decls → AllByRecursion CodeIn (flat_map names.codes_in decls)
+  codes_in [] h = tt
+  codes_in (Handler node codes handler ∷ decls) h = all_codes (names.codes_in (Handler node codes handler)) (flat_map names.codes_in decls) (codes_on node codes h.0.1) (codes_in decls h.1)
+  codes_in (Signature name ins outs ∷ decls) h = codes_in decls h.1
+  codes_in (Flow name patterns members ∷ decls) h = codes_in decls h.1
+  codes_in (Source name target ∷ decls) h = codes_in decls h.1
+  codes_in (Typedef name function ∷ decls) h = codes_in decls h.1
+  codes_in (Atomic node constraints ∷ decls) h = codes_in decls h.1
+  codes_in (Session source function ∷ decls) h = codes_in decls h.1
+
+  bad_codes_in : (before codes : List names.CodeOn) → AllByRecursion CodeIn codes → AllIn (names.bad_codes_after before codes)
+  bad_codes_in before [] h = tt
+  bad_codes_in before (c ∷ codes) h =
+      both_in (names.word_if (names.is_bad_code before c) c.number) (names.bad_codes_after (before ++ c ∷ []) codes)
+        (if_in (names.is_bad_code before c) c.number h.0) (bad_codes_in (before ++ c ∷ []) codes h.1)
+
+  names_in : (meaning : LibraryMeaning) (decls : List Decl) → DeclsIn decls → RowsIn (names.rows meaning decls)
+  names_in meaning decls h =
+      (twice_in decls h,
+      (flat_in DeclIn _ (λ d i. filter_in _ (names.used_names d) (used_in d i)) decls h,
+      (flat_in DeclIn _ (types_in meaning) decls h,
+      (flat_in DeclIn _ (absent_in meaning) decls h,
+      (flat_in DeclIn _ (unlike_in meaning) decls h,
+      (flat_in DeclIn _ (λ d i. both_in (names.unknown_function meaning d) _ (function_in meaning d i) (filter_in _ (names.pattern_words d) (patterns_in d i))) decls h,
+      (flat_in DeclIn _ (session_in meaning) decls h,
+      (flat_in DeclIn _ (λ d i. both_in (names.not_among (names.source_nodes meaning decls) (listed (sourced d))) _ (filter_in _ (listed (sourced d)) (sourced_in d i)) (filter_in _ (listed (names.sessioned d)) (sessioned_in d i))) decls h,
+      (flat_in DeclIn _ (λ d i. filter_in _ (names.inner_names d) (inner_in d i)) decls h,
+      (both_in (drop NODE_LIMIT (first_words decls)) (drop CLASS_LIMIT (names.class_words decls)) (drop_in NODE_LIMIT (first_words decls) (first_in [] decls h)) (drop_in CLASS_LIMIT (names.class_words decls) (classes_in [] (flat_map constraints_of decls) (constraints_in decls h))),
+      (bad_codes_in [] (flat_map names.codes_in decls) (codes_in decls h),
+      tt)))))))))))
+
+  -- ---- rows on types
+
+  hollow_in : (decls : List Decl) (words : List Word) → AllIn words → AllIn (flat_map (types.hollow_node decls) words)
+  hollow_in decls words h = flat_in Within (types.hollow_node decls) (λ w i. if_in _ w i) words h
+
+  unjoined_in : (sigs : types.WordSigs) (from : Word) (words : List Word) → AllIn words → AllIn (types.unjoined_after sigs from words)
+  unjoined_in sigs from [] h = tt
+  unjoined_in sigs from (to ∷ words) h =
+      let before = sigs from in let after = sigs to in
+      both_in (types.unless (same_types before.outs after.ins) to) (types.unjoined_after sigs to words) (unless_in (same_types before.outs after.ins) to h.0) (unjoined_in sigs to words h.1)
+
+  joins_in : (sigs : types.WordSigs) (d : Decl) → DeclIn d → AllIn (types.unjoined_in sigs d)
+  joins_in sigs (Flow name patterns members) h = one members (flow_members name patterns members h)
     where
-      two : (t : Bool) (w : Word) → Within w → AllIn (if t then [] else among false names w)
-      two true w h = tt
-      two false w h = among_in false names w h
+      one : (ms : List Word) → AllIn ms → AllIn (types.unjoined sigs ms)
+      one [] i = tt
+      one (m ∷ ms) i = unjoined_in sigs m ms i.1
+  joins_in sigs (Signature name ins outs) h = tt
+  joins_in sigs (Source name target) h = tt
+  joins_in sigs (Typedef name function) h = tt
+  joins_in sigs (Handler node codes handler) h = tt
+  joins_in sigs (Atomic node constraints) h = tt
+  joins_in sigs (Session source function) h = tt
 
-      one : (word : Option Word) → AllIn (listed word) → AllIn (beyond names word)
-      one None h = tt
-      one (Some w) h = two (nat_lt (length names) 4096) w h.0
+  counts_in : (sigs : types.WordSigs) (d : Decl) → DeclIn d → AllIn (types.miscounted_in sigs d)
+  counts_in sigs (Flow name patterns members) h = unless_in _ name h.0.0
+  counts_in sigs (Signature name ins outs) h = tt
+  counts_in sigs (Source name target) h = tt
+  counts_in sigs (Typedef name function) h = tt
+  counts_in sigs (Handler node codes handler) h = tt
+  counts_in sigs (Atomic node constraints) h = tt
+  counts_in sigs (Session source function) h = tt
 
-  all_front : (a b : List Word) → AllIn (a ++ b) → AllIn a × AllIn b
-  all_front [] b h = (tt, h)
-  all_front (w ∷ a) b h = let both = all_front a b h.1 in ((h.0, both.0), both.1)
+  cases_in : (sigs : types.WordSigs) (d : Decl) → DeclIn d → AllIn (types.unlike_node_in sigs d)
+  cases_in sigs (Flow name patterns members) h = unless_in _ name h.0.0
+  cases_in sigs (Signature name ins outs) h = tt
+  cases_in sigs (Source name target) h = tt
+  cases_in sigs (Typedef name function) h = tt
+  cases_in sigs (Handler node codes handler) h = tt
+  cases_in sigs (Atomic node constraints) h = tt
+  cases_in sigs (Session source function) h = tt
 
-  params_in : (kind : Kinds) (params : List Param) → AllIn (map (λ param. param.ty) params) → AllIn (flat_map (unknown_type kind) params)
-  params_in kind [] h = tt
-  params_in kind (p ∷ params) h = all_both (unknown_type kind p) (flat_map (unknown_type kind) params) (if_not_in (is_none (kind (spelling p))) p.ty h.0) (params_in kind params h.1)
+  inputs_in : (predicates : types.Predicates) (patterns : List (Option Word)) (inputs : List TypeText) → AllIn (filter_map (λ pattern. pattern) patterns) → AllIn (types.unlike_inputs predicates patterns inputs)
+  inputs_in predicates [] inputs h = tt
+  inputs_in predicates (None ∷ patterns) [] h = tt
+  inputs_in predicates (Some w ∷ patterns) [] h = tt
+  inputs_in predicates (None ∷ patterns) (input ∷ inputs) h = inputs_in predicates patterns inputs h
+  inputs_in predicates (Some w ∷ patterns) (input ∷ inputs) h =
+      both_in (types.unlike_input predicates (Some w) input) (types.unlike_inputs predicates patterns inputs) (unless_in _ w h.0) (inputs_in predicates patterns inputs h.1)
 
-  types_in : (kind : Kinds) (d : Decl) → DeclIn d → AllIn (unknown_in kind d)
-  types_in kind (Signature name ins outs) h =
-      let both = all_front (map (λ param. param.ty) ins) (map (λ param. param.ty) outs) h.1 in
-      all_both (flat_map (unknown_type kind) ins) (flat_map (unknown_type kind) outs) (params_in kind ins both.0) (params_in kind outs both.1)
-  types_in kind (Flow name patterns members) h = tt
-  types_in kind (Source name target) h = tt
-  types_in kind (Typedef name function) h = tt
-  types_in kind (Handler node codes handler) h = tt
-  types_in kind (Atomic node constraints) h = tt
-  types_in kind (Session source function) h = tt
+  predicates_in : (sigs : types.WordSigs) (predicates : types.Predicates) (d : Decl) → DeclIn d → AllIn (types.unlike_predicates_in sigs predicates d)
+  predicates_in sigs predicates (Flow name None members) h = tt
+  predicates_in sigs predicates (Flow name (Some patterns) members) h =
+      let own = sigs name in inputs_in predicates patterns own.ins (left_in (filter_map (λ pattern. pattern) patterns) members h.0.1)
+  predicates_in sigs predicates (Signature name ins outs) h = tt
+  predicates_in sigs predicates (Source name target) h = tt
+  predicates_in sigs predicates (Typedef name function) h = tt
+  predicates_in sigs predicates (Handler node codes handler) h = tt
+  predicates_in sigs predicates (Atomic node constraints) h = tt
+  predicates_in sigs predicates (Session source function) h = tt
 
-  missing_in : (node : Nodes) (d : Decl) → DeclIn d → AllIn (not_in node d)
-  missing_in node (Signature name ins outs) h = if_not_in (is_none (node (library_name name.text))) name h.0
-  missing_in node (Flow name patterns members) h = tt
-  missing_in node (Source name target) h = tt
-  missing_in node (Typedef name function) h = tt
-  missing_in node (Handler n codes handler) h = tt
-  missing_in node (Atomic n constraints) h = tt
-  missing_in node (Session source function) h = tt
+  targets_in : (sigs : types.WordSigs) (d : Decl) → DeclIn d → AllIn (types.unlike_target sigs d)
+  targets_in sigs (Source name target) h = unless_in _ target h.0.1.0
+  targets_in sigs (Signature name ins outs) h = tt
+  targets_in sigs (Flow name patterns members) h = tt
+  targets_in sigs (Typedef name function) h = tt
+  targets_in sigs (Handler node codes handler) h = tt
+  targets_in sigs (Atomic node constraints) h = tt
+  targets_in sigs (Session source function) h = tt
 
-  unlike_in : (kind : Kinds) (node : Nodes) (d : Decl) → DeclIn d → AllIn (unlike kind node d)
-  unlike_in kind node (Signature name ins outs) h = if_in (is_like kind (node (library_name name.text)) ins outs) name h.0
-  unlike_in kind node (Flow name patterns members) h = tt
-  unlike_in kind node (Source name target) h = tt
-  unlike_in kind node (Typedef name function) h = tt
-  unlike_in kind node (Handler n codes handler) h = tt
-  unlike_in kind node (Atomic n constraints) h = tt
-  unlike_in kind node (Session source function) h = tt
+  functions_in : (meaning : LibraryMeaning) (sigs : types.WordSigs) (d : Decl) → DeclIn d → AllIn (types.unlike_source meaning.session sigs d)
+  functions_in meaning sigs (Session source function) h = unless_in _ function h.0.1.0
+  functions_in meaning sigs (Signature name ins outs) h = tt
+  functions_in meaning sigs (Flow name patterns members) h = tt
+  functions_in meaning sigs (Source name target) h = tt
+  functions_in meaning sigs (Typedef name function) h = tt
+  functions_in meaning sigs (Handler node codes handler) h = tt
+  functions_in meaning sigs (Atomic node constraints) h = tt
 
-  names_in : (kind : Kinds) (node : Nodes) (decls : List Decl) → AllByRecursion DeclIn decls → RowsIn (rows kind node decls)
-  names_in kind node decls all = (
-    all_both (twice_after naming [] decls) (twice_after sourced [] decls) (twice_in naming naming_in [] decls all) (twice_in sourced sourced_in [] decls all),
-    (
-      flat_in _ (λ d h. all_among_in false (names_of decls) (listed (sourced d) ++ inner d) (all_both (listed (sourced d)) (inner d) (sourced_in d h) (inner_in d h))) decls all,
-      (
-        flat_in _ (types_in kind) decls all,
-        (
-          flat_in _ (missing_in node) decls all,
-          (
-            flat_in _ (unlike_in kind node) decls all,
-            (
-              flat_in _ (λ d h. all_among_in false (source_names node decls) (listed (sourced d)) (sourced_in d h)) decls all,
-              (
-                flat_in _ (λ d h. all_among_in true (source_names node decls) (inner d) (inner_in d h)) decls all,
-                (beyond_in [] decls all, tt),
-              ),
-            ),
-          ),
-        ),
-      ),
-    ),
-  )
+  handlers_in : (sigs : ℕ → NodeSig) (node_names : List (List ℕ)) (d : Decl) → DeclIn d → AllIn (edges.unlike_handler sigs node_names d)
+  handlers_in sigs node_names (Handler node codes handler) h = unless_in _ handler h.0.1.0
+  handlers_in sigs node_names (Signature name ins outs) h = tt
+  handlers_in sigs node_names (Flow name patterns members) h = tt
+  handlers_in sigs node_names (Source name target) h = tt
+  handlers_in sigs node_names (Typedef name function) h = tt
+  handlers_in sigs node_names (Atomic node constraints) h = tt
+  handlers_in sigs node_names (Session source function) h = tt
 
-  -- ---- the later rows
+  unserved_in : (decls : List Decl) (d : Decl) → DeclIn d → AllIn (edges.unserved_source decls d)
+  unserved_in decls (Source name target) h = unless_in _ name h.0.0
+  unserved_in decls (Signature name ins outs) h = tt
+  unserved_in decls (Flow name patterns members) h = tt
+  unserved_in decls (Typedef name function) h = tt
+  unserved_in decls (Handler node codes handler) h = tt
+  unserved_in decls (Atomic node constraints) h = tt
+  unserved_in decls (Session source function) h = tt
 
-  empty_in : (d : Decl) → DeclIn d → AllIn (empty_flow d)
-  empty_in (Flow name patterns []) h = (h.0, tt)
-  empty_in (Flow name patterns (m ∷ members)) h = tt
-  empty_in (Signature name ins outs) h = tt
-  empty_in (Source name target) h = tt
-  empty_in (Typedef name function) h = tt
-  empty_in (Handler node codes handler) h = tt
-  empty_in (Atomic node constraints) h = tt
-  empty_in (Session source function) h = tt
+  large_in : (size : Word → ℕ) (total : ℕ) (decls : List Decl) → DeclsIn decls → AllIn (too_large_after size total decls)
+  large_in size total [] h = tt
+  large_in size total (Source name target ∷ decls) h =
+      both_in (past_limit (total + size target) name) (too_large_after size (total + size target) decls) (if_in (nat_lt SIZE_LIMIT (total + size target)) name h.0.0.0) (large_in size (total + size target) decls h.1)
+  large_in size total (Signature name ins outs ∷ decls) h = large_in size total decls h.1
+  large_in size total (Flow name patterns members ∷ decls) h = large_in size total decls h.1
+  large_in size total (Typedef name function ∷ decls) h = large_in size total decls h.1
+  large_in size total (Handler node codes handler ∷ decls) h = large_in size total decls h.1
+  large_in size total (Atomic node constraints ∷ decls) h = large_in size total decls h.1
+  large_in size total (Session source function ∷ decls) h = large_in size total decls h.1
 
-  differing_in : (outs ins : List TypeText) (w : Word) → Within w → AllIn (differing outs ins w)
-  differing_in outs ins w h = if_in (same_types outs ins) w h
-
-  after_in : (sig : Sigs) (outs : List TypeText) (words : List Word) → AllIn words → AllIn (unjoined_after sig outs words)
-  after_in sig outs [] h = tt
-  after_in sig outs (w ∷ words) h = let own = sig w in all_both (differing outs own.ins w) (unjoined_after sig own.outs words) (differing_in outs own.ins w h.0) (after_in sig own.outs words h.1)
-
-  unjoined_ok : (sig : Sigs) (words : List Word) → AllIn words → AllIn (unjoined sig words)
-  unjoined_ok sig [] h = tt
-  unjoined_ok sig (w ∷ words) h = let own = sig w in after_in sig own.outs words h.1
-
-  joins_in : (sig : Sigs) (d : Decl) → DeclIn d → AllIn (unjoined_in sig d)
-  joins_in sig (Flow name patterns members) h = unjoined_ok sig members h.1
-  joins_in sig (Signature name ins outs) h = tt
-  joins_in sig (Source name target) h = tt
-  joins_in sig (Typedef name function) h = tt
-  joins_in sig (Handler node codes handler) h = tt
-  joins_in sig (Atomic node constraints) h = tt
-  joins_in sig (Session source function) h = tt
-
-  targets_in : (sig : Sigs) (d : Decl) → DeclIn d → AllIn (unlike_target sig d)
-  targets_in sig (Source name target) h = let from = sig name in let to = sig target in differing_in from.outs to.ins target h.1.0
-  targets_in sig (Signature name ins outs) h = tt
-  targets_in sig (Flow name patterns members) h = tt
-  targets_in sig (Typedef name function) h = tt
-  targets_in sig (Handler node codes handler) h = tt
-  targets_in sig (Atomic node constraints) h = tt
-  targets_in sig (Session source function) h = tt
-
-  large_in : (size : Word → ℕ) (total : ℕ) (decls : List Decl) → AllByRecursion DeclIn decls → AllIn (too_large_after size total decls)
-  large_in size total [] all = tt
-  large_in size total (Source name target ∷ decls) all =
-      all_both (past_limit (total + size target) name) (too_large_after size (total + size target) decls) (let own = all.0 in if_not_in (nat_lt 65536 (total + size target)) name own.0) (large_in size (total + size target) decls all.1)
-  large_in size total (Signature name ins outs ∷ decls) all = large_in size total decls all.1
-  large_in size total (Flow name patterns members ∷ decls) all = large_in size total decls all.1
-  large_in size total (Typedef name function ∷ decls) all = large_in size total decls all.1
-  large_in size total (Handler node codes handler ∷ decls) all = large_in size total decls all.1
-  large_in size total (Atomic node constraints ∷ decls) all = large_in size total decls all.1
-  large_in size total (Session source function ∷ decls) all = large_in size total decls all.1
-
-  later_in : (kind : Kinds) (decls : List Decl) → AllByRecursion DeclIn decls → RowsIn (later_rows kind decls)
-  later_in kind decls all = (flat_in _ empty_in decls all, (flat_in _ (joins_in (named_sig kind decls)) decls all, (flat_in _ (targets_in (named_sig kind decls)) decls all, (large_in (flow_size decls) 0 decls all, tt))))
+  later_in : (meaning : LibraryMeaning) (decls : List Decl) → DeclsIn decls → RowsIn (later_rows meaning decls)
+  later_in meaning decls h =
+      let sigs = types.sigs_of meaning decls in
+      (hollow_in decls (first_words decls) (first_in [] decls h),
+      (flat_in DeclIn _ (joins_in sigs) decls h,
+      (flat_in DeclIn _ (counts_in sigs) decls h,
+      (flat_in DeclIn _ (cases_in sigs) decls h,
+      (flat_in DeclIn _ (predicates_in sigs (types.predicates_of meaning decls)) decls h,
+      (flat_in DeclIn _ (handlers_in (sig_of meaning.kind decls) (names_of decls)) decls h,
+      (flat_in DeclIn _ (targets_in sigs) decls h,
+      (flat_in DeclIn _ (functions_in meaning sigs) decls h,
+      (flat_in DeclIn _ (unserved_in decls) decls h,
+      (large_in (flow_size decls) 0 decls h,
+      tt))))))))))
 
   -- ---- a form that isn't built, and the places of nodes
 
-  unbuilt_in : (decls : List Decl) (at : ℕ) → AllByRecursion DeclIn decls → first_unbuilt decls ≡ Some at → at ≤ n
-  unbuilt_in [] at all e = absurd cc
-  unbuilt_in (d ∷ decls) at all e = one d all.0 (unbuilt_in decls at all.1) e
+  constrained_in : (meaning : LibraryMeaning) (d : Decl) → DeclIn d → AllIn (listed (constrained meaning d))
+  constrained_in meaning (Atomic node constraints) h = (h.0.0, tt)
+  constrained_in meaning (Signature name ins outs) h = one (uses_cell (names.library_node meaning name.text))
     where
-      here : (w : Word) → Within w → Some w.at ≡ Some at → at ≤ n
-      here w h same = let s : w.at ≡ at = cc in omega (arith, s, h)
+      one : (t : Bool) → AllIn (listed (if t then Some name else None))
+      one true = (h.0.0, tt)
+      one false = tt
+  constrained_in meaning (Flow name patterns members) h = tt
+  constrained_in meaning (Source name target) h = tt
+  constrained_in meaning (Typedef name function) h = tt
+  constrained_in meaning (Handler node codes handler) h = tt
+  constrained_in meaning (Session source function) h = tt
 
-      one : (d : Decl) → DeclIn d → (first_unbuilt decls ≡ Some at → at ≤ n) → place_or (unbuilt d) (first_unbuilt decls) ≡ Some at → at ≤ n
-      one (Signature name ins outs) h more e = more e
-      one (Flow name None members) h more e = more e
-      one (Flow name (Some patterns) members) h more e = here name h.0 e
-      one (Source name target) h more e = more e
-      one (Typedef name function) h more e = here name h.0 e
-      one (Handler node codes handler) h more e = here node h.0 e
-      one (Atomic node constraints) h more e = here node h.0 e
-      one (Session source function) h more e = here source h.0 e
+  unbuilt_in : (meaning : LibraryMeaning) (decls : List Decl) (at : ℕ) → DeclsIn decls → first_constrained meaning decls ≡ Some at → at ≤ n
+  unbuilt_in meaning [] at h e = absurd cc
+  unbuilt_in meaning (d ∷ decls) at h e = one (constrained meaning d) (constrained_in meaning d h.0) (unbuilt_in meaning decls at h.1) e
+    where
+      one : (w : Option Word) → AllIn (listed w) → (first_constrained meaning decls ≡ Some at → at ≤ n) → place_or w (first_constrained meaning decls) ≡ Some at → at ≤ n
+      one None i more f = more f
+      one (Some w) i more f = let same : w.at ≡ at = cc in omega (arith, same, i.0)
 
-  places_in : (words : List Word) (others : List ℕ) → AllIn words → AllByRecursion (λ at. at ≤ n) others → AllByRecursion (λ at. at ≤ n) (places words ++ others)
-  places_in [] others h all = all
-  places_in (w ∷ words) others h all = (h.0, places_in words others h.1 all)
+  places_in : (words : List Word) → AllIn words → AllByRecursion (λ at. at ≤ n) (places words)
+  places_in [] h = tt
+  places_in (w ∷ words) h = (h.0, places_in words h.1)
 
-  sites_in : (decls : List Decl) → AllByRecursion DeclIn decls → AllByRecursion (λ at. at ≤ n) (flat_map (λ d. places (listed (naming d))) decls)
-  sites_in [] all = tt
-  sites_in (d ∷ decls) all = places_in (listed (naming d)) (flat_map (λ x. places (listed (naming x))) decls) (naming_in d all.0) (sites_in decls all.1)
-
-  decls_in : (kind : Kinds) (node : Nodes) (decls : List Decl) (fault : StaticFault) → AllByRecursion DeclIn decls → IsDeclsFault kind node decls fault → fault.at ≤ n
-  decls_in kind node decls fault all (inl u) = unbuilt_in decls fault.at all u.0
-  decls_in kind node decls fault all (inr (inl (built, found, path))) = fault_in (rows kind node decls) fault.kind fault.at (names_in kind node decls all) found
-  decls_in kind node decls fault all (inr (inr (inl (named, c)))) = at_of (λ at. at ≤ n) (flat_map (λ d. places (listed (naming d))) decls) _ fault.at c.site (sites_in decls all)
-  decls_in kind node decls fault all (inr (inr (inr (ordered, found, path)))) = fault_in (later_rows kind decls) fault.kind fault.at (later_in kind decls all) found
+  decls_in : (meaning : LibraryMeaning) (decls : List Decl) (fault : StaticFault) → DeclsIn decls → IsDeclsFault meaning decls fault → fault.at ≤ n
+  decls_in meaning decls fault h (inl u) = unbuilt_in meaning decls fault.at h u.at
+  decls_in meaning decls fault h (inr (inl f)) = let first = f.first in fault_in (names.rows meaning decls) fault.kind fault.at (names_in meaning decls h) first.is
+  decls_in meaning decls fault h (inr (inr (inl c))) = let cycle = c.cycle in rows_at (λ at. at ≤ n) (places (first_words decls)) _ fault.at cycle.site (places_in (first_words decls) (first_in [] decls h))
+  decls_in meaning decls fault h (inr (inr (inr l))) = let first = l.first in fault_in (later_rows meaning decls) fault.kind fault.at (later_in meaning decls h) first.is
 
 stand_in : (text : List ℕ) (words : List Word) → AllByRecursion (StandsIn text) words → AllByRecursion (λ w. w.at ≤ length text) words
 stand_in text [] h = tt
 stand_in text (w ∷ words) h = let own = h.0 in (own.within, stand_in text words h.1)
 
-all_in : (text : List ℕ) (decls : List Decl) → AllStandIn text decls → AllByRecursion (λ d. AllByRecursion (λ w. w.at ≤ length text) (fault_words d)) decls
+all_in : (text : List ℕ) (decls : List Decl) → AllStandIn text decls
+    → AllByRecursion (λ d. AllByRecursion (λ w. w.at ≤ length text) (fault_words d) × AllByRecursion (λ w. w.at ≤ length text) (code_words d)) decls
 all_in text [] h = tt
-all_in text (d ∷ decls) h = (stand_in text (fault_words d) h.0, all_in text decls h.1)
+all_in text (d ∷ decls) h = ((stand_in text (fault_words d) h.0.0, h.0.1), all_in text decls h.1)
 
-pub fault_within : (kind : Kinds) (node : Nodes) (text : List ℕ) (decls : List Decl) (fault : StaticFault) → AllStandIn text decls → IsDeclsFault kind node decls fault → fault.at ≤ length text
-fault_within kind node text decls fault stand f = decls_in (length text) kind node decls fault (all_in text decls stand) f
+-- the place of a fault is within the text
+pub fault_within : (meaning : LibraryMeaning) (text : List ℕ) (decls : List Decl) (fault : StaticFault) → AllStandIn text decls → IsDeclsFault meaning decls fault → fault.at ≤ length text
+fault_within meaning text decls fault stand f = decls_in (length text) meaning decls fault (all_in text decls stand) f

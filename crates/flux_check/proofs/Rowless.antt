@@ -1,83 +1,123 @@
--- Declarations without faults: what that says of each of them.
-use Rattle.std.proofs.Common.{◌≡◌, ℕ, true, false, List, [], ◌∷◌, ◌++◌, None}
+-- Sound declarations: what that says of each of them.
+use Rattle.std.proofs.Common.{◌≡◌, ℕ, List, [], ◌∷◌, ◌++◌, Option, Some, None, refl}
 use Rattle.std.specs.List.{flat_map, AllByRecursion}
+use Rattle.flux_values.specs.Meanings.{LibraryMeaning}
+use Rattle.flux_faults.specs.declared.faults.FaultKind.{FaultKind}
+use Rattle.flux_syntax.specs.declared.declarations.Word.{Word}
 use Rattle.flux_syntax.specs.declared.declarations.Decl.{Decl}
-use Rattle.flux_syntax.specs.Words.{naming, sourced, inner, names_of, listed}
-use Rattle.flux_syntax.specs.Least.{soonest, first_fault}
-use Rattle.flux_names.specs.Rows.{Kinds, Nodes, all_among, twice_after, twice_named, unknown_nodes, unknown_types, not_in_library, not_in, unlike_library, unlike, not_sources, misused_sources, source_names, rows}
-use Rattle.flux_names.proofs.Numbers.{no_words, no_row, nil_append}
-use Rattle.flux_types.specs.Rows.{Sigs, named_sig, empty_flow, no_signatures, unjoined_in, join_types, unlike_target, source_types}
+use Rattle.flux_syntax.specs.Words.{sourced, names_of, texts_of}
+use Rattle.flux_syntax.specs.Least.{Row, sooner, soonest, fault_or, first_fault}
+use Rattle.flux_names.specs.Rows.{used_names, inner_names, among, not_among, not_in, unlike, source_nodes, not_sources_in, rows}
+use Rattle.flux_names.specs.Building.{place_or, first_place, constrained}
+use Rattle.flux_types.specs.Signatures.{sig_of}
+use Rattle.flux_types.specs.Rows.{sigs_of, predicates_of, unjoined_in, miscounted_in, unlike_node_in, unlike_predicates_in, unlike_target, unlike_source}
+use Rattle.flux_edges.specs.Rows.{unlike_handler}
 use Rattle.flux_check.specs.Rows.{later_rows}
+use Rattle.flux_check.specs.Judgement.{AreSound}
 
--- no row stands: each has no words
-pub record NoNames (kind : Kinds) (node : Nodes) (decls : List Decl) : Type 0 where
-  pub twice : twice_after naming [] decls ≡ []
-  pub sources : twice_after sourced [] decls ≡ []
-  pub unknown : unknown_nodes (names_of decls) decls ≡ []
-  pub missing : not_in_library node decls ≡ []
-  pub unlike_ : unlike_library kind node decls ≡ []
-  pub misused : misused_sources node decls ≡ []
+-- ---- rows that don't stand
 
-pub no_names : (kind : Kinds) (node : Nodes) (decls : List Decl) → first_fault (rows kind node decls) ≡ None → NoNames kind node decls
-no_names kind node decls sound =
-    let a = no_row _ (soonest None (twice_named decls)) _ sound in
-    let b = no_row _ (soonest None (unknown_nodes (names_of decls) decls)) _ a.1 in
-    let c = no_row _ (soonest None (unknown_types kind decls)) _ b.1 in
-    let d = no_row _ (soonest None (not_in_library node decls)) _ c.1 in
-    let e = no_row _ (soonest None (unlike_library kind node decls)) _ d.1 in
-    let f = no_row _ (soonest None (not_sources node decls)) _ e.1 in
-    let g = no_row _ (soonest None (misused_sources node decls)) _ f.1 in
-    record {
-      twice = (nil_append (twice_after naming [] decls) (twice_after sourced [] decls) (no_words (twice_named decls) a.0)).0;
-      sources = (nil_append (twice_after naming [] decls) (twice_after sourced [] decls) (no_words (twice_named decls) a.0)).1;
-      unknown = no_words (unknown_nodes (names_of decls) decls) b.0;
-      missing = no_words (not_in_library node decls) d.0;
-      unlike_ = no_words (unlike_library kind node decls) e.0;
-      misused = no_words (misused_sources node decls) g.0;
-    }
+some_place : (at : ℕ) (words : List Word) → soonest (Some at) words ≡ None → ⊥
+some_place at [] e = absurd cc
+some_place at (w ∷ words) e = some_place (sooner (Some at) w.at) words e
 
-pub record NoTypes (kind : Kinds) (decls : List Decl) : Type 0 where
-  pub empties : no_signatures decls ≡ []
-  pub joins : join_types (named_sig kind decls) decls ≡ []
-  pub targets : source_types (named_sig kind decls) decls ≡ []
+no_words : (words : List Word) → soonest None words ≡ None → words ≡ []
+no_words [] e = refl
+no_words (w ∷ words) e = absurd (some_place w.at words e)
 
-pub no_types : (kind : Kinds) (decls : List Decl) → first_fault (later_rows kind decls) ≡ None → NoTypes kind decls
-no_types kind decls sound =
-    let a = no_row _ (soonest None (no_signatures decls)) _ sound in
-    let b = no_row _ (soonest None (join_types (named_sig kind decls) decls)) _ a.1 in
-    let c = no_row _ (soonest None (source_types (named_sig kind decls) decls)) _ b.1 in
-    record {
-      empties = no_words (no_signatures decls) a.0;
-      joins = no_words (join_types (named_sig kind decls) decls) b.0;
-      targets = no_words (source_types (named_sig kind decls) decls) c.0;
-    }
+no_fault : (kind : FaultKind) (place : Option ℕ) (other : Option (FaultKind × ℕ)) → fault_or kind place other ≡ None → (place ≡ None) × (other ≡ None)
+no_fault kind None other e = (refl, e)
+no_fault kind (Some at) other e = absurd cc
+
+-- no row has words
+wordless : (all : List Row) → first_fault all ≡ None → AllByRecursion (λ row. row.1 ≡ []) all
+wordless [] e = tt
+wordless (row ∷ others) e = let both = no_fault row.0 (soonest None row.1) (first_fault others) e in (no_words row.1 both.0, wordless others both.1)
+
+-- two lists that are empty together
+pub nil_append : {A : Type 0} (a b : List A) → a ++ b ≡ [] → (a ≡ []) × (b ≡ [])
+nil_append [] b e = (refl, e)
+nil_append (w ∷ a) b e = absurd cc
+
+no_place : (found : Option Word) (others : Option ℕ) → place_or found others ≡ None → (found ≡ None) × (others ≡ None)
+no_place None others e = (refl, e)
+no_place (Some word) others e = absurd cc
 
 -- ---- of each declaration
 
-pub record IsClean (kind : Kinds) (node : Nodes) (names sources : List (List ℕ)) (sig : Sigs) (d : Decl) : Type 0 where
-  pub known : all_among false names (listed (sourced d) ++ inner d) ≡ []
-  pub present : not_in node d ≡ []
-  pub like : unlike kind node d ≡ []
-  pub plain : all_among true sources (inner d) ≡ []
-  pub some : empty_flow d ≡ []
-  pub joined : unjoined_in sig d ≡ []
-  pub fits : unlike_target sig d ≡ []
+-- no row stands at a declaration, among all
+pub record IsClean (meaning : LibraryMeaning) (all : List Decl) (d : Decl) : Type 0 where
+  pub built : constrained meaning d ≡ None
+  pub named : not_among (names_of all) (used_names d) ≡ []
+  pub present : not_in meaning d ≡ []
+  pub like : unlike meaning d ≡ []
+  pub origins : not_sources_in (source_nodes meaning all) (texts_of sourced all) d ≡ []
+  pub plain : among (source_nodes meaning all) (inner_names d) ≡ []
+  pub joined : unjoined_in (sigs_of meaning all) d ≡ []
+  pub counted : miscounted_in (sigs_of meaning all) d ≡ []
+  pub like_node : unlike_node_in (sigs_of meaning all) d ≡ []
+  pub predicates : unlike_predicates_in (sigs_of meaning all) (predicates_of meaning all) d ≡ []
+  pub handlers : unlike_handler (sig_of meaning.kind all) (names_of all) d ≡ []
+  pub targets : unlike_target (sigs_of meaning all) d ≡ []
+  pub sessions : unlike_source meaning.session (sigs_of meaning all) d ≡ []
 
-module _ (kind : Kinds) (node : Nodes) (names sources : List (List ℕ)) (sig : Sigs) where
-  clean_all : (decls : List Decl) → unknown_nodes names decls ≡ [] → not_in_library node decls ≡ [] → unlike_library kind node decls ≡ [] → flat_map (λ d. all_among true sources (inner d)) decls ≡ []
-      → no_signatures decls ≡ [] → join_types sig decls ≡ [] → source_types sig decls ≡ [] → AllByRecursion (IsClean kind node names sources sig) decls
-  clean_all [] a b c d e f g = tt
-  clean_all (decl ∷ decls) a b c d e f g =
-      let a2 = nil_append (all_among false names (listed (sourced decl) ++ inner decl)) (unknown_nodes names decls) a in
-      let b2 = nil_append (not_in node decl) (not_in_library node decls) b in
-      let c2 = nil_append (unlike kind node decl) (unlike_library kind node decls) c in
-      let d2 = nil_append (all_among true sources (inner decl)) (flat_map (λ x. all_among true sources (inner x)) decls) d in
-      let e2 = nil_append (empty_flow decl) (no_signatures decls) e in
-      let f2 = nil_append (unjoined_in sig decl) (join_types sig decls) f in
-      let g2 = nil_append (unlike_target sig decl) (source_types sig decls) g in
-      (record { known = a2.0; present = b2.0; like = c2.0; plain = d2.0; some = e2.0; joined = f2.0; fits = g2.0 }, clean_all decls a2.1 b2.1 c2.1 d2.1 e2.1 f2.1 g2.1)
+module _ (meaning : LibraryMeaning) (all : List Decl) where
+  -- rows of declarations, each without words
+  record AreEmpty (decls : List Decl) : Type 0 where
+    built : first_place (constrained meaning) decls ≡ None
+    named : flat_map (λ d. not_among (names_of all) (used_names d)) decls ≡ []
+    present : flat_map (not_in meaning) decls ≡ []
+    like : flat_map (unlike meaning) decls ≡ []
+    origins : flat_map (not_sources_in (source_nodes meaning all) (texts_of sourced all)) decls ≡ []
+    plain : flat_map (λ d. among (source_nodes meaning all) (inner_names d)) decls ≡ []
+    joined : flat_map (unjoined_in (sigs_of meaning all)) decls ≡ []
+    counted : flat_map (miscounted_in (sigs_of meaning all)) decls ≡ []
+    like_node : flat_map (unlike_node_in (sigs_of meaning all)) decls ≡ []
+    predicates : flat_map (unlike_predicates_in (sigs_of meaning all) (predicates_of meaning all)) decls ≡ []
+    handlers : flat_map (unlike_handler (sig_of meaning.kind all) (names_of all)) decls ≡ []
+    targets : flat_map (unlike_target (sigs_of meaning all)) decls ≡ []
+    sessions : flat_map (unlike_source meaning.session (sigs_of meaning all)) decls ≡ []
 
-pub all_clean : (kind : Kinds) (node : Nodes) (decls : List Decl) → NoNames kind node decls → NoTypes kind decls
-    → AllByRecursion (IsClean kind node (names_of decls) (source_names node decls) (named_sig kind decls)) decls
-all_clean kind node decls n t =
-    clean_all kind node (names_of decls) (source_names node decls) (named_sig kind decls) decls n.unknown n.missing n.unlike_ n.misused t.empties t.joins t.targets
+  parts : (of : Decl → List Word) (d : Decl) (decls : List Decl) → flat_map of (d ∷ decls) ≡ [] → (of d ≡ []) × (flat_map of decls ≡ [])
+  parts of d decls e = nil_append (of d) (flat_map of decls) e
+
+  clean_each : (decls : List Decl) → AreEmpty decls → AllByRecursion (IsClean meaning all) decls
+  clean_each [] r = tt
+  clean_each (d ∷ decls) r =
+      let built = no_place (constrained meaning d) (first_place (constrained meaning) decls) r.built in
+      let named = parts (λ x. not_among (names_of all) (used_names x)) d decls r.named in
+      let present = parts (not_in meaning) d decls r.present in
+      let like = parts (unlike meaning) d decls r.like in
+      let origins = parts (not_sources_in (source_nodes meaning all) (texts_of sourced all)) d decls r.origins in
+      let plain = parts (λ x. among (source_nodes meaning all) (inner_names x)) d decls r.plain in
+      let joined = parts (unjoined_in (sigs_of meaning all)) d decls r.joined in
+      let counted = parts (miscounted_in (sigs_of meaning all)) d decls r.counted in
+      let like_node = parts (unlike_node_in (sigs_of meaning all)) d decls r.like_node in
+      let predicates = parts (unlike_predicates_in (sigs_of meaning all) (predicates_of meaning all)) d decls r.predicates in
+      let handlers = parts (unlike_handler (sig_of meaning.kind all) (names_of all)) d decls r.handlers in
+      let targets = parts (unlike_target (sigs_of meaning all)) d decls r.targets in
+      let sessions = parts (unlike_source meaning.session (sigs_of meaning all)) d decls r.sessions in (
+        record { built = built.0; named = named.0; present = present.0; like = like.0; origins = origins.0; plain = plain.0; joined = joined.0; counted = counted.0; like_node = like_node.0; predicates = predicates.0; handlers = handlers.0; targets = targets.0; sessions = sessions.0 },
+        clean_each decls (record { built = built.1; named = named.1; present = present.1; like = like.1; origins = origins.1; plain = plain.1; joined = joined.1; counted = counted.1; like_node = like_node.1; predicates = predicates.1; handlers = handlers.1; targets = targets.1; sessions = sessions.1 }),
+      )
+
+-- no row stands at any of sound declarations
+pub all_clean : (meaning : LibraryMeaning) (decls : List Decl) → AreSound meaning decls → AllByRecursion (IsClean meaning decls) decls
+all_clean meaning decls sound =
+    let named = wordless (rows meaning decls) sound.ordered.names.named in
+    let later = wordless (later_rows meaning decls) sound.later in
+    clean_each meaning decls decls (record {
+      built = sound.ordered.names.built;
+      named = named.1.0;
+      present = named.1.1.1.0;
+      like = named.1.1.1.1.0;
+      origins = named.1.1.1.1.1.1.1.0;
+      plain = named.1.1.1.1.1.1.1.1.0;
+      joined = later.1.0;
+      counted = later.1.1.0;
+      like_node = later.1.1.1.0;
+      predicates = later.1.1.1.1.0;
+      handlers = later.1.1.1.1.1.0;
+      targets = later.1.1.1.1.1.1.0;
+      sessions = later.1.1.1.1.1.1.1.0;
+    })

@@ -1,32 +1,41 @@
 -- Fault 27 along the program is that of the declarations, and where it doesn't stand the sizes are those of the program.
-use Rattle.std.proofs.Common.{◌≡◌, ◌≤◌, ◌+◌, ℕ, Bool, true, false, nat_lt, if◌then◌else◌, List, [], ◌∷◌, ◌++◌, map, Option, None, refl, sym, ap, ◌∙◌, arith}
-use Rattle.std.specs.List.{flat_map}
+use Rattle.std.proofs.Common.{◌≡◌, ◌≤◌, ◌+◌, ℕ, Bool, true, false, nat_lt, if◌then◌else◌, List, [], ◌∷◌, ◌++◌, map, Option, Some, None, refl, sym, ap, ◌∙◌, arith}
+use Rattle.std.specs.List.{filter_map}
 use Rattle.std.proofs.lemmas.Bool.Decides.{nat_tests}
 use Rattle.flux_faults.specs.declared.faults.FaultKind.TheVariants.{PlanTooLarge}
 use Rattle.flux_model.specs.declared.programs.Program.{Program}
 use Rattle.flux_model.specs.declared.programs.SourceLine.{SourceLine}
+use Rattle.flux_model.specs.Locks.{no_locks}
 use Rattle.flux_model.specs.Sizes.{size_of, source_size, total_size}
 use Rattle.flux_syntax.specs.declared.declarations.Word.{Word}
 use Rattle.flux_syntax.specs.declared.declarations.Decl.{Decl}
 use Rattle.flux_syntax.specs.declared.declarations.Decl.TheVariants.{Signature, Flow, Source, Typedef, Handler, Atomic, Session}
 use Rattle.flux_syntax.specs.Words.{names_of}
-use Rattle.flux_syntax.specs.ProgramOfText.{number_of, source_of, program_with}
+use Rattle.flux_syntax.specs.ProgramOfText.{number_of, place_of, source_of, program_of}
 use Rattle.flux_syntax.specs.Least.{soonest, fault_or}
 use Rattle.flux_syntax.proofs.Soonest.{soonest_append}
-use Rattle.flux_names.proofs.Numbers.{no_words}
+use Rattle.flux_hoist.specs.declared.checked.TheConstants.{SIZE_LIMIT}
 use Rattle.flux_types.specs.Signatures.{nodes_of}
-use Rattle.flux_check.specs.Rows.{flow_size, past_limit, too_large_after, too_large}
-use Rattle.flux_check.specs.Summing.{capped, size_at, large_along, line_sizes}
-use Rattle.flux_check.specs.Steps.{AreSizes}
+use Rattle.flux_check.specs.Rows.{flow_size, past_limit, too_large_after}
+use Rattle.flux_check.specs.steps.Summing.{capped, size_at, large_along, line_size}
+use Rattle.flux_check.specs.steps.Checking.{AreSizes}
+
+no_words : (words : List Word) → soonest None words ≡ None → words ≡ []
+no_words [] e = refl
+no_words (word ∷ words) e = absurd (some words (word.at) e)
+  where
+    some : (ws : List Word) (at : ℕ) → soonest (Some at) ws ≡ None → ⊥
+    some [] at none = cc
+    some (w ∷ ws) at none = some ws _ none
 
 same_limit : (total t : ℕ) (name : Word) → total ≡ capped t → past_limit total name ≡ past_limit t name
-same_limit total t name is = ap (λ (b : Bool). if b then name ∷ [] else []) (one (nat_lt 65536 t) refl)
+same_limit total t name is = ap (λ (b : Bool). if b then name ∷ [] else []) (one (nat_lt SIZE_LIMIT t) refl)
   where
-    one : (b : Bool) → nat_lt 65536 t ≡ b → nat_lt 65536 total ≡ nat_lt 65536 t
+    one : (b : Bool) → nat_lt SIZE_LIMIT t ≡ b → nat_lt SIZE_LIMIT total ≡ nat_lt SIZE_LIMIT t
     one true e = grind (arith, nat_tests, e, is)
     one false e = grind (arith, nat_tests, e, is)
 
-module _ (decls : List Decl) (table : List ℕ) (stands : (number : ℕ) → size_at table number ≡ capped (size_of (nodes_of decls) number)) where
+module _ (decls : List Decl) (table : List ℕ) (stands : (number : ℕ) → size_at table number ≡ capped (size_of no_locks (nodes_of decls) number)) where
   names : List (List ℕ)
   names = names_of decls
 
@@ -34,7 +43,7 @@ module _ (decls : List Decl) (table : List ℕ) (stands : (number : ℕ) → siz
   line_is target = let node = number_of (names_of decls) target in let own = stands node.0 in omega (arith, own)
 
   large_is : (total t : ℕ) (place : Option ℕ) (ds : List Decl) → total ≡ capped t
-      → large_along table total place ds (flat_map (source_of (names_of decls)) ds) ≡ soonest place (too_large_after (flow_size decls) t ds)
+      → large_along table total place ds (filter_map (source_of (names_of decls) decls) ds) ≡ soonest place (too_large_after (flow_size decls) t ds)
   large_is total t place [] is = refl
   large_is total t place (Source name target ∷ ds) is =
       let node = number_of (names_of decls) target in
@@ -52,16 +61,16 @@ module _ (decls : List Decl) (table : List ℕ) (stands : (number : ℕ) → siz
   -- ---- within the limit
 
   abbrev program : Program
-  program = program_with (names_of decls) decls
+  program = program_of decls
 
-  within : (total : ℕ) (name : Word) (others : List Word) → past_limit total name ++ others ≡ [] → (total ≤ 65536) × (others ≡ [])
-  within total name others e = one (nat_lt 65536 total) refl
+  within : (total : ℕ) (name : Word) (others : List Word) → past_limit total name ++ others ≡ [] → (total ≤ SIZE_LIMIT) × (others ≡ [])
+  within total name others e = one (nat_lt SIZE_LIMIT total) refl
     where
-      one : (b : Bool) → nat_lt 65536 total ≡ b → (total ≤ 65536) × (others ≡ [])
+      one : (b : Bool) → nat_lt SIZE_LIMIT total ≡ b → (total ≤ SIZE_LIMIT) × (others ≡ [])
       one true i = let h : ◌≡◌ {A = List Word} (name ∷ others) [] = rw i at e in absurd cc
       one false i = (grind (arith, nat_tests, i), let h : others ≡ [] = rw i at e in h)
 
-  small : (t : ℕ) (ds : List Decl) → t ≤ 65536 → too_large_after (flow_size decls) t ds ≡ [] → t + total_size program (flat_map (source_of (names_of decls)) ds) ≤ 65536
+  small : (t : ℕ) (ds : List Decl) → t ≤ SIZE_LIMIT → too_large_after (flow_size decls) t ds ≡ [] → t + total_size no_locks program (filter_map (source_of (names_of decls) decls) ds) ≤ SIZE_LIMIT
   small t [] le e = omega (arith, le)
   small t (Source name target ∷ ds) le e =
       let both = within (t + flow_size decls target) name (too_large_after (flow_size decls) (t + flow_size decls target) ds) e in
@@ -73,19 +82,19 @@ module _ (decls : List Decl) (table : List ℕ) (stands : (number : ℕ) → siz
   small t (Atomic node constraints ∷ ds) le e = small t ds le e
   small t (Session source function ∷ ds) le e = small t ds le e
 
-  lines_are : (lines : List SourceLine) → total_size program lines ≤ 65536 → line_sizes table lines ≡ map (source_size program) lines
+  lines_are : (lines : List SourceLine) → total_size no_locks program lines ≤ SIZE_LIMIT → map (line_size table) lines ≡ map (source_size no_locks program) lines
   lines_are [] le = refl
   lines_are (line ∷ lines) le =
       let own = stands line.target.0 in
-      let one : capped (size_at table line.target.0 + 1) ≡ source_size program line = omega (arith, own, le) in
+      let one : capped (size_at table line.target.0 + 1) ≡ source_size no_locks program line = omega (arith, own, le) in
       λ i. one i ∷ lines_are lines (omega (arith, le)) i
 
-  pub large_fault : soonest None (too_large decls) ≡ large_along table 0 None decls program.sources
+  pub large_fault : soonest None (too_large_after (flow_size decls) 0 decls) ≡ large_along table 0 None decls program.sources
   large_fault = sym (large_is 0 0 None decls refl)
 
-  pub are_sizes : soonest None (too_large decls) ≡ None → AreSizes decls program (line_sizes table program.sources)
+  pub are_sizes : soonest None (too_large_after (flow_size decls) 0 decls) ≡ None → AreSizes decls program (map (line_size table) program.sources)
   are_sizes none =
-      let few = small 0 decls (omega arith) (no_words (too_large decls) none) in
+      let few = small 0 decls (omega arith) (no_words (too_large_after (flow_size decls) 0 decls) none) in
       record {
         sound = ap (λ (place : Option ℕ). fault_or PlanTooLarge place None) none;
         are = lines_are program.sources (omega (arith, few));

@@ -1,247 +1,267 @@
 -- The program of sound declarations is sound for the library.
-use Rattle.std.proofs.Common.{◌≡◌, ℕ, zero, suc, inl, inr, Bool, true, false, ◌&&◌, if◌then◌else◌, List, [], ◌∷◌, ◌++◌, map, Option, Some, None, IfSome, refl, sym, ap, subst, ◌∙◌}
-use Rattle.std.specs.List.{slice_get, flat_map, AllByRecursion}
-use Rattle.std.specs.Option.{is_none}
-use Rattle.std.proofs.lemmas.List.{append-nil}
-use Rattle.flux_values.specs.declared.values.Kind.{Kind}
-use Rattle.flux_values.specs.declared.meanings.Sig.{Sig}
-use Rattle.flux_values.specs.declared.meanings.Role.{Role}
-use Rattle.flux_values.specs.declared.meanings.Role.TheVariants.{Plain, Source as SourceRole, HeadSource, LineSource}
+use Rattle.std.proofs.Common.{◌≡◌, ℕ, inl, inr, ◌⊎◌, Bool, true, false, if◌then◌else◌, List, [], ◌∷◌, ◌++◌, map, Option, Some, None, refl, sym, ap, subst}
+use Rattle.std.specs.List.{slice_get, list_any, filter_map, flat_map, AllByRecursion}
+use Rattle.std.specs.Str.{bytes_eq}
+use Rattle.flux_values.specs.Meanings.{LibraryMeaning}
+use Rattle.flux_model.specs.declared.programs.Class.{Class}
 use Rattle.flux_model.specs.declared.programs.NodeNo.{NodeNo}
 use Rattle.flux_model.specs.declared.programs.Node.{Node}
-use Rattle.flux_model.specs.declared.programs.Body.{Body}
+use Rattle.flux_model.specs.declared.programs.Case.{Case}
+use Rattle.flux_model.specs.declared.programs.HandleArm.{HandleArm}
+use Rattle.flux_model.specs.declared.programs.SourceLine.{SourceLine}
 use Rattle.flux_model.specs.declared.programs.Body.TheVariants.{Concrete, Abstract}
-use Rattle.flux_model.specs.declared.signatures.TypeText.{TypeText}
+use Rattle.flux_model.specs.declared.programs.Body.{Body}
 use Rattle.flux_model.specs.declared.signatures.NodeSig.{NodeSig}
-use Rattle.flux_model.specs.Leading.{leads_to}
+use Rattle.flux_model.specs.Leading.{members_of, handlers_of, leads_to}
 use Rattle.flux_model.specs.Children.{IsIn}
-use Rattle.flux_model.specs.Soundness.{NodeKinds, kinds_of, node_kinds, sig_at, kinds_at, Join, AreCasesJoined, Fits, IsLike, IsBodyLike, IsPlainBody, IsPlain, IsSound}
+use Rattle.flux_model.specs.Numbered.{IsNumbered}
+use Rattle.flux_model.specs.Ordering.{IsOrder}
+use Rattle.flux_model.specs.Kinds.{NodeKinds, node_kinds, kinds_at, AreCasesJoined, AreHandlersJoined}
+use Rattle.flux_model.specs.Soundness.{IsLike, IsBodyLike, IsPlain, IsSourceNode, FitBody, IsProtected, AreCellsProtected, HasSession, IsSound}
+use Rattle.flux_model.proofs.NodeLists.{in_either}
 use Rattle.flux_syntax.specs.declared.declarations.Word.{Word}
-use Rattle.flux_syntax.specs.declared.declarations.Param.{Param}
 use Rattle.flux_syntax.specs.declared.declarations.Decl.{Decl}
 use Rattle.flux_syntax.specs.declared.declarations.Decl.TheVariants.{Signature, Flow, Source, Typedef, Handler, Atomic, Session}
-use Rattle.flux_syntax.specs.Words.{names_of}
-use Rattle.flux_syntax.specs.ProgramOfText.{library_name, number_of, node_of, source_of}
-use Rattle.flux_syntax.specs.Least.{first_fault}
-use Rattle.flux_names.specs.Rows.{Kinds, Nodes, known, among, all_among, is_like, source_names, rows, have_kinds}
-use Rattle.flux_names.proofs.Numbers.{nil_append, known_word}
-use Rattle.flux_graph.specs.Ordering.{IsOrder}
-use Rattle.flux_graph.proofs.Depths.{kept}
-use Rattle.flux_types.specs.Signatures.{nothing, written, all_written, last_of, sig_by, types_of, nodes_of, sig_of, AreSigs}
-use Rattle.flux_types.specs.Rows.{named_sig, same_types, differing, unjoined_after, unjoined_in, empty_flow}
-use Rattle.flux_types.proofs.Looking.{looks_down}
-use Rattle.flux_types.proofs.Written.{sig_is}
-use Rattle.flux_check.specs.Rows.{later_rows}
-use Rattle.flux_check.specs.Judgement.{program_of}
-use Rattle.flux_check.proofs.Rowless.{IsClean, NoNames, NoTypes, no_names, no_types, all_clean}
-use Rattle.flux_check.proofs.Spelled.{kinds_same, kinds_have, sig_spelled}
-use Rattle.flux_check.proofs.Numbered.{word_node, decl_found, IsSourceNamed, sources_named}
+use Rattle.flux_syntax.specs.Words.{defined, known, names_of, texts_of, function_of}
+use Rattle.flux_syntax.specs.ProgramOfText.{place_of, number_of, is_signed, case_of, arm_of, constraints_of, classes_of, classes_among, source_of, library_name, program_of}
+use Rattle.flux_names.specs.Rows.{among, not_among, source_nodes}
+use Rattle.flux_types.specs.Signatures.{written, body_sig, nodes_of, sig_of, AreSigs}
+use Rattle.flux_types.proofs.Written.{sig_rule, sigs_same}
+use Rattle.flux_check.specs.Judgement.{AreSound}
+use Rattle.flux_check.proofs.Rowless.{nil_append, IsClean, all_clean}
+use Rattle.flux_check.proofs.Numbered.{first_known, first_unknown, node_named, map_get, known_node}
+use Rattle.flux_check.proofs.Roles.{signed_plain, source_signed, written_like, signed_free}
+use Rattle.flux_check.proofs.Joins.{K, cases_joined, cases_fit, handlers_joined, sources_fit, sessions_like}
 
-no_words_same : (outs ins : List TypeText) (word : Word) (others : List Word) → differing outs ins word ++ others ≡ [] → (same_types outs ins ≡ true) × (others ≡ [])
-no_words_same outs ins word others e = one (same_types outs ins) refl
-  where
-    one : (t : Bool) → same_types outs ins ≡ t → (same_types outs ins ≡ true) × (others ≡ [])
-    one true i = (i, let h : others ≡ [] = rw i at e in h)
-    one false i = let h : ◌≡◌ {A = List Word} (word ∷ others) [] = rw i at e in absurd cc
+-- no constraint is declared
+unconstrained : (meaning : LibraryMeaning) (all decls : List Decl) → AllByRecursion (IsClean meaning all) decls → flat_map constraints_of decls ≡ []
+unconstrained meaning all [] clean = refl
+unconstrained meaning all (Atomic node constraints ∷ decls) clean = let here = clean.0 in let h : ◌≡◌ {A = Option Word} (Some node) None = here.built in absurd cc
+unconstrained meaning all (Signature own ins outs ∷ decls) clean = unconstrained meaning all decls clean.1
+unconstrained meaning all (Flow own patterns members ∷ decls) clean = unconstrained meaning all decls clean.1
+unconstrained meaning all (Source own target ∷ decls) clean = unconstrained meaning all decls clean.1
+unconstrained meaning all (Typedef own function ∷ decls) clean = unconstrained meaning all decls clean.1
+unconstrained meaning all (Handler node codes handler ∷ decls) clean = unconstrained meaning all decls clean.1
+unconstrained meaning all (Session source function ∷ decls) clean = unconstrained meaning all decls clean.1
 
-not_among : (names : List (List ℕ)) (w : Word) → among true names w ≡ [] → known names w.text ≡ false
-not_among names w e = one (known names w.text) refl
-  where
-    one : (t : Bool) → known names w.text ≡ t → known names w.text ≡ false
-    one true i = let h : ◌≡◌ {A = List Word} (w ∷ []) [] = rw i at e in absurd cc
-    one false i = i
+-- so there are no classes
+pub no_classes : (meaning : LibraryMeaning) (decls : List Decl) → AreSound meaning decls → classes_of decls ≡ []
+no_classes meaning decls sound = ap classes_among (unconstrained meaning decls decls (all_clean meaning decls sound))
 
-pub at_of : {A : Type 0} (P : A → Type 0) (xs : List A) (n : ℕ) (x : A) → slice_get xs n ≡ Some x → AllByRecursion P xs → P x
-at_of P [] n x at all = absurd cc
-at_of P (y ∷ xs) zero x at all = let same : y ≡ x = cc in subst P same all.0
-at_of P (y ∷ xs) (suc n) x at all = at_of P xs n x at all.1
+-- and no number has one
+pub no_class : (classes : List Class) (number : ℕ) (class : Class) → classes ≡ [] → slice_get classes number ≡ Some class → ⊥
+no_class [] number class none at = absurd cc
+no_class (c ∷ classes) number class none at = absurd cc
 
-module _ (kind : Kinds) (library : Nodes) (decls : List Decl) (order : List NodeNo) (is_order : IsOrder (nodes_of decls) order)
-    (names_sound : NoNames kind library decls) (types_sound : NoTypes kind decls) where
+module _ (meaning : LibraryMeaning) (all : List Decl) (order : List NodeNo) (is_order : IsOrder (nodes_of all) order) (sound_all : AreSound meaning all) where
   abbrev names : List (List ℕ)
-  names = names_of decls
+  names = names_of all
+
+  abbrev types : List (List ℕ)
+  types = texts_of defined all
 
   abbrev nodes : List Node
-  nodes = nodes_of decls
+  nodes = nodes_of all
 
-  abbrev S : ℕ → NodeSig
-  S = sig_of kind decls
+  abbrev kinds : ℕ → NodeKinds
+  kinds = K meaning all
 
-  abbrev K : ℕ → NodeKinds
-  K number = node_kinds (S number)
+  clean : AllByRecursion (IsClean meaning all) all
+  clean = all_clean meaning all sound_all
 
-  abbrev sources : List (List ℕ)
-  sources = source_names library decls
+  -- ---- what words lead to
 
-  abbrev Clean : Decl → Type 0
-  Clean = IsClean kind library names sources (named_sig kind decls)
-
-  clean : AllByRecursion Clean decls
-  clean = all_clean kind library decls names_sound types_sound
-
-  keeps : (number : ℕ) (node : Node) → slice_get nodes number ≡ Some node → S number ≡ sig_by (all_written kind decls) S number node
-  keeps = kept nothing (sig_by (all_written kind decls)) (looks_down (all_written kind decls)) nodes order is_order
-
-  -- ---- joins
-
-  types_fit : (a b : ℕ) → (let from = S a in let to = S b in same_types from.outs to.ins ≡ true) → NodeKinds.outs (K a) ≡ NodeKinds.ins (K b)
-  types_fit a b e = let from = sig_spelled kind decls a in let to = sig_spelled kind decls b in kinds_same kind (NodeSig.outs (S a)) (NodeSig.ins (S b)) from.outs to.ins e
-
-  joined_after : (a : Word) (words : List Word) → (let own = named_sig kind decls a in unjoined_after (named_sig kind decls) own.outs words ≡ [])
-      → let from = number_of names a in let last = last_of from (map (number_of names) words) in Join K (NodeKinds.outs (K from.0)) (map (number_of names) words) (NodeKinds.outs (K last.0))
-  joined_after a [] e = refl
-  joined_after a (b ∷ words) e =
-      let from = named_sig kind decls a in let to = named_sig kind decls b in
-      let both = no_words_same from.outs to.ins b (unjoined_after (named_sig kind decls) to.outs words) e in
-      let x = number_of names a in let y = number_of names b in
-      (types_fit x.0 y.0 both.0, joined_after b words both.1)
-
-  flow_joined : (number : ℕ) (node : Node) (name : Word) (members : List Word) → slice_get nodes number ≡ Some node → node.body ≡ Abstract (record { patterns = []; members = map (number_of names) members } ∷ [])
-      → unjoined_in (named_sig kind decls) (Flow name None members) ≡ [] → empty_flow (Flow name None members) ≡ [] → Join K (NodeKinds.ins (K number)) (map (number_of names) members) (NodeKinds.outs (K number))
-  flow_joined number node name [] at body e some = absurd cc
-  flow_joined number node name (first ∷ members) at body e some =
-      let from = number_of names first in
-      let last = last_of from (map (number_of names) members) in
-      let own : S number ≡ record { ins = NodeSig.ins (S from.0); outs = NodeSig.outs (S last.0) } = keeps number node at ∙ (rw body refl) in
-      (ap (λ (s : NodeSig). kinds_of s.ins) own, subst (λ (ks : List Kind). Join K (NodeKinds.outs (K from.0)) (map (number_of names) members) ks) (sym (ap (λ (s : NodeSig). kinds_of s.outs) own)) (joined_after first members e))
-
-  -- ---- concrete nodes
-
-  some_sig : (name : Word) (ins outs : List Param) → (if is_none (library (library_name name.text)) then name ∷ [] else []) ≡ [] → (if is_like kind (library (library_name name.text)) ins outs then [] else name ∷ []) ≡ []
-      → (own : NodeKinds) → own ≡ record { ins = kinds_of (types_of kind ins); outs = kinds_of (types_of kind outs) } → IsLike (library (library_name name.text)) own
-  some_sig name ins outs present like own same = one (library (library_name name.text)) refl
+  plain_body : (text : List ℕ) → known (source_nodes meaning all) text ≡ false → IsPlain meaning (Some (node_named all text))
+  plain_body text apart = one (list_any (is_signed text) all) refl
     where
-      parts : (p q : Bool) → (p && q) ≡ true → (p ≡ true) × (q ≡ true)
-      parts true q e = (refl, e)
-      parts false q e = absurd cc
+      one : (t : Bool) → list_any (is_signed text) all ≡ t → IsPlain meaning (Some (node_named all text))
+      one true i = rw i (signed_plain meaning all text apart i)
+      one false i = rw i tt
 
-      fits : (sig : Sig) (t : Bool) → is_like kind (Some sig) ins outs ≡ t → (if t then [] else name ∷ []) ≡ [] → IsLike (Some sig) own
-      fits sig true i e = let both = parts (have_kinds kind ins sig.ins) (have_kinds kind outs sig.outs) i in
-          (ap NodeKinds.ins same ∙ kinds_have kind ins sig.ins both.0, ap NodeKinds.outs same ∙ kinds_have kind outs sig.outs both.1)
-      fits sig false i e = absurd cc
+  plain_word : (word : Word) → known names word.text ≡ true → known (source_nodes meaning all) word.text ≡ false → IsPlain meaning (slice_get nodes (place_of names word))
+  plain_word word named apart = subst (IsPlain meaning) (sym (known_node all word named)) (plain_body word.text apart)
 
-      one : (found : Option Sig) → library (library_name name.text) ≡ found → IsLike found own
-      one None i = let h : ◌≡◌ {A = List Word} (name ∷ []) [] = rw i at present in absurd cc
-      one (Some sig) i = let h : (if is_like kind (Some sig) ins outs then [] else name ∷ []) ≡ [] = rw i at like in fits sig (is_like kind (Some sig) ins outs) refl h
+  abbrev ArePlain : List NodeNo → Type 0
+  ArePlain numbers = (led : ℕ) → IsIn led numbers → IsPlain meaning (slice_get nodes led)
 
-  -- ---- plain nodes
-
-  plain_body : (node : Node) (text : List ℕ) (body : Body) → node.name ≡ text → IsSourceNamed library sources node body → known sources text ≡ false → IsPlainBody library body
-  plain_body node text (Abstract cases) same named none = tt
-  plain_body node text (Concrete name) same named none = subst (λ (n : List ℕ). IfSome (library n) (λ sig. sig.role ≡ Plain)) (sym named.0) (one (library (library_name node.name)) refl)
+  plain_words : (words : List Word) → not_among names words ≡ [] → among (source_nodes meaning all) words ≡ [] → ArePlain (map (number_of names) words)
+  plain_words [] named apart led is = absurd is
+  plain_words (w ∷ words) named apart led is =
+      let a = first_known names w words named in
+      let b = first_unknown (source_nodes meaning all) w words apart in
+      one a b is (plain_words words a.1 b.1 led)
     where
-      roles : (sig : Sig) → library (library_name node.name) ≡ Some sig → (role : Role) → sig.role ≡ role → sig.role ≡ Plain
-      roles sig i Plain r = r
-      roles sig i SourceRole r = let h = named.1 (rw (i, r) refl) in let k : known sources text ≡ true = subst (λ (t : List ℕ). known sources t ≡ true) same h in let f : ◌≡◌ {A = Bool} true false = sym k ∙ none in absurd cc
-      roles sig i HeadSource r = let h = named.1 (rw (i, r) refl) in let k : known sources text ≡ true = subst (λ (t : List ℕ). known sources t ≡ true) same h in let f : ◌≡◌ {A = Bool} true false = sym k ∙ none in absurd cc
-      roles sig i LineSource r = let h = named.1 (rw (i, r) refl) in let k : known sources text ≡ true = subst (λ (t : List ℕ). known sources t ≡ true) same h in let f : ◌≡◌ {A = Bool} true false = sym k ∙ none in absurd cc
+      one : (known names w.text ≡ true) × (not_among names words ≡ []) → (known (source_nodes meaning all) w.text ≡ false) × (among (source_nodes meaning all) words ≡ [])
+          → IsIn led (map (number_of names) (w ∷ words)) → (IsIn led (map (number_of names) words) → IsPlain meaning (slice_get nodes led)) → IsPlain meaning (slice_get nodes led)
+      one a b (inl e) more = subst (λ (n : ℕ). IsPlain meaning (slice_get nodes n)) (sym e) (plain_word w a.0 b.0)
+      one a b (inr is) more = more is
 
-      one : (found : Option Sig) → library (library_name node.name) ≡ found → IfSome found (λ sig. sig.role ≡ Plain)
-      one None i = tt
-      one (Some sig) i = roles sig i sig.role refl
-
-  -- a known word that is no source's name is a plain node's
-  plain_word : (w : Word) → known names w.text ≡ true → known sources w.text ≡ false → let number = number_of names w in IsPlain library (slice_get nodes number.0)
-  plain_word w k none =
-      let has = word_node decls w names_sound.twice k in
-      let named = at_of (λ node. IsSourceNamed library sources node node.body) nodes _ has.node has.at (sources_named library names [] decls) in
-      rw has.at (plain_body has.node w.text has.node.body has.named named none)
-
-  plain_words : (words : List Word) → all_among false names words ≡ [] → all_among true sources words ≡ [] → (led : ℕ) → IsIn led (map (number_of names) words) → IsPlain library (slice_get nodes led)
-  plain_words [] k p led is = absurd is
-  plain_words (w ∷ words) k p led (inl e) =
-      let a = nil_append (among false names w) (all_among false names words) k in
-      let b = nil_append (among true sources w) (all_among true sources words) p in
-      subst (λ (n : ℕ). IsPlain library (slice_get nodes n)) (sym e) (plain_word w (known_word names w a.0) (not_among sources w b.0))
-  plain_words (w ∷ words) k p led (inr is) =
-      let a = nil_append (among false names w) (all_among false names words) k in
-      let b = nil_append (among true sources w) (all_among true sources words) p in
-      plain_words words a.1 b.1 led is
-
-  -- ---- each node
-
-  record NodeSound (number : ℕ) (node : Node) : Type 0 where
-    joined : AreCasesJoined K (K number) node.body
-    like : IsBodyLike library (K number) node.body
-    plain : (led : ℕ) → IsIn led (leads_to node) → IsPlain library (slice_get nodes led)
-
-  node_is : (a b : Node) → ◌≡◌ {A = List Node} (a ∷ []) (b ∷ []) → a ≡ b
-  node_is a b e = cc
-
-  sig_is_one : (a b : NodeSig) → ◌≡◌ {A = List NodeSig} (a ∷ []) (b ∷ []) → a ≡ b
-  sig_is_one a b e = cc
-
-  of_decl : (number : ℕ) (node : Node) → slice_get nodes number ≡ Some node → (d : Decl) → Clean d → node_of names d ≡ node ∷ [] → written kind d ≡ sig_at (all_written kind decls) number ∷ [] → NodeSound number node
-  of_decl number node at (Signature name ins outs) c named line =
-      let own = node_is _ node named in
-      let sig = sig_is_one _ (sig_at (all_written kind decls) number) line in
-      let body : node.body ≡ Concrete (library_name name.text) = ap (λ (n : Node). n.body) (sym own) in
-      let mine : S number ≡ record { ins = types_of kind ins; outs = types_of kind outs } = keeps number node at ∙ (rw body refl) ∙ sym sig in
-      record {
-        joined = rw body tt;
-        like = rw body (some_sig name ins outs c.present c.like (K number) (ap node_kinds mine));
-        plain = λ led is. let h : IsIn led [] = subst (λ (n : Node). IsIn led (leads_to n)) (sym own) is in absurd h;
-      }
-  of_decl number node at (Flow name patterns members) c named line =
-      let own = node_is _ node named in
-      let body : node.body ≡ Abstract (record { patterns = []; members = map (number_of names) members } ∷ []) = ap (λ (n : Node). n.body) (sym own) in
-      record {
-        joined = rw body (flow_joined number node name members at body c.joined (empties members c.some), tt);
-        like = rw body tt;
-        plain = λ led is. plain_words members c.known c.plain led (subst (IsIn led) (append-nil (map (number_of names) members ++ []) ∙ append-nil (map (number_of names) members)) (subst (λ (n : Node). IsIn led (leads_to n)) (sym own) is));
-      }
+  both_plain : (a b : List NodeNo) → ArePlain a → ArePlain b → ArePlain (a ++ b)
+  both_plain a b x y led is = one (in_either led a b is)
     where
-      empties : (ms : List Word) → empty_flow (Flow name patterns ms) ≡ [] → empty_flow (Flow name None ms) ≡ []
-      empties [] e = e
-      empties (m ∷ ms) e = refl
-  of_decl number node at (Source name target) c named line = absurd cc
-  of_decl number node at (Typedef name function) c named line = absurd cc
-  of_decl number node at (Handler n codes handler) c named line = absurd cc
-  of_decl number node at (Atomic n constraints) c named line = absurd cc
-  of_decl number node at (Session source function) c named line = absurd cc
+      one : IsIn led a ⊎ IsIn led b → IsPlain meaning (slice_get nodes led)
+      one (inl i) = x led i
+      one (inr i) = y led i
 
-  node_sound : (number : ℕ) (node : Node) → slice_get nodes number ≡ Some node → NodeSound number node
-  node_sound number node at = let f = decl_found Clean kind names decls clean number node at in of_decl number node at f.decl f.holds f.named f.line
+  cases_plain : (name : List ℕ) (decls : List Decl) → AllByRecursion (IsClean meaning all) decls → ArePlain (flat_map (λ case. case.members) (filter_map (case_of names types name) decls))
+  cases_plain name [] c = λ led is. absurd is
+  cases_plain name (Flow own patterns members ∷ decls) c = one (bytes_eq own.text name) refl (cases_plain name decls c.1)
+    where
+      P : List Case → Type 0
+      P cases = ArePlain (flat_map (λ case. case.members) cases)
 
-  -- ---- each source
+      one : (t : Bool) → bytes_eq own.text name ≡ t → P (filter_map (case_of names types name) decls) → P (filter_map (case_of names types name) (Flow own patterns members ∷ decls))
+      one true i more =
+          let here = c.0 in
+          rw i (both_plain (map (number_of names) members) (flat_map (λ case. case.members) (filter_map (case_of names types name) decls)) (plain_words members here.named here.plain) more)
+      one false i more = rw i more
+  cases_plain name (Signature own ins outs ∷ decls) c = cases_plain name decls c.1
+  cases_plain name (Source own target ∷ decls) c = cases_plain name decls c.1
+  cases_plain name (Typedef own function ∷ decls) c = cases_plain name decls c.1
+  cases_plain name (Handler node codes handler ∷ decls) c = cases_plain name decls c.1
+  cases_plain name (Atomic node constraints ∷ decls) c = cases_plain name decls c.1
+  cases_plain name (Session source function ∷ decls) c = cases_plain name decls c.1
 
-  lines_fit : (ds : List Decl) → AllByRecursion Clean ds → AllByRecursion (Fits K) (flat_map (source_of names) ds)
-  lines_fit [] all = tt
-  lines_fit (Source name target ∷ ds) all =
-      let one = all.0 in
-      let from = named_sig kind decls name in let to = named_sig kind decls target in
-      let a = number_of names name in let b = number_of names target in
-      (types_fit a.0 b.0 (no_words_same from.outs to.ins target [] (append-nil (differing from.outs to.ins target) ∙ one.fits)).0, lines_fit ds all.1)
-  lines_fit (Signature name ins outs ∷ ds) all = lines_fit ds all.1
-  lines_fit (Flow name patterns members ∷ ds) all = lines_fit ds all.1
-  lines_fit (Typedef name function ∷ ds) all = lines_fit ds all.1
-  lines_fit (Handler n codes handler ∷ ds) all = lines_fit ds all.1
-  lines_fit (Atomic n constraints ∷ ds) all = lines_fit ds all.1
-  lines_fit (Session source function ∷ ds) all = lines_fit ds all.1
+  handlers_plain : (name : List ℕ) (decls : List Decl) → AllByRecursion (IsClean meaning all) decls → ArePlain (handlers_of (filter_map (arm_of names name) decls))
+  handlers_plain name [] c = λ led is. absurd is
+  handlers_plain name (Handler node codes handler ∷ decls) c = one (bytes_eq node.text name) refl (handlers_plain name decls c.1)
+    where
+      P : List HandleArm → Type 0
+      P arms = ArePlain (handlers_of arms)
 
-  targets_plain : (ds : List Decl) → AllByRecursion Clean ds → AllByRecursion (λ line. IsPlain library (slice_get nodes line.target.0)) (flat_map (source_of names) ds)
-  targets_plain [] all = tt
-  targets_plain (Source name target ∷ ds) all =
-      let one = all.0 in
-      let k = nil_append (among false names name) (all_among false names (target ∷ [])) one.known in
-      let number = number_of names target in
-      (plain_words (target ∷ []) k.1 one.plain number.0 (inl refl), targets_plain ds all.1)
-  targets_plain (Signature name ins outs ∷ ds) all = targets_plain ds all.1
-  targets_plain (Flow name patterns members ∷ ds) all = targets_plain ds all.1
-  targets_plain (Typedef name function ∷ ds) all = targets_plain ds all.1
-  targets_plain (Handler n codes handler ∷ ds) all = targets_plain ds all.1
-  targets_plain (Atomic n constraints ∷ ds) all = targets_plain ds all.1
-  targets_plain (Session source function ∷ ds) all = targets_plain ds all.1
+      one : (t : Bool) → bytes_eq node.text name ≡ t → P (filter_map (arm_of names name) decls) → P (filter_map (arm_of names name) (Handler node codes handler ∷ decls))
+      one true i more =
+          let here = c.0 in
+          let a = first_known names node (handler ∷ []) here.named in
+          let b = first_unknown (source_nodes meaning all) node (handler ∷ []) here.plain in
+          rw i (both_plain (map (number_of names) (handler ∷ [])) (handlers_of (filter_map (arm_of names name) decls)) (plain_words (handler ∷ []) a.1 b.1) more)
+      one false i more = rw i more
+  handlers_plain name (Signature own ins outs ∷ decls) c = handlers_plain name decls c.1
+  handlers_plain name (Flow own patterns members ∷ decls) c = handlers_plain name decls c.1
+  handlers_plain name (Source own target ∷ decls) c = handlers_plain name decls c.1
+  handlers_plain name (Typedef own function ∷ decls) c = handlers_plain name decls c.1
+  handlers_plain name (Atomic node constraints ∷ decls) c = handlers_plain name decls c.1
+  handlers_plain name (Session source function ∷ decls) c = handlers_plain name decls c.1
 
-  pub program_sound : IsSound library (program_of decls) K
-  program_sound = record {
-    agree = record { cases_ = λ number node at. let s = node_sound number node at in s.joined; sources = lines_fit decls clean };
-    like = λ number node at. let s = node_sound number node at in s.like;
-    members = λ number node at led is. let s = node_sound number node at in s.plain led is;
-    targets = targets_plain decls clean;
+  -- ---- sources
+
+  origin_word : (word : Word) → known names word.text ≡ true → known (source_nodes meaning all) word.text ≡ true → IsSourceNode meaning (slice_get nodes (place_of names word))
+  origin_word word named is =
+      let found = source_signed meaning all word.text is in
+      subst (IsSourceNode meaning) (sym (known_node all word named)) (rw (found.0) (found.1))
+
+  origins_are : (decls : List Decl) → AllByRecursion (IsClean meaning all) decls → AllByRecursion (λ line. IsSourceNode meaning (slice_get nodes line.node.0)) (filter_map (source_of names all) decls)
+  origins_are [] c = tt
+  origins_are (Source name target ∷ decls) c =
+      let here = c.0 in
+      let a = first_known names name (target ∷ []) here.named in
+      let b = first_known (source_nodes meaning all) name [] (nil_append (not_among (source_nodes meaning all) (name ∷ [])) [] here.origins).0 in
+      (origin_word name a.0 b.0, origins_are decls c.1)
+  origins_are (Signature own ins outs ∷ decls) c = origins_are decls c.1
+  origins_are (Flow own patterns members ∷ decls) c = origins_are decls c.1
+  origins_are (Typedef own function ∷ decls) c = origins_are decls c.1
+  origins_are (Handler node codes handler ∷ decls) c = origins_are decls c.1
+  origins_are (Atomic node constraints ∷ decls) c = origins_are decls c.1
+  origins_are (Session source function ∷ decls) c = origins_are decls c.1
+
+  targets_are : (decls : List Decl) → AllByRecursion (IsClean meaning all) decls → AllByRecursion (λ line. IsPlain meaning (slice_get nodes line.target.0)) (filter_map (source_of names all) decls)
+  targets_are [] c = tt
+  targets_are (Source name target ∷ decls) c =
+      let here = c.0 in
+      let a = first_known names name (target ∷ []) here.named in
+      let b = first_known names target [] a.1 in
+      (plain_word target b.0 (first_unknown (source_nodes meaning all) target [] here.plain).0, targets_are decls c.1)
+  targets_are (Signature own ins outs ∷ decls) c = targets_are decls c.1
+  targets_are (Flow own patterns members ∷ decls) c = targets_are decls c.1
+  targets_are (Typedef own function ∷ decls) c = targets_are decls c.1
+  targets_are (Handler node codes handler ∷ decls) c = targets_are decls c.1
+  targets_are (Atomic node constraints ∷ decls) c = targets_are decls c.1
+  targets_are (Session source function ∷ decls) c = targets_are decls c.1
+
+  -- ---- nodes
+
+  abbrev body : List ℕ → Bool → Body
+  body name signed = if signed then Concrete (library_name name) else Abstract (filter_map (case_of names types name) all)
+
+  members_plain : (name : List ℕ) (signed : Bool) → ArePlain (members_of (body name signed))
+  members_plain name true = λ led is. absurd is
+  members_plain name false = cases_plain name all clean
+
+  module _ (number : ℕ) (name : List ℕ) (at : slice_get names number ≡ Some name) where
+    body_joined : (signed : Bool) → AreCasesJoined kinds (kinds number) (body name signed)
+    body_joined true = tt
+    body_joined false = cases_joined meaning all all clean number name at
+
+    body_fits : (signed : Bool) → FitBody meaning (texts_of function_of all) (kinds number) (body name signed)
+    body_fits true = tt
+    body_fits false = cases_fit meaning all all clean number name at
+
+    body_like : (signed : Bool) → list_any (is_signed name) all ≡ signed
+        → sig_of meaning.kind all number ≡ body_sig (sig_of meaning.kind all) (written meaning.kind names all number) (body name signed) → IsBodyLike meaning (kinds number) (body name signed)
+    body_like true is rule = subst (λ (sig : NodeSig). IsLike (meaning.node (library_name name)) (node_kinds sig)) (sym rule) (written_like meaning all all clean number name at is)
+    body_like false is rule = tt
+
+    body_safe : (signed : Bool) → list_any (is_signed name) all ≡ signed → AreCellsProtected meaning (program_of all) number (body name signed)
+    body_safe true is = signed_free meaning all (IsProtected (program_of all) number) all clean name is
+    body_safe false is = tt
+
+  -- what each node of a number has
+  record IsGood (number : ℕ) (node : Node) : Type 0 where
+    plain : (led : ℕ) → IsIn led (leads_to node) → IsPlain meaning (slice_get nodes led)
+    joined : AreCasesJoined kinds (kinds number) node.body
+    handlers : AreHandlersJoined kinds (kinds number) (handlers_of node.on_fail)
+    like : IsBodyLike meaning (kinds number) node.body
+    fits : FitBody meaning (texts_of function_of all) (kinds number) node.body
+    safe : AreCellsProtected meaning (program_of all) number node.body
+
+  named_good : (number : ℕ) (name : List ℕ) → slice_get names number ≡ Some name → slice_get nodes number ≡ Some (node_named all name) → IsGood number (node_named all name)
+  named_good number name at here = record {
+    plain = both_plain (members_of (body name (list_any (is_signed name) all))) (handlers_of (filter_map (arm_of names name) all))
+        (members_plain name (list_any (is_signed name) all)) (handlers_plain name all clean);
+    joined = body_joined number name at (list_any (is_signed name) all);
+    handlers = handlers_joined meaning all all clean number name at;
+    like = body_like number name at (list_any (is_signed name) all) refl (sig_rule meaning.kind all order is_order number (node_named all name) here);
+    fits = body_fits number name at (list_any (is_signed name) all);
+    safe = body_safe number name at (list_any (is_signed name) all) refl;
   }
 
-pub sound : (kind : Kinds) (library : Nodes) (decls : List Decl) (order : List NodeNo) (sigs : List NodeSig) → IsOrder (nodes_of decls) order → AreSigs kind decls sigs → first_fault (rows kind library decls) ≡ None → first_fault (later_rows kind decls) ≡ None
-    → IsSound library (program_of decls) (kinds_at sigs)
-sound kind library decls order sigs is_order are names later =
-    subst (IsSound library (program_of decls)) (λ i number. node_kinds (sym (sig_is kind decls sigs are number) i)) (program_sound kind library decls order is_order (no_names kind library decls names) (no_types kind decls later))
+  good : (number : ℕ) (node : Node) → slice_get nodes number ≡ Some node → IsGood number node
+  good number node at =
+      let image = map_get (node_named all) names number node at in
+      subst (IsGood number) image.is (named_good number image.from image.at (subst (λ (n : Node). slice_get nodes number ≡ Some n) (sym image.is) at))
+
+  -- ---- sessions
+
+  none_needed : (lines : List SourceLine) → AllByRecursion (HasSession (program_of all)) lines
+  none_needed [] = tt
+  none_needed (line ∷ lines) =
+      ((λ node reached declares. absurd (let hold = declares.hold in let class = hold.class in no_class (classes_of all) class.0 declares.class (no_classes meaning all sound_all) declares.is_class)), none_needed lines)
+
+  program_sound : IsNumbered (program_of all) → IsSound meaning (program_of all) kinds
+  program_sound numbered = record {
+    numbered = numbered;
+    acyclic = sound_all.ordered.acyclic;
+    origins = origins_are all clean;
+    targets = targets_are all clean;
+    members = λ number node at led is. let g = good number node at in g.plain led is;
+    kinds_are = record {
+      agree = record {
+        cases_ = λ number node at. let g = good number node at in g.joined;
+        handlers = λ number node at. let g = good number node at in g.handlers;
+        sources = sources_fit meaning all all clean;
+      };
+      like = λ number node at. let g = good number node at in g.like;
+      patterns = λ number node at. let g = good number node at in g.fits;
+      sessions = sessions_like meaning all clean all;
+    };
+    protected = λ number node at. let g = good number node at in g.safe;
+    scopes = λ number one other first second declares also is_first is_second named.
+        absurd (let class = one.class in no_class (classes_of all) class.0 first (no_classes meaning all sound_all) is_first);
+    session = none_needed (filter_map (source_of names all) all);
+  }
+
+-- the program of sound declarations is sound for the library, with its nodes' kinds
+pub sound : (meaning : LibraryMeaning) (decls : List Decl) (order : List NodeNo) (sigs : List NodeSig) → IsNumbered (program_of decls) → IsOrder (nodes_of decls) order → AreSigs meaning.kind decls sigs → AreSound meaning decls
+    → IsSound meaning (program_of decls) (kinds_at sigs)
+sound meaning decls order sigs numbered is_order are all_sound =
+    subst (λ (of : ℕ → NodeSig). IsSound meaning (program_of decls) (λ number. node_kinds (of number))) (sym (sigs_same meaning.kind decls sigs are)) (program_sound meaning decls order is_order all_sound numbered)

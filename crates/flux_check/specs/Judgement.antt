@@ -1,7 +1,6 @@
 -- Which texts are sound, and which fault a text has.
 use Rattle.std.specs.Prelude.{◌≡◌, ◌≤◌, ◌<◌, ◌⊎◌, ℕ, List, [], length, map, Option, Some, None, ⊤}
 use Rattle.std.specs.List.{slice_get}
-use Rattle.std.specs.Option.{option_or}
 use Rattle.flux_values.specs.Meanings.{LibraryMeaning}
 use Rattle.flux_faults.specs.declared.faults.FaultKind.TheVariants.{NotBuilt, Cycle}
 use Rattle.flux_faults.specs.declared.faults.StaticFault.{StaticFault}
@@ -19,39 +18,35 @@ use Rattle.flux_syntax.specs.declared.declarations.Decl.{Decl}
 use Rattle.flux_syntax.specs.Declares.{Declares}
 use Rattle.flux_syntax.specs.Unexpected.{IsFaulty}
 use Rattle.flux_syntax.specs.ProgramOfText.{program_of, named_of}
-use Rattle.flux_syntax.specs.Least.{first_fault}
-use Rattle.flux_names.specs.Rows.{rows, code_rows}
+use Rattle.flux_syntax.specs.Least.{Row, first_fault}
+use Rattle.flux_names.specs.Rows.{rows}
 use Rattle.flux_names.specs.Building.{first_constrained}
 use Rattle.flux_types.specs.Signatures.{nodes_of, AreSigs}
 use Rattle.flux_hoist.specs.Keeping.{Keeps}
-use Rattle.flux_check.specs.Rows.{Found, later_fault}
+use Rattle.flux_check.specs.Rows.{later_rows}
 
 -- ---- sound declarations
 
--- 5 to 14, and 28 where none of these stands
-abbrev pub name_fault : LibraryMeaning → List Decl → Found
-name_fault meaning decls = option_or (first_fault (rows meaning decls)) (first_fault (code_rows decls))
-
--- all forms are built, and no fault on names stands
+-- all forms are built, and no row on names stands
 pub record AreNamed (meaning : LibraryMeaning) (decls : List Decl) : Type 0 where
   pub built : first_constrained meaning decls ≡ None
-  pub named : name_fault meaning decls ≡ None
+  pub named : first_fault (rows meaning decls) ≡ None
 
 -- and there is no cycle
 pub record AreOrdered (meaning : LibraryMeaning) (decls : List Decl) : Type 0 where
   pub names : AreNamed meaning decls
   pub acyclic : HasCycle (nodes_of decls) → ⊥
 
--- and no later fault stands: the declarations are sound
+-- and no later row stands: the declarations are sound
 pub record AreSound (meaning : LibraryMeaning) (decls : List Decl) : Type 0 where
   pub ordered : AreOrdered meaning decls
-  pub later : later_fault meaning decls ≡ None
+  pub later : first_fault (later_rows meaning decls) ≡ None
 
 -- ---- the fault of declarations: of the first group that has one
 
--- a fault that was found, without a path
-pub record IsFound (found : Found) (fault : StaticFault) : Type 0 where
-  pub is : found ≡ Some (fault.kind, fault.at)
+-- the row that stands with the least number, at its least place
+pub record IsFirst (rows : List Row) (fault : StaticFault) : Type 0 where
+  pub is : first_fault rows ≡ Some (fault.kind, fault.at)
   pub path : fault.path ≡ []
 
 -- a form that isn't built
@@ -60,10 +55,10 @@ pub record IsUnbuilt (meaning : LibraryMeaning) (decls : List Decl) (fault : Sta
   pub is : fault.kind ≡ NotBuilt
   pub path : fault.path ≡ []
 
--- 5 to 14 and 28
+-- 5 to 14, and 28 where none of these stands
 pub record IsNameFault (meaning : LibraryMeaning) (decls : List Decl) (fault : StaticFault) : Type 0 where
   pub built : first_constrained meaning decls ≡ None
-  pub found : IsFound (name_fault meaning decls) fault
+  pub first : IsFirst (rows meaning decls) fault
 
 -- 15: a cycle through the lowest-numbered node on any, at that node's first naming line; the path has the nodes' names
 pub record IsCycleOf (named : Named) (fault : StaticFault) : Type 0 where
@@ -80,7 +75,7 @@ pub record IsCycleFault (meaning : LibraryMeaning) (decls : List Decl) (fault : 
 -- 16 to 27
 pub record IsLaterFault (meaning : LibraryMeaning) (decls : List Decl) (fault : StaticFault) : Type 0 where
   pub ordered : AreOrdered meaning decls
-  pub found : IsFound (later_fault meaning decls) fault
+  pub first : IsFirst (later_rows meaning decls) fault
 
 abbrev pub IsDeclsFault : LibraryMeaning → List Decl → StaticFault → Type 0
 IsDeclsFault meaning decls fault =

@@ -1,8 +1,6 @@
--- Fault 27, and the faults that are looked for in programs without a cycle.
-use Rattle.std.specs.Prelude.{ℕ, ◌+◌, nat_lt, if◌then◌else◌, List, [], ◌∷◌, ◌++◌, Option}
-use Rattle.std.specs.Option.{option_or}
+-- Fault 27, and the rows that are looked for in programs without a cycle.
+use Rattle.std.specs.Prelude.{ℕ, ◌+◌, nat_lt, if◌then◌else◌, List, [], ◌∷◌, ◌++◌}
 use Rattle.flux_values.specs.Meanings.{LibraryMeaning}
-use Rattle.flux_faults.specs.declared.faults.FaultKind.{FaultKind}
 use Rattle.flux_faults.specs.declared.faults.FaultKind.TheVariants.{PlanTooLarge}
 use Rattle.flux_model.specs.Sizes.{size_of}
 use Rattle.flux_model.specs.Locks.{no_locks}
@@ -10,16 +8,12 @@ use Rattle.flux_syntax.specs.declared.declarations.Word.{Word}
 use Rattle.flux_syntax.specs.declared.declarations.Decl.{Decl}
 use Rattle.flux_syntax.specs.declared.declarations.Decl.TheVariants.{Source}
 use Rattle.flux_syntax.specs.Words.{names_of}
-use Rattle.flux_syntax.specs.ProgramOfText.{place_of, named_of}
-use Rattle.flux_syntax.specs.Least.{Row, first_fault}
+use Rattle.flux_syntax.specs.ProgramOfText.{place_of}
+use Rattle.flux_syntax.specs.Least.{Row}
 use Rattle.flux_hoist.specs.declared.checked.TheConstants.{SIZE_LIMIT}
-use Rattle.flux_types.specs.Signatures.{nodes_of, sigs_list}
+use Rattle.flux_types.specs.Signatures.{nodes_of, sig_of}
 use Rattle.flux_types.specs.Rows.{sig_rows, source_rows}
-use Rattle.flux_edges.specs.Rows.{handler_fault}
-
--- a kind of fault, and its place
-abbrev pub Found : Type 0
-Found = Option (FaultKind × ℕ)
+use Rattle.flux_edges.specs.Rows.{handler_rows, session_rows}
 
 -- the size of a flow that starts at a named node: its events and its end
 abbrev pub flow_size : List Decl → Word → ℕ
@@ -38,9 +32,15 @@ too_large_after size total (other ∷ decls) = too_large_after size total decls
 abbrev pub size_rows : List Decl → List Row
 size_rows decls = (PlanTooLarge, too_large_after (flow_size decls) 0 decls) ∷ []
 
--- 16 to 20, 21, 22 and 23, and 27: the first that stands
-abbrev pub later_fault : LibraryMeaning → List Decl → Found
-later_fault meaning decls =
-    option_or (first_fault (sig_rows meaning decls))
-      (option_or (handler_fault (named_of decls) (sigs_list meaning.kind decls))
-        (option_or (first_fault (source_rows meaning decls)) (first_fault (size_rows decls))))
+-- 26 and 27
+abbrev pub last_rows : List Decl → List Row
+last_rows decls = session_rows decls ++ size_rows decls
+
+-- 21 to 23, and these
+abbrev pub edge_rows : LibraryMeaning → List Decl → List Row
+edge_rows meaning decls =
+    handler_rows (sig_of meaning.kind decls) decls ++ (source_rows meaning decls ++ last_rows decls)
+
+-- 16 to 20, and these
+abbrev pub later_rows : LibraryMeaning → List Decl → List Row
+later_rows meaning decls = sig_rows meaning decls ++ edge_rows meaning decls

@@ -1,25 +1,24 @@
 //! A text, from its bytes to a checked program.
 
-ghost use Rattle.std.specs.Prelude.{◌≡◌, ◌≤◌, IfOk, IfErr, map, length};
-ghost use Rattle.flux_model.specs.Leading.{IsNumbered};
+ghost use Rattle.std.specs.Prelude.{◌≡◌, ◌≤◌, IfOk, IfErr, OnOk, None, map, length};
+ghost use Rattle.flux_model.specs.Numbered.{IsNumbered};
+ghost use Rattle.flux_model.specs.Ordering.{IsOrder, HasCycle};
 ghost use Rattle.flux_model.specs.Texts.{node_name};
 ghost use Rattle.flux_syntax.specs.Counted.{words_of};
-ghost use Rattle.flux_syntax.specs.ProgramOfText.{named_of};
-ghost use Rattle.flux_syntax.specs.Least.{first_fault, IsLeastFault};
-ghost use Rattle.flux_graph.specs.Ordering.{IsOrder, HasCycle};
-ghost use Rattle.flux_check.specs.Rows.{later_rows};
+ghost use Rattle.flux_names.specs.Building.{first_constrained};
 ghost use Rattle.flux_faults.specs.declared.faults.StaticFault.{StaticFault};
 ghost use Rattle.flux_faults.specs.declared.faults.CheckFault.TheVariants as causes;
-ghost use Rattle.flux_check.specs.Judgement.{IsChecked, IsRefusalOf, IsSoundText, IsTextFault, IsThatFault};
-ghost use Rattle.flux_check.specs.Steps.{AreTyped, IsCycleRefusal, IsDeclsRefusal, AreChecked, site_of};
+ghost use Rattle.flux_check.specs.Judgement.{AreChecked, IsChecked, IsRefusalOf, IsSoundText, IsTextFault, IsThatFault};
+ghost use Rattle.flux_check.specs.steps.Checking.{IsDeclared, IsUnbuiltRefusal, IsCycleRefusal, IsDeclsRefusal, site_of};
 
 use crate::sizing::sizes;
+use flux_edges::{handler_types, session_edges};
 use flux_faults::{CheckFault, FaultKind, StaticFault};
 use flux_graph::{GraphFault, Order, order};
 use flux_hoist::Checked;
 use flux_library::Library;
-use flux_model::{Named, NodeNo, Program, Sigs};
-use flux_names::{first_unbuilt, resolve};
+use flux_model::{COUNT_LIMIT, Named, NodeNo, Program};
+use flux_names::{first_constrained, resolve};
 use flux_syntax::{Decl, fault_at, read};
 use flux_types::{sigs, source_types};
 use flux_values::{List, Memory, TextBytes};
@@ -85,54 +84,33 @@ fn ordered(alloc: Global, named: &Named) -> Result<Order, CheckFault>
     }))
 }
 
-/// The signatures and the sizes of a program in an order, or the least of faults 16, 17, 22 and 27.
-fn typed<L: Library>(
-    alloc: Global,
-    decls: &List<Decl>,
-    named: &Named,
-    order: &Order,
-    library: &L,
-) -> Result<(Sigs, List<u32>), CheckFault>
-    requires named { named.now ≡ named_of decls.now }
-    requires ordered { IsOrder named.now.program.nodes order.now.nodes }
-    ensures typed { IfOk result (λ typed. AreTyped (L.kind_of library.now) decls.now named.now.program (typed.0.nodes, typed.1)) }
-    ensures fault { IfErr result (IsLeastFault (first_fault (later_rows (L.kind_of library.now) decls.now))) }
+/// That all forms of the declarations are built. Constraints aren't yet, nor are nodes that use a cell.
+fn built<L: Library>(alloc: Global, decls: &List<Decl>, library: &L) -> Result<(), CheckFault>
+    ensures built { OnOk result (first_constrained (L.meaning library.now) decls.now ≡ None) }
+    ensures unbuilt { IfErr result (IsUnbuiltRefusal (L.meaning library.now) decls.now) }
 {
-    let sigs = match sigs(alloc, decls, named, order, library) {
-        Ok(sigs) => sigs,
-        Err(fault) => return Err(fault),
-    };
-    match source_types(alloc, decls, named, &sigs, library) {
-        Ok(()) => {}
-        Err(fault) => return Err(fault),
-    }
-    match sizes(alloc, decls, named, order) {
-        Ok(sizes) => Ok((sigs, sizes)),
-        Err(fault) => Err(fault),
+    match first_constrained(alloc, decls, library)? {
+        Some(at) => Err(fault_at(alloc, FaultKind::NotBuilt, at)),
+        None => Ok(()),
     }
 }
 
 /// A checked program of declarations, or their fault.
 fn judge<L: Library>(alloc: Global, decls: &List<Decl>, library: &L) -> Result<Checked, CheckFault>
-    requires few { words_of decls.now ≤ 1048576 }
-    ensures checked { IfOk result (λ checked. AreChecked (L.kind_of library.now) (L.sig_of library.now) decls.now checked.program checked.sigs.nodes checked.order.nodes checked.sizes) }
-    ensures fault { IfErr result (IsDeclsRefusal (L.kind_of library.now) (L.sig_of library.now) decls.now) }
+    requires declared { IsDeclared decls.now }
+    requires few { words_of decls.now ≤ COUNT_LIMIT }
+    ensures checked { IfOk result (λ checked. AreChecked (L.meaning library.now) decls.now
+        checked.program checked.sigs.nodes checked.order.nodes checked.sizes) }
+    ensures fault { IfErr result (IsDeclsRefusal (L.meaning library.now) decls.now) }
 {
-    if let Some(at) = first_unbuilt(decls) {
-        return Err(fault_at(alloc, FaultKind::NotBuilt, at));
-    }
-    let named = match resolve(alloc, decls, library) {
-        Ok(named) => named,
-        Err(fault) => return Err(fault),
-    };
-    let order = match ordered(alloc, &named) {
-        Ok(order) => order,
-        Err(fault) => return Err(fault),
-    };
-    let (sigs, sizes) = match typed(alloc, decls, &named, &order, library) {
-        Ok(typed) => typed,
-        Err(fault) => return Err(fault),
-    };
+    built(alloc, decls, library)?;
+    let named = resolve(alloc, decls, library)?;
+    let order = ordered(alloc, &named)?;
+    let sigs = sigs(alloc, decls, &named, &order, library)?;
+    handler_types(alloc, &named, &sigs)?;
+    source_types(alloc, decls, &named, &sigs, library)?;
+    session_edges(alloc, &named)?;
+    let sizes = sizes(alloc, decls, &named, &order)?;
     Ok(Checked {
         program: named.program,
         sigs,
@@ -145,16 +123,17 @@ fn judge<L: Library>(alloc: Global, decls: &List<Decl>, library: &L) -> Result<C
 /// yet; it comes after the faults 1 to 4 and before all others.
 pub fn check<L: Library>(alloc: Global, text: &[u8], library: &L) -> Result<Checked, CheckFault>
     // What is answered holds of the text,
-    ensures checked { IfOk result (λ checked. IsChecked (L.kind_of library.now) (L.sig_of library.now) text.now checked.program checked.sigs.nodes checked.order.nodes checked.sizes) }
-    ensures fault { IfErr result (IsRefusalOf (L.kind_of library.now) (L.sig_of library.now) text.now) }
+    ensures checked { IfOk result (λ checked. IsChecked (L.meaning library.now) text.now
+        checked.program checked.sigs.nodes checked.order.nodes checked.sizes) }
+    ensures fault { IfErr result (IsRefusalOf (L.meaning library.now) text.now) }
     // and what holds of the text is answered, unless memory is short.
-    ensures sound { IsSoundText (L.kind_of library.now) (L.sig_of library.now) text.now → IfErr result (λ refusal. refusal ≡ causes.Memory) }
-    ensures faulty { (fault : StaticFault) → IsTextFault (L.kind_of library.now) (L.sig_of library.now) text.now fault → IfOk result (λ _. ⊥) }
-    ensures stands { (fault : StaticFault) → IsTextFault (L.kind_of library.now) (L.sig_of library.now) text.now fault → IfErr result (IsThatFault fault) }
+    ensures sound { IsSoundText (L.meaning library.now) text.now
+        → IfErr result (λ refusal. refusal ≡ causes.Memory) }
+    ensures faulty { (fault : StaticFault) → IsTextFault (L.meaning library.now) text.now fault
+        → IfOk result (λ _. ⊥) }
+    ensures stands { (fault : StaticFault) → IsTextFault (L.meaning library.now) text.now fault
+        → IfErr result (IsThatFault fault) }
 {
-    let decls = match read(alloc, text) {
-        Ok(decls) => decls,
-        Err(fault) => return Err(fault),
-    };
+    let decls = read(alloc, text)?;
     judge(alloc, &decls, library)
 }

@@ -2,30 +2,27 @@
 //!
 //! A size may be as large as two to the number of nodes, so sizes past the limit are counted as one more than it.
 
-ghost use Rattle.std.specs.Prelude.{◌≡◌, ◌+◌, IfOk, IfErr, OnOk, None, length, replicate};
+ghost use Rattle.std.specs.Prelude.{◌≡◌, ◌+◌, IfOk, IfErr, OnOk, None, fold, length, map, replicate};
+ghost use Rattle.flux_model.specs.Ordering.{IsOrder};
 ghost use Rattle.flux_syntax.specs.Least.{first_fault, IsLeastFault};
 ghost use Rattle.flux_syntax.specs.ProgramOfText.{named_of};
-ghost use Rattle.flux_graph.specs.Ordering.{IsOrder};
-ghost use Rattle.flux_graph.specs.Tables.{put_all};
 ghost use Rattle.flux_check.specs.Rows.{size_rows};
-ghost use Rattle.flux_check.specs.Summing.{capped, size_at, capped_sum, put_size, large_along, line_sizes};
-ghost use Rattle.flux_check.specs.Steps.{AreSizes};
+ghost use Rattle.flux_check.specs.steps.Summing.{capped, size_at, capped_sum, put_size, large_along, line_size};
+ghost use Rattle.flux_check.specs.steps.Checking.{AreSizes};
 
 use flux_faults::{CheckFault, FaultKind};
 use flux_graph::Order;
+use flux_hoist::SIZE_LIMIT;
 use flux_model::{Named, Node, NodeNo, SourceLine};
 use flux_syntax::{Decl, fault_at, sooner};
 use flux_values::{List, Memory};
 use std::alloc::Global;
 
-/// The sources' sizes sum to at most so many events.
-const LIMIT: u32 = 65_536;
-
 /// A sum of sizes, where any that is past the limit is one more than it.
 fn capped_sum(a: u32, b: u32) -> u32
     ensures { result ≡ capped (a + b) }
 {
-    a.saturating_add(b).min(LIMIT + 1)
+    a.saturating_add(b).min(SIZE_LIMIT + 1)
 }
 
 fn size_at(table: &[u32], node: NodeNo) -> u32
@@ -41,13 +38,9 @@ fn size_at(table: &[u32], node: NodeNo) -> u32
 fn add_sizes(table: &[u32], nodes: &[NodeNo], size: u32) -> u32
     ensures { result ≡ capped_sum table.now size nodes.now }
 {
-    let mut total = size;
-    let mut rest = nodes;
-    while let [node, others @ ..] = rest {
-        total = capped_sum(total, size_at(table, *node));
-        rest = others;
-    }
-    total
+    nodes
+        .iter()
+        .fold(size, |total, node| capped_sum(total, size_at(table, *node)))
 }
 
 /// Puts a node's size into its place, once all that it leads to have theirs.
@@ -75,22 +68,18 @@ fn zeros(alloc: Global, count: usize) -> Result<List<u32>, Memory>
 {
     let mut table = List::new(alloc);
     for _ in 0..count {
-        if table.push(0).is_err() {
-            return Err(Memory);
-        }
+        table.add(0)?;
     }
     Ok(table)
 }
 
 /// The sizes of all nodes, in an order in which each stands after all that it leads to.
 fn node_sizes(alloc: Global, nodes: &[Node], order: &[NodeNo]) -> Result<List<u32>, Memory>
-    ensures { IfOk result (λ table. table ≡ put_all (put_size nodes.now) (replicate (length nodes.now) 0) order.now) }
+    ensures { IfOk result (λ table. table ≡ fold (put_size nodes.now) (replicate (length nodes.now) 0) order.now) }
 {
     let mut table = zeros(alloc, nodes.len())?;
-    let mut rest = order;
-    while let [number, others @ ..] = rest {
+    for number in order {
         put_size(alloc, nodes, &mut table, *number)?;
-        rest = others;
     }
     Ok(table)
 }
@@ -109,7 +98,7 @@ fn past_limit(table: &[u32], decls: &[Decl], lines: &[SourceLine]) -> Option<u32
                 return place;
             };
             total = capped_sum(total, capped_sum(size_at(table, line.target), 1));
-            if LIMIT < total {
+            if SIZE_LIMIT < total {
                 place = Some(sooner(place, name.at));
             }
             left = more;
@@ -120,18 +109,11 @@ fn past_limit(table: &[u32], decls: &[Decl], lines: &[SourceLine]) -> Option<u32
 }
 
 fn line_sizes(alloc: Global, table: &[u32], lines: &[SourceLine]) -> Result<List<u32>, Memory>
-    ensures { IfOk result (λ sizes. sizes ≡ line_sizes table.now lines.now) }
+    ensures { IfOk result (λ sizes. sizes ≡ map (line_size table.now) lines.now) }
 {
     let mut sizes = List::new(alloc);
-    let mut rest = lines;
-    while let [line, others @ ..] = rest {
-        if sizes
-            .push(capped_sum(size_at(table, line.target), 1))
-            .is_err()
-        {
-            return Err(Memory);
-        }
-        rest = others;
+    for line in lines {
+        sizes.add(capped_sum(size_at(table, line.target), 1))?;
     }
     Ok(sizes)
 }
@@ -151,14 +133,9 @@ pub fn sizes(
 {
     let nodes = named.program.nodes.as_slice();
     let lines = named.program.sources.as_slice();
-    let Ok(table) = node_sizes(alloc, nodes, order.nodes.as_slice()) else {
-        return Err(CheckFault::Memory);
-    };
+    let table = node_sizes(alloc, nodes, order.nodes.as_slice())?;
     match past_limit(table.as_slice(), decls.as_slice(), lines) {
         Some(at) => Err(fault_at(alloc, FaultKind::PlanTooLarge, at)),
-        None => match line_sizes(alloc, table.as_slice(), lines) {
-            Ok(sizes) => Ok(sizes),
-            Err(_) => Err(CheckFault::Memory),
-        },
+        None => Ok(line_sizes(alloc, table.as_slice(), lines)?),
     }
 }

@@ -1,5 +1,5 @@
 -- The numbers, names and lines of faults.
-use Rattle.std.specs.Prelude.{ℕ, ◌≤◌, ◌<◌, ⊤, List, [], ◌∷◌, ◌++◌, length, codes}
+use Rattle.std.specs.Prelude.{ℕ, ◌≤◌, ◌<◌, ◌==◌, ⊤, if◌then◌else◌, List, [], ◌∷◌, ◌++◌, length, codes}
 use Rattle.std.specs.Fmt.{decimal}
 use Rattle.flux_faults.specs.declared.faults.FaultKind.{FaultKind}
 use Rattle.flux_faults.specs.declared.faults.FaultKind.TheVariants.{NotBuilt, TooLong, BadByte, UnclosedComment, Unexpected, TwiceNamed, UnknownNode, UnknownType, NotInLibrary, UnlikeLibrary, UnknownPredicate, UnknownSession, NotASource, SourceMisused, TooMany, Cycle, NoSignature, JoinTypes, CaseCount, CaseTypes, PredicateType, HandlerTypes, SourceTypes, SessionTypes, BothScopes, Unprotected, NoSession, PlanTooLarge, BadCode}
@@ -80,16 +80,16 @@ arrows (name ∷ []) = name
 arrows (name ∷ next ∷ names) = name ++ codes " -> " ++ arrows (next ∷ names)
 
 -- what stands behind the name: the path of a cycle
-abbrev pub printed_path : FaultKind → List (List ℕ) → List ℕ
-printed_path Cycle path = codes " " ++ arrows path
-printed_path kind path = []
+abbrev pub printed_path : StaticFault → List ℕ
+printed_path fault =
+    if number_of fault.kind == number_of Cycle then codes " " ++ arrows fault.path else []
 
 -- `LINE:COLUMN: fault NUMBER NAME`, and the path
 abbrev pub printed_fault : List ℕ → StaticFault → List ℕ
 printed_fault text fault =
     decimal (line_of text fault.at) ++ codes ":" ++ decimal (column_of text fault.at)
     ++ codes ": fault " ++ decimal (number_of fault.kind)
-    ++ codes " " ++ name_of fault.kind ++ printed_path fault.kind fault.path
+    ++ codes " " ++ name_of fault.kind ++ printed_path fault
 
 -- a refusal's fault, if it is one, stands at a byte of the text or at its end, and has a line
 abbrev pub IsPlacedIn : List ℕ → CheckFault → Type 0

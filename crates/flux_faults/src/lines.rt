@@ -29,7 +29,7 @@ pub fn fault_line(alloc: Global, text: &[u8], fault: &StaticFault) -> Result<Byt
 }
 
 fn append_path(line: &mut Bytes, fault: &StaticFault) -> Result<(), Memory>
-    ensures { OnOk result (line.new ≡ line.old ++ printed_path fault.now.kind fault.now.path) }
+    ensures { OnOk result (line.new ≡ line.old ++ printed_path fault.now) }
 {
     match fault.kind {
         FaultKind::Cycle => {

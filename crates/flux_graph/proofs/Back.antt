@@ -1,12 +1,11 @@
 -- A search for a way back finds one where there is one, and the lowest number that has one is that of all cycles.
-use Rattle.std.proofs.Common.{◌≡◌, ◌<◌, ◌≤◌, ◌+◌, ◌-◌, ℕ, zero, suc, false, ◌⊎◌, inl, inr, List, [], ◌∷◌, ◌++◌, length, Option, Some, None, refl, sym, ap, subst, ◌∙◌, eqb, arith, append_assoc}
+use Rattle.std.proofs.Common.{◌≡◌, ◌<◌, ◌≤◌, ◌+◌, ◌-◌, ℕ, false, ◌⊎◌, inl, inr, List, [], ◌∷◌, ◌++◌, length, Option, Some, None, refl, sym, ap, subst, ◌∙◌, eqb, arith, append_assoc}
 use Rattle.std.proofs.lemmas.List.{append-nil}
 use Rattle.std.proofs.lemmas.Map.Steps.{length-le_from_distinct_below}
-use Rattle.std.specs.List.{list_any, AllByRecursion}
+use Rattle.std.specs.List.{list_any}
 use Rattle.flux_model.specs.declared.programs.NodeNo.{NodeNo}
 use Rattle.flux_model.specs.declared.programs.Node.{Node}
-use Rattle.flux_model.specs.Leading.{leads_to, leads_in}
-use Rattle.flux_model.specs.Numbered.{AreBelow}
+use Rattle.flux_model.specs.Leading.{leads_in}
 use Rattle.flux_model.specs.Children.{IsIn}
 use Rattle.flux_graph.specs.declared.steps.Step.{Step}
 use Rattle.flux_graph.specs.declared.steps.Step.TheVariants.{Enter, Leave}
@@ -14,7 +13,7 @@ use Rattle.flux_graph.specs.declared.returning.Return.{Return}
 use Rattle.flux_graph.specs.steps.Visits.{IsKnown, with_number}
 use Rattle.flux_model.specs.Ordering.{AreDistinct, IsLed, LeadsOn, HasCycle, IsLowestCycle}
 use Rattle.flux_graph.specs.steps.Searching.{enters, leaves_of}
-use Rattle.flux_graph.specs.steps.Search.{FollowsOn, AreLed}
+use Rattle.flux_graph.specs.steps.Search.{LeadToNodes, FollowsOn, AreLed}
 use Rattle.flux_graph.specs.steps.Returning.{IsAhead, BeginsWith, moved, and_step, Seeks, IsAfter, IsWayBack}
 use Rattle.flux_graph.proofs.Visiting.{known_or, known_more, known_new}
 use Rattle.std.proofs.Math.Nat.{eq-or-lt_of_le}
@@ -71,6 +70,7 @@ begins_on start node (step ∷ a) b e = e
 
 -- ---- moves
 
+-- a step that leaves a node is passed over
 pub passed_leave : (nodes : List Node) (start : NodeNo) (s : Return) (node : NodeNo) → Seeks nodes start (and_step s (Leave node)) → Seeks nodes start s
 passed_leave nodes start s node h = record {
   led = stepping.led_front nodes None s.steps (Leave node ∷ []) h.led;
@@ -91,6 +91,7 @@ passed_leave nodes start s node h = record {
     from y (inl k) = inl k
     from y (inr a) = either y (ahead_either y s.steps (Leave node ∷ []) a)
 
+-- a step into a node that has been entered is passed over, but for the start
 pub passed_known : (nodes : List Node) (start : NodeNo) (s : Return) (node : NodeNo) → Seeks nodes start (and_step s (Enter node)) → (node.0 ≡ start.0 → ⊥) → IsKnown node.0 s.entered → Seeks nodes start s
 passed_known nodes start s node h other known = record {
   led = stepping.led_front nodes None s.steps (Enter node ∷ []) h.led;
@@ -118,7 +119,8 @@ passed_known nodes start s node h other known = record {
     from y (inl k) = inl k
     from y (inr a) = either y (ahead_either y s.steps (Enter node ∷ []) a)
 
-pub went_on : (nodes : List Node) (start : NodeNo) (s : Return) (node : NodeNo) → AllByRecursion (λ node. AreBelow (length nodes) (leads_to node)) nodes → Seeks nodes start (and_step s (Enter node)) → (node.0 ≡ start.0 → ⊥) → list_any (eqb node.0) s.entered ≡ false → Seeks nodes start (moved nodes s node)
+-- a new node is entered
+pub went_on : (nodes : List Node) (start : NodeNo) (s : Return) (node : NodeNo) → LeadToNodes nodes → Seeks nodes start (and_step s (Enter node)) → (node.0 ≡ start.0 → ⊥) → list_any (eqb node.0) s.entered ≡ false → Seeks nodes start (moved nodes s node)
 went_on nodes start s node all h other new = record {
   led = subst (AreLed nodes None) joined (stepping.led_join nodes None s.steps next (stepping.led_front nodes None s.steps (Enter node ∷ []) h.led) (follows, stepping.led_enters nodes node.0 into (λ x i. i)));
   leaves = subst AreDistinct (sym same) (stepping.distinct_last (leaves_of s.steps) node (subst AreDistinct before h.leaves) (λ i. not_known node.0 s.entered new (h.inside node.0 (subst (IsIn node.0) (sym before) i))));
@@ -175,6 +177,7 @@ went_on nodes start s node all h other new = record {
 
 -- ---- the end of the search
 
+-- a step into the start closes a way back
 pub way_found : (nodes : List Node) (start : NodeNo) (s : Return) (node : NodeNo) → Seeks nodes start (and_step s (Enter node)) → node.0 ≡ start.0 → IsWayBack nodes start (leaves_of s.steps ++ start ∷ [])
 way_found nodes start s node h same = from s.steps h.begins h.led (subst AreDistinct (leaves_same s.steps node ∙ append-nil (leaves_of s.steps)) h.leaves)
   where
@@ -194,6 +197,7 @@ way_found nodes start s node h same = from s.steps h.begins h.led (subst AreDist
         turn : Leave start ≡ step → AreLed nodes None ((step ∷ rest) ++ Enter node ∷ []) → AreDistinct (leaves_of (step ∷ rest)) → IsWayBack nodes start (leaves_of (step ∷ rest) ++ start ∷ [])
         turn e l d = subst (λ (t : Step). IsWayBack nodes start (leaves_of (t ∷ rest) ++ start ∷ [])) e (rest_of rest (subst (λ (t : Step). AreLed nodes None ((t ∷ rest) ++ Enter node ∷ [])) (sym e) l) (subst (λ (t : Step). AreDistinct (leaves_of (t ∷ rest))) (sym e) d))
 
+-- where no step is left, there is no way back
 pub no_way_back : (nodes : List Node) (start : NodeNo) (s : Return) → Seeks nodes start s → s.steps ≡ [] → LeadsOn nodes start.0 start.0 → ⊥
 no_way_back nodes start s h empty w = ends start.0 h.started w.between w.led
   where
@@ -210,6 +214,7 @@ no_way_back nodes start s h empty w = ends start.0 h.started w.between w.led
 
 -- ---- the lowest of all
 
+-- a way back is the lowest cycle, where no lower number leads on to itself
 pub is_lowest : (nodes : List Node) (start : NodeNo) (path : List NodeNo) → ((x : ℕ) → x < start.0 → LeadsOn nodes x x → ⊥) → IsWayBack nodes start path → IsLowestCycle nodes path
 is_lowest nodes start path none w = record {
   cycle = record { first = start; others = w.others; is = w.is; led = w.led; distinct = w.distinct };
@@ -220,9 +225,11 @@ is_lowest nodes start path none w = record {
     reach number on (inl lt) = absurd (none number lt on)
     reach number on (inr le) = le
 
+-- where no node leads on to itself, there is no cycle
 pub none_at_all : (nodes : List Node) (number : ℕ) → length nodes ≤ number → ((x : ℕ) → x < number → LeadsOn nodes x x → ⊥) → HasCycle nodes → ⊥
 none_at_all nodes number over none (from, on) = none from (omega (arith, over, leads_on-within nodes from from on)) on
 
+-- one number more that doesn't lead on to itself
 pub none_more : (nodes : List Node) (number m : ℕ) → m ≡ number → ((x : ℕ) → x < number → LeadsOn nodes x x → ⊥) → (LeadsOn nodes m m → ⊥) → (x : ℕ) → x < number + 1 → LeadsOn nodes x x → ⊥
 none_more nodes number m same none own x lt way = from (eq-or-lt_of_le (omega (arith, lt)))
   where
@@ -232,6 +239,7 @@ none_more nodes number m same none own x lt way = from (eq-or-lt_of_le (omega (a
 
 -- ---- the beginning
 
+-- the search begins with its start entered
 pub begun : (nodes : List Node) (start : NodeNo) → start.0 < length nodes → Seeks nodes start (moved nodes (record { steps = []; entered = [] }) start)
 begun nodes start lt = record {
   led = (lt, stepping.led_enters nodes start.0 into (λ x i. i));
@@ -261,16 +269,19 @@ begun nodes start lt = record {
 
 -- ---- turns
 
+-- the search without its last steps
 abbrev pub before_step : Return → List Step → Return
 before_step s rest = record { steps = rest; entered = s.entered }
 
+-- the search with its last step taken apart
 pub took : (nodes : List Node) (start : NodeNo) (s : Return) (rest : List Step) (step other : Step) → s.steps ≡ rest ++ step ∷ [] → step ≡ other → Seeks nodes start s → Seeks nodes start (and_step (before_step s rest) other)
 took nodes start s rest step other e is h = subst (λ (t : Step). Seeks nodes start (and_step (before_step s rest) t)) is (subst (Seeks nodes start) same h)
   where
     same : s ≡ and_step (before_step s rest) step
     same = ap (λ (t : List Step). before_step s t) e
 
-pub turned_on : (nodes : List Node) (start : NodeNo) (old mid new : Return) (found : Option NodeNo) (node : NodeNo) → AllByRecursion (λ node. AreBelow (length nodes) (leads_to node)) nodes → IsAfter nodes start old mid found → found ≡ Some node → (node.0 ≡ start.0 → ⊥) → new ≡ moved nodes mid node → Seeks nodes start new
+-- after a turn that enters a node, the search goes on
+pub turned_on : (nodes : List Node) (start : NodeNo) (old mid new : Return) (found : Option NodeNo) (node : NodeNo) → LeadToNodes nodes → IsAfter nodes start old mid found → found ≡ Some node → (node.0 ≡ start.0 → ⊥) → new ≡ moved nodes mid node → Seeks nodes start new
 turned_on nodes start old mid new found node all after e other gives = from (subst (IsAfter nodes start old mid) e after)
   where
     one : Seeks nodes start (and_step mid (Enter node)) → (node.0 ≡ start.0) ⊎ (list_any (eqb node.0) mid.entered ≡ false) → Seeks nodes start new
@@ -280,7 +291,8 @@ turned_on nodes start old mid new found node all after e other gives = from (sub
     from : IsAfter nodes start old mid (Some node) → Seeks nodes start new
     from (h, same, new) = one h new
 
-pub turned_less : (nodes : List Node) (start : NodeNo) (old mid new : Return) (found : Option NodeNo) (node : NodeNo) → AllByRecursion (λ node. AreBelow (length nodes) (leads_to node)) nodes → IsAfter nodes start old mid found → found ≡ Some node → (node.0 ≡ start.0 → ⊥) → new ≡ moved nodes mid node
+-- such a turn leaves fewer nodes to be entered
+pub turned_less : (nodes : List Node) (start : NodeNo) (old mid new : Return) (found : Option NodeNo) (node : NodeNo) → LeadToNodes nodes → IsAfter nodes start old mid found → found ≡ Some node → (node.0 ≡ start.0 → ⊥) → new ≡ moved nodes mid node
     → length nodes - length new.entered < length nodes - length old.entered
 turned_less nodes start old mid new found node all after e other gives = from (subst (IsAfter nodes start old mid) e after)
   where
@@ -296,9 +308,11 @@ turned_less nodes start old mid new found node all after e other gives = from (s
     from : IsAfter nodes start old mid (Some node) → length nodes - length new.entered < length nodes - length old.entered
     from (h, same, new) = one same new
 
+-- a turn that comes to the start gives a way back
 pub turned_back : (nodes : List Node) (start : NodeNo) (old mid : Return) (found : Option NodeNo) (node : NodeNo) → IsAfter nodes start old mid found → found ≡ Some node → node.0 ≡ start.0 → IsWayBack nodes start (leaves_of mid.steps ++ start ∷ [])
 turned_back nodes start old mid found node after e same = way_found nodes start mid node (subst (IsAfter nodes start old mid) e after).0 same
 
+-- a last turn shows that there is no way back
 pub turned_none : (nodes : List Node) (start : NodeNo) (old mid : Return) (found : Option NodeNo) → IsAfter nodes start old mid found → found ≡ None → LeadsOn nodes start.0 start.0 → ⊥
 turned_none nodes start old mid found after e w = from (subst (IsAfter nodes start old mid) e after)
   where

@@ -1,5 +1,5 @@
 -- Nodes that follow one another in a circle.
-use Rattle.std.proofs.Common.{◌≡◌, ◌<◌, ◌≤◌, ℕ, zero, suc, ◌⊎◌, inl, inr, List, [], ◌∷◌, ◌++◌, Option, Some, None, refl, sym, ap, subst, ◌∙◌, arith}
+use Rattle.std.proofs.Common.{◌≡◌, ℕ, ◌⊎◌, inl, inr, List, [], ◌∷◌, ◌++◌, Option, Some, None, refl, sym, ap, subst, ◌∙◌}
 use Rattle.std.specs.Prelude.{⊤}
 use Rattle.std.proofs.lemmas.List.{append-nil}
 use Rattle.flux_model.specs.declared.programs.NodeNo.{NodeNo}
@@ -19,6 +19,7 @@ use Rattle.flux_graph.proofs.Finding.{leaves_same}
 
 -- ---- nodes that follow one another
 
+-- the last of these nodes, or the one before them
 abbrev pub end_of : ℕ → List NodeNo → ℕ
 end_of from [] = from
 end_of from (n ∷ a) = end_of n.0 a
@@ -31,6 +32,7 @@ led_then : (nodes : List Node) (from : ℕ) (a b : List NodeNo) → IsLed nodes 
 led_then nodes from [] b l = l
 led_then nodes from (n ∷ a) b (own, l) = led_then nodes n.0 a b l
 
+-- two parts that are led make a whole that is
 pub led_both : (nodes : List Node) (from : ℕ) (a b : List NodeNo) → IsLed nodes from a → IsLed nodes (end_of from a) b → IsLed nodes from (a ++ b)
 led_both nodes from [] b l m = m
 led_both nodes from (n ∷ a) b (own, l) m = (own, led_both nodes n.0 a b l m)
@@ -44,6 +46,7 @@ abbrev pub IsPath : List Node → List NodeNo → Type 0
 IsPath nodes [] = ⊤
 IsPath nodes (n ∷ a) = IsLed nodes n.0 a
 
+-- the nodes that were entered and not left lead from one to the next
 pub path_led : (nodes : List Node) (from : ℕ) (s : List Step) → AreLed nodes (Some from) s → IsLed nodes from (leaves_of s)
 path_led nodes from [] l = tt
 path_led nodes from (Enter n ∷ s) (own, l) = path_led nodes from s l
@@ -58,11 +61,13 @@ path_from : (nodes : List Node) (a : List NodeNo) (n : NodeNo) (b : List NodeNo)
 path_from nodes [] n b p = p
 path_from nodes (m ∷ a) n b p = (led_then nodes m.0 a (n ∷ b) p).1
 
+-- the node that was entered last is the last of those that weren't left
 pub last_from : (from : ℕ) (s : List Step) → last_of (Some from) s ≡ Some (end_of from (leaves_of s))
 last_from from [] = refl
 last_from from (Enter n ∷ s) = last_from from s
 last_from from (Leave n ∷ s) = last_from n.0 s
 
+-- the last of these nodes, if there is one
 abbrev pub end_option : List NodeNo → Option ℕ
 end_option [] = None
 end_option (n ∷ a) = Some (end_of n.0 a)
@@ -82,6 +87,7 @@ option_behind (m ∷ a) n b = ap Some (end_behind m.0 a n b)
 
 -- ---- the first with a number
 
+-- the first node of a number, with what stands before and behind it
 pub record First (x : ℕ) (nodes : List NodeNo) : Type 0 where
   pub front : List NodeNo
   pub node : NodeNo
@@ -89,6 +95,7 @@ pub record First (x : ℕ) (nodes : List NodeNo) : Type 0 where
   pub is : nodes ≡ front ++ node ∷ tail
   pub same : node.0 ≡ x
 
+-- what is among nodes has a first place there
 pub first_of : (x : ℕ) (nodes : List NodeNo) → IsIn x nodes → First x nodes
 first_of x [] i = absurd i
 first_of x (n ∷ nodes) (inl e) = record { front = []; node = n; tail = nodes; is = refl; same = sym e }
@@ -99,6 +106,7 @@ first_of x (n ∷ nodes) (inr i) = later (first_of x nodes i)
 
 -- ---- the circle that a search finds
 
+-- a step into a node that was entered and not left closes a cycle
 pub cycle_found : (nodes : List Node) (s : Search) (node : NodeNo) → Holds nodes (with_step s (Enter node)) → IsKnown node.0 s.entered → (IsKnown node.0 s.done → ⊥) → HasCycle nodes
 cycle_found nodes s node h known undone = from (first_of node.0 (leaves_of s.steps) (inside (h.known node.0 known)))
   where

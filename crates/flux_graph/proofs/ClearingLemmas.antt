@@ -7,9 +7,8 @@ use Rattle.flux_model.specs.declared.programs.Node.{Node}
 use Rattle.flux_model.specs.Leading.{leads_in}
 use Rattle.flux_model.specs.Children.{IsIn}
 use Rattle.flux_model.specs.Ordering.{IsLed, LeadsOn}
-use Rattle.flux_graph.specs.declared.clearing.Clearing.{Clearing}
 use Rattle.flux_graph.specs.steps.Visits.{IsKnown, with_number, with_all}
-use Rattle.flux_graph.specs.steps.Clearing.{leads_at, AreClosed, AreOnNoCycle, IsClearing}
+use Rattle.flux_graph.specs.steps.Clearing.{leads_at, AreClosed, AreOnNoCycle}
 use Rattle.flux_graph.proofs.Visiting.{known_or, known_more, all_more, all_new, place_number, place_all, Stands, known_place, place_known, at_place}
 use Rattle.flux_graph.proofs.Moves.{not_known}
 
@@ -22,6 +21,7 @@ AreClosedBelow nodes visits place = (i from led : ℕ) → i < place → slice_g
 some_same : (x y : ℕ) → ◌≡◌ {A = Option ℕ} (Some x) (Some y) → x ≡ y
 some_same x y e = cc
 
+-- a closed list stays closed below its end where a number is added
 pub closed_first : (nodes : List Node) (v : List ℕ) (n : ℕ) → AreClosed nodes v → AreClosedBelow nodes (with_number v n) (length v)
 closed_first nodes v n closed i from led lt at is = one (at_place v i lt)
   where
@@ -30,6 +30,7 @@ closed_first nodes v n closed i from led lt at is = one (at_place v i lt)
         let same : w ≡ from = some_same w from (sym (place_number v n i w here) ∙ at) in
         known_more led v n (closed w led (place_known v i w here) (subst (λ (m : ℕ). IsIn led (leads_in nodes m)) (sym same) is))
 
+-- a place more, after all that its number leads to was visited
 pub closed_more : (nodes : List Node) (v : List ℕ) (place : ℕ) → place < length v → AreClosedBelow nodes v place → AreClosedBelow nodes (with_all v (leads_at nodes (slice_get v place))) (place + 1)
 closed_more nodes v place lt closed i from led below at is = more (at_place v place lt)
   where
@@ -50,6 +51,7 @@ closed_more nodes v place lt closed i from led below at is = more (at_place v pl
             three led_on (inr (inl before)) = all_more led v leads (closed i w led before here led_on)
             three led_on (inr (inr past)) = absurd (omega (arith, past, below))
 
+-- what is closed below its end is closed
 pub closed_last : (nodes : List Node) (v : List ℕ) (place : ℕ) → length v ≤ place → AreClosedBelow nodes v place → AreClosed nodes v
 closed_last nodes v place over closed from led known is = one (known_place v from known)
   where
@@ -70,6 +72,7 @@ on_no_cycle nodes v n closed new leads on = not_known n v new (back on.between o
     back [] (is, more) = leads n is
     back (m ∷ between) (is, more) = stays_known nodes v m.0 between n closed (leads m.0 is) more
 
+-- a new node that leads to nothing else than what was visited is on no cycle
 pub cleared_more : (nodes : List Node) (v cleared : List ℕ) (n : ℕ) → AreClosed nodes v → list_any (eqb n) v ≡ false → ((led : ℕ) → IsIn led (leads_in nodes n) → IsKnown led v) → AreOnNoCycle nodes cleared → AreOnNoCycle nodes (with_number cleared n)
 cleared_more nodes v cleared n closed new leads none x known on = from (known_or x cleared n known)
   where
@@ -77,6 +80,7 @@ cleared_more nodes v cleared n closed new leads none x known on = from (known_or
     from (inl k) = none x k on
     from (inr e) = on_no_cycle nodes v n closed new leads (subst (λ (m : ℕ). LeadsOn nodes m m) e on)
 
+-- what follows from a fact of a good answer holds of it too
 pub on_ok : {T E P Q : Type 0} (r : Result T E) → OnOk r P → (P → Q) → OnOk r Q
 on_ok (Ok v) holds more = more holds
 on_ok (Err e) holds more = holds

@@ -1,5 +1,5 @@
 -- What is below a node is visited on the way down an order, and then told in rising order.
-use Rattle.std.proofs.Common.{◌≡◌, ◌<◌, ◌+◌, ◌∙◌, append_assoc, drop, reverse, ℕ, zero, suc, true, false, Bool, ◌⊎◌, inl, inr, List, [], ◌∷◌, ◌++◌, length, get_or, Option, Some, None, Result, Ok, Err, IfOk, refl, sym, ap, subst, eqb, arith}
+use Rattle.std.proofs.Common.{◌≡◌, ◌<◌, ◌+◌, ◌∙◌, append_assoc, drop, reverse, ℕ, zero, suc, true, false, Bool, ◌⊎◌, inl, inr, List, [], ◌∷◌, ◌++◌, length, get_or, Some, Result, Ok, Err, IfOk, refl, sym, ap, subst, eqb, arith}
 use Rattle.std.specs.List.{list_any, slice_get}
 use Rattle.std.proofs.Math.Nat.{eq-or-lt_of_le}
 use Rattle.std.proofs.lemmas.List.{append-nil, reverse-append, at_drop_more}
@@ -36,6 +36,7 @@ leads_down nodes before (n ∷ order) (low, new, leads, after) down = subst (Lea
 
 -- ---- on the way down
 
+-- the members of a node have been visited
 pub on_the_way_first : (p : Program) (top : ℕ) (start : Node) (order : List NodeNo) → slice_get p.nodes top ≡ Some start → IsOrder p.nodes order → IsOnTheWay p top (with_all [] (members_of start.body)) (reverse order)
 on_the_way_first p top start order at is = record {
   down = subst (LeadDown p.nodes) (append-nil (reverse order)) (leads_down p.nodes [] order is.after tt);
@@ -51,6 +52,7 @@ on_the_way_first p top start order at is = record {
     own x (inl known) = absurd (not_known x [] refl known)
     own x (inr i) = subst (IsIn x) (sym same) i
 
+-- a node that wasn't visited is passed over
 pub on_the_way_past : (p : Program) (top : ℕ) (visits : List ℕ) (node : NodeNo) (rest : List NodeNo) → IsOnTheWay p top visits (node ∷ rest) → list_any (eqb node.0) visits ≡ false → IsOnTheWay p top visits rest
 on_the_way_past p top visits node rest way unknown = record {
   down = way.down.1;
@@ -63,6 +65,7 @@ on_the_way_past p top visits node rest way unknown = record {
     other from known none (inl e) = not_known node.0 visits unknown (subst (λ (n : ℕ). IsKnown n visits) e known)
     other from known none (inr i) = none i
 
+-- all that a visited node leads to is visited
 pub on_the_way_down : (p : Program) (top : ℕ) (visits : List ℕ) (node : NodeNo) (rest : List NodeNo) → IsOnTheWay p top visits (node ∷ rest) → IsKnown node.0 visits → IsOnTheWay p top (with_all visits (leads_in p.nodes node.0)) rest
 on_the_way_down p top visits node rest way known = record {
   down = way.down.1;
@@ -93,6 +96,7 @@ on_the_way_down p top visits node rest way known = record {
     closes from led none i (inl k) = visited from led none i k (eqb from node.0) refl
     closes from led none i (inr j) = absurd (none (way.down.0 from j))
 
+-- at the end exactly what is below the node has been visited
 pub on_the_way_last : (p : Program) (top : ℕ) (visits : List ℕ) (ys : List NodeNo) (n : ℕ) → n ≡ length ys → IsOnTheWay p top visits (drop n ys) → Has p top visits
 on_the_way_last p top visits ys n same way = ended (subst (IsOnTheWay p top visits) (rw same (drop_all ys)) way)
   where
@@ -108,6 +112,7 @@ on_the_way_last p top visits ys n same way = ended (subst (IsOnTheWay p top visi
 
 -- ---- a turn
 
+-- the next node is the first of those still to come
 pub next_of : (p : Program) (top : ℕ) (visits : List ℕ) (ys : List NodeNo) (n : ℕ) (node : NodeNo) → (n < length ys) × (node ≡ get_or ys n node) → IsOnTheWay p top visits (drop n ys) → IsOnTheWay p top visits (node ∷ drop (n + 1) ys)
 next_of p top visits ys n node (lt, at) way = subst (IsOnTheWay p top visits) (at_drop_more (λ (l : List NodeNo). l) ys n node lt ∙ ap (λ (m : NodeNo). m ∷ drop (n + 1) ys) (sym at)) way
 
@@ -158,6 +163,7 @@ among_rising v (suc n) = one (list_any (eqb n) v) refl (among_rising v n)
 
 -- ---- the whole
 
+-- what has been visited, in rising order, is what is below the node
 pub are_below : (p : Program) (top : ℕ) (visits : List ℕ) → IsNumbered p → Has p top visits → AreBelow p top (among visits (length p.nodes))
 are_below p top visits numbered has = record {
   each = λ x i. has.each x (among_known visits (length p.nodes) x i).0;
@@ -165,6 +171,7 @@ are_below p top visits numbered has = record {
   rising = among_rising visits (length p.nodes);
 }
 
+-- so is an answer that is this list
 pub answered : {E : Type 0} (r : Result (List NodeNo) E) (nodes : List NodeNo) (p : Program) (top : ℕ) → IfOk r (λ given. given ≡ nodes) → AreBelow p top nodes → IfOk r (AreBelow p top)
 answered (Ok given) nodes p top same below = subst (AreBelow p top) (sym same) below
 answered (Err e) nodes p top same below = same

@@ -1,18 +1,17 @@
 -- Where a search begins and ends, and why an order and a cycle can't both be.
 use Rattle.std.proofs.Common.{◌≡◌, ◌<◌, ◌≤◌, ◌+◌, ◌-◌, ℕ, zero, suc, false, ◌⊎◌, inl, inr, List, [], ◌∷◌, ◌++◌, length, length-append, Option, Some, None, refl, sym, ap, subst, ◌∙◌, eqb, arith}
-use Rattle.std.specs.List.{list_any, IsDistinct, AllByRecursion}
+use Rattle.std.specs.List.{list_any, IsDistinct}
 use Rattle.std.proofs.lemmas.Map.Steps.{length-le_from_distinct_below}
 use Rattle.flux_model.specs.declared.programs.NodeNo.{NodeNo}
 use Rattle.flux_model.specs.declared.programs.Node.{Node}
-use Rattle.flux_model.specs.Leading.{leads_to, leads_in}
-use Rattle.flux_model.specs.Numbered.{AreBelow}
+use Rattle.flux_model.specs.Leading.{leads_in}
 use Rattle.flux_model.specs.Children.{IsIn}
 use Rattle.flux_graph.specs.declared.steps.Step.{Step}
 use Rattle.flux_graph.specs.declared.ordering.Search.{Search}
 use Rattle.flux_graph.specs.steps.Visits.{IsKnown, with_number}
-use Rattle.flux_model.specs.Ordering.{ComeAfter, AreDistinct, IsOrder, IsLed, LeadsOn, HasCycle}
+use Rattle.flux_model.specs.Ordering.{ComeAfter, AreDistinct, IsOrder, IsLed, HasCycle}
 use Rattle.flux_graph.specs.steps.Searching.{enters, leaves_of, numbered}
-use Rattle.flux_graph.specs.steps.Search.{HasStep, Covered, AreLed, Holds, IsBegun, IsNext, entered}
+use Rattle.flux_graph.specs.steps.Search.{LeadToNodes, HasStep, Covered, AreLed, Holds, IsBegun, IsNext, entered}
 use Rattle.flux_graph.proofs.Moves.{node_entered}
 use Rattle.std.proofs.Math.Nat.{eq-or-lt_of_le}
 use Rattle.flux_model.proofs.LeadingLemmas.{leads_on-within}
@@ -42,13 +41,16 @@ led_roots : (nodes : List Node) (into : List NodeNo) → ((x : ℕ) → IsIn x i
 led_roots nodes [] all = tt
 led_roots nodes (n ∷ into) all = (all n.0 (inl refl), led_roots nodes into (λ x i. all x (inr i)))
 
+-- nothing is among no numbers
 pub none_known : (x : ℕ) → IsKnown x [] → ⊥
 none_known x k = absurd cc
 
+-- no numbers are distinct
 pub none_twice : IsDistinct eqb []
 unfolding IsDistinct
 none_twice = tt
 
+-- a search begins well
 pub holds_first : (nodes : List Node) (s : Search) → IsBegun (length nodes) s → Holds nodes s
 holds_first nodes s b = record {
   roots = λ x lt. inr (subst (HasStep x) (sym b.steps) (stepping.step_into x all (numbered_in (length nodes) x lt)));
@@ -73,6 +75,7 @@ holds_first nodes s b = record {
 
 -- ---- where it ends
 
+-- where no step is left, the order is one of all nodes
 pub ordered_all : (nodes : List Node) (s : Search) → Holds nodes s → s.steps ≡ [] → IsOrder nodes s.order
 ordered_all nodes s h e = record { each = λ x lt. from x (subst (λ (t : List Step). IsIn x s.order ⊎ HasStep x t) e (h.roots x lt)); after = h.after }
   where
@@ -84,6 +87,7 @@ ordered_all nodes s h e = record { each = λ x lt. from x (subst (λ (t : List S
 pub entered_few : (nodes : List Node) (s : Search) → Holds nodes s → length s.entered ≤ length nodes
 entered_few nodes s h = length-le_from_distinct_below s.entered (length nodes) h.unique h.within
 
+-- a new number makes one more
 pub entered_grows : (v : List ℕ) (n : ℕ) → list_any (eqb n) v ≡ false → length (with_number v n) ≡ length v + 1
 entered_grows v n e = rw e (length-append v (n ∷ []))
 
@@ -106,18 +110,21 @@ no_way nodes before (n ∷ order) closed (lt, new, led, a) from (inl e) mid back
     ends [] (j, r) = led back.0 (subst (λ (z : ℕ). IsIn back.0 (leads_in nodes z)) e j)
     ends (m ∷ mid) (j, r) = stays nodes before m.0 mid back closed (led m.0 (subst (λ (z : ℕ). IsIn m.0 (leads_in nodes z)) e j)) r
 
+-- nodes that have an order have no cycle
 pub no_cycle : (nodes : List Node) (order : List NodeNo) → IsOrder nodes order → HasCycle nodes → ⊥
 no_cycle nodes order o (from, w) = no_way nodes [] order (λ x y i j. absurd i) o.after from (o.each from (leads_on-within nodes from from w)) w.between (record { 0 = from }) refl w.led
 
 -- ---- a turn of the search
 
-pub entered_next : (nodes : List Node) (old mid new : Search) (found : Option NodeNo) (node : NodeNo) → AllByRecursion (λ node. AreBelow (length nodes) (leads_to node)) nodes → IsNext nodes old mid found → found ≡ Some node → new ≡ entered nodes mid node → Holds nodes new
+-- after a turn that enters a node, the search holds on
+pub entered_next : (nodes : List Node) (old mid new : Search) (found : Option NodeNo) (node : NodeNo) → LeadToNodes nodes → IsNext nodes old mid found → found ≡ Some node → new ≡ entered nodes mid node → Holds nodes new
 entered_next nodes old mid new found node all next e gives = from (subst (IsNext nodes old mid) e next)
   where
     from : IsNext nodes old mid (Some node) → Holds nodes new
     from (h, unknown, same) = subst (Holds nodes) (sym gives) (node_entered nodes mid node all h unknown)
 
-pub entered_less : (nodes : List Node) (old mid new : Search) (found : Option NodeNo) (node : NodeNo) → AllByRecursion (λ node. AreBelow (length nodes) (leads_to node)) nodes → IsNext nodes old mid found → found ≡ Some node → new ≡ entered nodes mid node
+-- such a turn leaves fewer nodes to be entered
+pub entered_less : (nodes : List Node) (old mid new : Search) (found : Option NodeNo) (node : NodeNo) → LeadToNodes nodes → IsNext nodes old mid found → found ≡ Some node → new ≡ entered nodes mid node
     → length nodes - length new.entered < length nodes - length old.entered
 entered_less nodes old mid new found node all next e gives = from (subst (IsNext nodes old mid) e next)
   where
@@ -128,6 +135,7 @@ entered_less nodes old mid new found node all next e gives = from (subst (IsNext
         let few : length new.entered ≤ length nodes = entered_few nodes new (entered_next nodes old mid new found node all next e gives) in
         omega (arith, now, was, few)
 
+-- after the last turn the order is one of all nodes
 pub ordered_last : (nodes others : List Node) (old mid : Search) (found : Option NodeNo) → IsNext nodes old mid found → found ≡ None → nodes ≡ others → IsOrder others mid.order
 ordered_last nodes others old mid found next e same = from (subst (IsNext nodes old mid) e next)
   where

@@ -58,8 +58,10 @@ module _ {X : Type 0} (value : ℕ → X) (nodes : List Node) (start : List X) (
       place number (inl (inr i)) = inl i
       place number (inr i) = inr (inr i)
 
+  -- a filled table has a place for each node
   pub length-filled : (order : List NodeNo) → IsOrder nodes order → length start ≡ length nodes → length (fold put start order) ≡ length nodes
   length-filled order is many = (filled_all [] order start is.after (record { many = many; known = λ number i. absurd i; rest = λ number none. refl })).0
 
+  -- each node's place in a filled table has its value
   pub slice_get-filled : (order : List NodeNo) → IsOrder nodes order → length start ≡ length nodes → (number : ℕ) → number < length nodes → slice_get (fold put start order) number ≡ Some (value number)
   slice_get-filled order is many number below = (filled_all [] order start is.after (record { many = many; known = λ n i. absurd i; rest = λ n none. refl })).1 number (inl (is.each number below))

@@ -1,5 +1,5 @@
 -- What holds of a search goes on holding.
-use Rattle.std.proofs.Common.{◌+◌, ◌≡◌, ◌<◌, ◌≤◌, ℕ, zero, suc, ◌⊎◌, inl, inr, List, [], ◌∷◌, ◌++◌, length, refl, sym, subst, arith}
+use Rattle.std.proofs.Common.{◌+◌, ◌≡◌, ◌<◌, ℕ, suc, ◌⊎◌, inl, inr, List, [], ◌∷◌, ◌++◌, length, sym, subst, arith}
 use Rattle.flux_model.specs.declared.programs.NodeNo.{NodeNo}
 use Rattle.flux_model.specs.declared.programs.Node.{Node}
 use Rattle.flux_model.specs.Children.{IsIn}
@@ -15,6 +15,7 @@ use Rattle.flux_graph.proofs.Stepping.{IsReplaced, last_of}
 
 -- ---- the order grows
 
+-- a node behind an order, where all that it leads to stands before it
 pub after_more : (nodes : List Node) (before order : List NodeNo) (node : NodeNo) → ComeAfter nodes before order → node.0 < length nodes → (IsIn node.0 before → ⊥) → (IsIn node.0 order → ⊥) → ((x : ℕ) → IsIn x (leads_in nodes node.0) → IsIn x order ⊎ IsIn x before)
     → ComeAfter nodes before (order ++ node ∷ [])
 after_more nodes before [] node a lt new other all = (lt, new, (λ x i. from x (all x i)), tt)
@@ -40,6 +41,7 @@ pub gone : (node : NodeNo) (order : List NodeNo) → IsIn node.0 order → (x : 
 gone node order i x (inl e) = inl (subst (λ (n : ℕ). IsIn n order) (sym e) i)
 gone node order i x (inr h) = absurd h
 
+-- what is in an order is in a longer one
 pub grown : (order : List NodeNo) (node : NodeNo) (x : ℕ) → IsIn x order → IsIn x (order ++ node ∷ [])
 grown order node x i = in_front x order (node ∷ []) i
 
@@ -61,12 +63,15 @@ roots_on nodes order later s old new grows replaced roots x lt = from (roots x l
 
 -- ---- leaving a node
 
+-- a step that leaves a node is one more of those not left
 pub leaves_with : (s : List Step) (node : NodeNo) → leaves_of (s ++ Leave node ∷ []) ≡ leaves_of s ++ node ∷ []
 leaves_with s node = stepping.leaves_append s (Leave node ∷ [])
 
+-- a step that enters a node is none of them
 pub leaves_same : (s : List Step) (node : NodeNo) → leaves_of (s ++ Enter node ∷ []) ≡ leaves_of s ++ []
 leaves_same s node = stepping.leaves_append s (Enter node ∷ [])
 
+-- steps into one number more
 pub roots_more : (s : List Step) (n m : ℕ) → n ≡ m → s ≡ enters (numbered m) → (s ++ Enter (record { 0 = n }) ∷ []) ≡ enters (numbered (m + 1))
 roots_more s n m same e =
     let one : m + 1 ≡ suc m = omega arith in

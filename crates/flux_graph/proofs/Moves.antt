@@ -1,12 +1,11 @@
 -- What holds of a search goes on holding as nodes are entered and left.
-use Rattle.std.proofs.Common.{◌≡◌, ◌<◌, ℕ, zero, suc, true, false, Bool, ◌||◌, ◌⊎◌, inl, inr, List, [], ◌∷◌, ◌++◌, length, Option, Some, None, refl, sym, ap, subst, ◌∙◌, eqb, arith, append_assoc}
+use Rattle.std.proofs.Common.{◌≡◌, ◌<◌, ℕ, true, false, Bool, ◌||◌, ◌⊎◌, inl, inr, List, [], ◌∷◌, ◌++◌, length, Option, Some, None, refl, sym, ap, subst, ◌∙◌, eqb, arith, append_assoc}
 use Rattle.std.proofs.lemmas.List.{append-nil}
 use Rattle.std.specs.List.{list_any, IsDistinct, AllByRecursion}
 use Rattle.std.proofs.lemmas.Bool.Decides.{nat_tests}
 use Rattle.flux_model.specs.declared.programs.NodeNo.{NodeNo}
 use Rattle.flux_model.specs.declared.programs.Node.{Node}
-use Rattle.flux_model.specs.Leading.{leads_to, leads_in}
-use Rattle.flux_model.specs.Numbered.{AreBelow}
+use Rattle.flux_model.specs.Leading.{leads_in}
 use Rattle.flux_model.specs.Children.{IsIn}
 use Rattle.flux_graph.specs.declared.steps.Step.{Step}
 use Rattle.flux_graph.specs.declared.steps.Step.TheVariants.{Enter, Leave}
@@ -14,7 +13,7 @@ use Rattle.flux_graph.specs.declared.ordering.Search.{Search}
 use Rattle.flux_graph.specs.steps.Visits.{IsKnown, with_number}
 use Rattle.flux_model.specs.Ordering.{AreDistinct}
 use Rattle.flux_graph.specs.steps.Searching.{enters, leaves_of}
-use Rattle.flux_graph.specs.steps.Search.{HasStep, Covered, FollowsOn, AreLed, Holds, left, entered, with_step}
+use Rattle.flux_graph.specs.steps.Search.{LeadToNodes, HasStep, Covered, FollowsOn, AreLed, Holds, left, entered, with_step}
 use Rattle.flux_graph.proofs.Visiting.{known_or, known_more, known_new}
 use Rattle.flux_model.proofs.LeadingLemmas.{led-below_count}
 use Rattle.flux_model.proofs.NodeLists.{in_front, in_behind, in_either}
@@ -27,6 +26,7 @@ in_same x a b e i = subst (IsIn x) e i
 
 -- ---- a step that has nothing to do
 
+-- a step into a node that was left is passed over
 pub skipped : (nodes : List Node) (s : Search) (node : NodeNo) → Holds nodes (with_step s (Enter node)) → IsKnown node.0 s.done → Holds nodes s
 skipped nodes s node h k = record {
   roots = λ x lt. subst (λ (t : List Step). IsIn x s.order ⊎ HasStep x t) (append-nil s.steps) (roots_on nodes s.order s.order s.steps old [] (λ y i. i) replaced h.roots x lt);
@@ -58,6 +58,7 @@ skipped nodes s node h k = record {
 
 -- ---- a node is left
 
+-- a node is left, and stands in the order
 pub node_left : (nodes : List Node) (s : Search) (node : NodeNo) → Holds nodes (with_step s (Leave node)) → Holds nodes (left s node)
 node_left nodes s node h = record {
   roots = λ x lt. subst (λ (t : List Step). IsIn x later ⊎ HasStep x t) (append-nil s.steps) (roots_on nodes s.order later s.steps old [] (grown s.order node) replaced h.roots x lt);
@@ -119,7 +120,8 @@ node_left nodes s node h = record {
 
 -- ---- a node is entered
 
-pub follows_below : (nodes : List Node) (from : Option ℕ) (x : ℕ) → AllByRecursion (λ node. AreBelow (length nodes) (leads_to node)) nodes → FollowsOn nodes from x → x < length nodes
+-- what a search comes to is a node
+pub follows_below : (nodes : List Node) (from : Option ℕ) (x : ℕ) → LeadToNodes nodes → FollowsOn nodes from x → x < length nodes
 follows_below nodes None x all f = f
 follows_below nodes (Some from) x all f = led-below_count (length nodes) nodes from x all f
 
@@ -137,6 +139,7 @@ distinct_snoc (m ∷ v) n (own, d) e = parts (eqb n m) (list_any (eqb n) v) refl
     parts false true i j o more = absurd cc
     parts false false i j o more = let turned : eqb m n ≡ false = grind (arith, nat_tests, i) in (unlike_more v m n own turned, more j)
 
+-- distinct numbers stay so where one is added
 pub distinct_more : (v : List ℕ) (n : ℕ) → IsDistinct eqb v → IsDistinct eqb (with_number v n)
 distinct_more v n d = one (list_any (eqb n) v) refl
   where
@@ -144,7 +147,8 @@ distinct_more v n d = one (list_any (eqb n) v) refl
     one true e = rw e d
     one false e = rw e (distinct_snoc v n d e)
 
-pub node_entered : (nodes : List Node) (s : Search) (node : NodeNo) → AllByRecursion (λ node. AreBelow (length nodes) (leads_to node)) nodes → Holds nodes (with_step s (Enter node)) → list_any (eqb node.0) s.entered ≡ false → Holds nodes (entered nodes s node)
+-- a new node is entered
+pub node_entered : (nodes : List Node) (s : Search) (node : NodeNo) → LeadToNodes nodes → Holds nodes (with_step s (Enter node)) → list_any (eqb node.0) s.entered ≡ false → Holds nodes (entered nodes s node)
 node_entered nodes s node all h new = record {
   roots = λ x lt. subst (λ (t : List Step). IsIn x s.order ⊎ HasStep x t) joined (roots_on nodes s.order s.order s.steps old next (λ y i. i) replaced h.roots x lt);
   covered = subst (Covered nodes s.order) joined (stepping.covered_on nodes s.order s.order s.steps old next (λ y i. i) replaced h.covered (λ x i. inr (stepping.step_into x into i), stepping.covered_enters nodes s.order into));
@@ -226,24 +230,30 @@ node_entered nodes s node all h new = record {
 
 -- ---- the last step is taken
 
+-- the search with other steps
 abbrev pub without : Search → List Step → Search
 without s rest = record { steps = rest; entered = s.entered; done = s.done; order = s.order }
 
+-- the search with its last step taken apart
 pub step_taken : (nodes : List Node) (s : Search) (rest : List Step) (step : Step) → s.steps ≡ rest ++ step ∷ [] → Holds nodes s → Holds nodes (with_step (without s rest) step)
 step_taken nodes s rest step e h = subst (Holds nodes) same h
   where
     same : s ≡ with_step (without s rest) step
     same = ap (λ (t : List Step). without s t) e
 
+-- a last step that leaves a node was taken
 pub took_leave : (nodes : List Node) (s new : Search) (rest : List Step) (step : Step) (node : NodeNo) → s.steps ≡ rest ++ step ∷ [] → step ≡ Leave node → new ≡ left (without s rest) node → Holds nodes s → Holds nodes new
 took_leave nodes s new rest step node e is gives h = subst (Holds nodes) (sym gives) (node_left nodes (without s rest) node (subst (λ (t : Step). Holds nodes (with_step (without s rest) t)) is (step_taken nodes s rest step e h)))
 
+-- a last step into a node that was left was taken
 pub took_known : (nodes : List Node) (s : Search) (rest : List Step) (step : Step) (node : NodeNo) → s.steps ≡ rest ++ step ∷ [] → step ≡ Enter node → IsKnown node.0 s.done → Holds nodes s → Holds nodes (without s rest)
 took_known nodes s rest step node e is k h = skipped nodes (without s rest) node (subst (λ (t : Step). Holds nodes (with_step (without s rest) t)) is (step_taken nodes s rest step e h)) k
 
+-- a last step into a node was taken
 pub took_enter : (nodes : List Node) (s : Search) (rest : List Step) (step : Step) (node : NodeNo) → s.steps ≡ rest ++ step ∷ [] → step ≡ Enter node → Holds nodes s → Holds nodes (with_step (without s rest) (Enter node))
 took_enter nodes s rest step node e is h = subst (λ (t : Step). Holds nodes (with_step (without s rest) t)) is (step_taken nodes s rest step e h)
 
+-- a number that isn't found among numbers isn't among them
 pub not_known : (x : ℕ) (v : List ℕ) → list_any (eqb x) v ≡ false → IsKnown x v → ⊥
 not_known x v unknown k = differ (sym unknown ∙ k)
   where

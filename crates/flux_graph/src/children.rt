@@ -2,6 +2,7 @@
 
 ghost use Rattle.std.specs.Prelude.{◌≡◌, ◌≤◌, ◌<◌, length, OnOk, IfOk};
 ghost use Rattle.std.specs.List.{flat_map};
+ghost use Rattle.flux_model.specs.declared.programs.TheConstants.{COUNT_LIMIT};
 ghost use Rattle.flux_model.specs.Leading.{members_of};
 ghost use Rattle.flux_model.specs.Numbered.{IsNumbered};
 ghost use Rattle.flux_model.specs.Ordering.{IsOrder};
@@ -17,7 +18,8 @@ use flux_values::{List, Memory};
 use std::alloc::Global;
 
 fn visit_cases(visits: &mut Visits, cases: &[Case]) -> Result<(), Memory>
-    ensures { OnOk result (visits.new ≡ with_all visits.old (flat_map (λ case. case.members) cases.now)) }
+    ensures { OnOk result
+        (visits.new ≡ with_all visits.old (flat_map (λ case. case.members) cases.now)) }
 {
     for case in cases {
         visits.add_all(case.members.as_slice())?;
@@ -54,7 +56,7 @@ fn descend(alloc: Global, p: &Program, order: &[NodeNo], top: NodeNo) -> Result<
 
 /// The numbers below a count that were visited, in rising order.
 fn rising(alloc: Global, visits: &Visits, count: usize) -> Result<List<NodeNo>, Memory>
-    requires few { count ≤ 1048576 }
+    requires few { count ≤ COUNT_LIMIT }
     ensures { IfOk result (λ nodes. nodes ≡ among visits.now count) }
 {
     let mut nodes = List::new(alloc);

@@ -5,6 +5,7 @@
 //! is on a cycle.
 
 ghost use Rattle.std.specs.Prelude.{◌≡◌, ◌≤◌, length, OnOk, IfOk, slice_get};
+ghost use Rattle.flux_model.specs.declared.programs.TheConstants.{COUNT_LIMIT};
 ghost use Rattle.flux_graph.specs.steps.Visits.{IsKnown, with_all};
 ghost use Rattle.flux_graph.specs.steps.Clearing.{leads_at, AreClosed, AreOnNoCycle, IsClearing};
 
@@ -29,7 +30,8 @@ fn visit_from(
     nodes: &[Node],
     place: usize,
 ) -> Result<(), Memory>
-    ensures { OnOk result (visits.new ≡ with_all visits.old (leads_at nodes.now (slice_get visits.old place))) }
+    ensures { OnOk result
+        (visits.new ≡ with_all visits.old (leads_at nodes.now (slice_get visits.old place))) }
 {
     match visits.get(place) {
         Some(number) => visits.add_all(leads_in(alloc, nodes, NodeNo(number))?.as_slice()),
@@ -74,9 +76,9 @@ impl Clearing {
     }
 }
 
-/// Nodes that are on no cycle.
+/// Nodes that are on no cycle: in this order all of them, but the contract says only that those given are.
 pub fn cleared(alloc: Global, nodes: &[Node]) -> Result<Visits, Memory>
-    requires few { length nodes.now ≤ 1048576 }
+    requires few { length nodes.now ≤ COUNT_LIMIT }
     ensures { IfOk result (AreOnNoCycle nodes.now) }
 {
     let mut clearing = Clearing {

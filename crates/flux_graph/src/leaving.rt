@@ -5,6 +5,7 @@
 //! node that is on no cycle. No answer rests on that: contracts say nothing of the order.
 
 ghost use Rattle.std.specs.Prelude.{◌≤◌, length};
+ghost use Rattle.flux_model.specs.declared.programs.TheConstants.{COUNT_LIMIT};
 
 use crate::steps::{Step, enter_all, enter_below};
 use crate::visits::Visits;
@@ -49,7 +50,7 @@ impl Leaving {
 
 /// For each node those that lead to it.
 fn leaders(alloc: Global, nodes: &[Node]) -> Result<Vec<Vec<NodeNo>>, Memory>
-    requires few { length nodes.now ≤ 1048576 }
+    requires few { length nodes.now ≤ COUNT_LIMIT }
 {
     let mut leaders = Vec::new(alloc);
     for _ in nodes {
@@ -67,7 +68,7 @@ fn leaders(alloc: Global, nodes: &[Node]) -> Result<Vec<Vec<NodeNo>>, Memory>
 
 /// The nodes, in the order in which the search leaves them.
 pub fn leaving_order(alloc: Global, nodes: &[Node]) -> Result<List<NodeNo>, Memory>
-    requires few { length nodes.now ≤ 1048576 }
+    requires few { length nodes.now ≤ COUNT_LIMIT }
 {
     let leaders = leaders(alloc, nodes)?;
     let mut search = Leaving {

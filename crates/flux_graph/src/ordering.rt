@@ -1,6 +1,7 @@
 //! An order of a program's nodes, or a cycle.
 
 ghost use Rattle.std.specs.Prelude.{◌≡◌, ◌≤◌, OnOk, IfOk, IfErr};
+ghost use Rattle.flux_model.specs.declared.programs.TheConstants.{COUNT_LIMIT};
 ghost use Rattle.flux_model.specs.Numbered.{IsNumbered};
 ghost use Rattle.flux_model.specs.Ordering.{IsOrder, HasCycle};
 ghost use Rattle.flux_graph.specs.declared.ordering.Stop.TheVariants as stops;
@@ -42,7 +43,7 @@ struct Search {
 impl Search {
     /// All nodes are still to be entered.
     fn begin(alloc: Global, count: usize) -> Result<Search, Memory>
-        requires few { count ≤ 1048576 }
+        requires few { count ≤ COUNT_LIMIT }
         ensures { IfOk result (IsBegun count) }
     {
         Ok(Search {
@@ -70,7 +71,8 @@ impl Search {
 
     /// The next node that is to be entered. Nodes with nothing left to enter are left on the way.
     fn next(&mut self, nodes: &[Node]) -> Result<Option<NodeNo>, Stop>
-        ensures found { Holds nodes.now self.old → IfOk result (IsNext nodes.now self.old self.new) }
+        ensures found { Holds nodes.now self.old
+            → IfOk result (IsNext nodes.now self.old self.new) }
         ensures cycle { Holds nodes.now self.old → IfErr result (IsCyclic nodes.now) }
     {
         while let Some(step) = self.steps.pop() {

@@ -1,10 +1,9 @@
 //! The way from a node back to it, and the cycle with the lowest number of all.
 
 ghost use Rattle.std.specs.Prelude.{◌≡◌, ◌≤◌, ◌<◌, ◌++◌, ◌∷◌, [], length, OnOk, IfOk};
-ghost use Rattle.std.specs.List.{AllByRecursion};
-ghost use Rattle.flux_model.specs.Leading.{leads_to};
-ghost use Rattle.flux_model.specs.Numbered.{AreBelow};
+ghost use Rattle.flux_model.specs.declared.programs.TheConstants.{COUNT_LIMIT};
 ghost use Rattle.flux_graph.specs.steps.Searching.{leaves_of};
+ghost use Rattle.flux_graph.specs.steps.Search.{LeadToNodes};
 ghost use Rattle.flux_model.specs.Ordering.{HasCycle, IsLowestCycle};
 ghost use Rattle.flux_graph.specs.steps.Clearing.{AreOnNoCycle};
 ghost use Rattle.flux_graph.specs.steps.Returning.{moved, Seeks, IsAfter, IsBack};
@@ -46,7 +45,8 @@ impl Return {
 
     /// The next node that hasn't been entered, or the one that the search began with.
     fn next(&mut self, nodes: &[Node], start: NodeNo) -> Option<NodeNo>
-        ensures { Seeks nodes.now start self.old → IsAfter nodes.now start self.old self.new result }
+        ensures { Seeks nodes.now start self.old
+            → IsAfter nodes.now start self.old self.new result }
     {
         while let Some(step) = self.steps.pop() {
             match step {
@@ -75,7 +75,7 @@ fn path_back(alloc: Global, steps: &[Step], start: NodeNo) -> Result<List<NodeNo
 
 /// A way from a node over what nodes lead to, back to the node.
 fn way_back(alloc: Global, nodes: &[Node], start: NodeNo) -> Result<Option<List<NodeNo>>, Memory>
-    requires numbered { AllByRecursion (λ node. AreBelow (length nodes.now) (leads_to node)) nodes.now }
+    requires numbered { LeadToNodes nodes.now }
     requires is_node { start.0 < length nodes.now }
     ensures { IfOk result (IsBack nodes.now start) }
 {
@@ -96,7 +96,7 @@ fn way_back_unless_cleared(
     cleared: &Visits,
     start: NodeNo,
 ) -> Result<Option<List<NodeNo>>, Memory>
-    requires numbered { AllByRecursion (λ node. AreBelow (length nodes.now) (leads_to node)) nodes.now }
+    requires numbered { LeadToNodes nodes.now }
     requires is_node { start.0 < length nodes.now }
     requires cleared { AreOnNoCycle nodes.now cleared.now }
     ensures { IfOk result (IsBack nodes.now start) }
@@ -109,8 +109,8 @@ fn way_back_unless_cleared(
 
 /// A cycle through the lowest-numbered node that is on any cycle.
 pub fn lowest_cycle(alloc: Global, nodes: &[Node]) -> Result<List<NodeNo>, Memory>
-    requires few { length nodes.now ≤ 1048576 }
-    requires numbered { AllByRecursion (λ node. AreBelow (length nodes.now) (leads_to node)) nodes.now }
+    requires few { length nodes.now ≤ COUNT_LIMIT }
+    requires numbered { LeadToNodes nodes.now }
     requires cycle { HasCycle nodes.now }
     ensures { IfOk result (IsLowestCycle nodes.now) }
 {

@@ -1,6 +1,7 @@
 //! The steps of a search in depth. They stand on a list, so a long chain of nodes takes no room of the machine's stack.
 
 ghost use Rattle.std.specs.Prelude.{◌≡◌, ◌≤◌, ◌++◌, OnOk, IfOk};
+ghost use Rattle.flux_model.specs.declared.programs.TheConstants.{COUNT_LIMIT};
 ghost use Rattle.flux_model.specs.Leading.{leads_in};
 ghost use Rattle.flux_graph.specs.steps.Searching.{enters, leaves_of, numbered};
 
@@ -27,7 +28,7 @@ pub fn leads_in(alloc: Global, nodes: &[Node], node: NodeNo) -> Result<List<Node
 
 /// Steps into all nodes below a count.
 pub fn enter_below(alloc: Global, count: usize) -> Result<List<Step>, Memory>
-    requires few { count ≤ 1048576 }
+    requires few { count ≤ COUNT_LIMIT }
     ensures { IfOk result (λ steps. steps ≡ enters (numbered count)) }
 {
     let mut steps = List::new(alloc);

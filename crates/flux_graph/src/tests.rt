@@ -1,6 +1,6 @@
 //! Orders, cycles and what is below, of small programs and of large ones.
 
-ghost use Rattle.std.specs.Prelude.{◌≡◌, IsTrue, IfOk};
+ghost use Rattle.std.specs.Prelude.{◌≡◌, ◌≤◌, IsTrue, IfOk};
 ghost use Rattle.flux_model.specs.Numbered.{AreBelow, ArePatternsBelow, IsNumbered};
 ghost use Rattle.flux_graph.specs.steps.Plain.{cases_of, AreUnpatterned, IsPlain, ArePlain};
 
@@ -300,26 +300,59 @@ fn a_chain_of_4096_nodes_has_an_order(rt: HostRuntime) -> Result<(), Fail> {
     Ok(())
 }
 
-/// Flows of 32 members, each of which leads to the 32 flows behind it; the last two lead to each other.
-#[test]
-fn the_one_cycle_at_the_end_of_4094_flows_is_found(rt: HostRuntime) -> Result<(), Fail> {
-    let alloc = rt.alloc();
+fn add_flow(alloc: Global, nodes: &mut List<Node>, members: List<NodeNo>) -> Result<(), Fail> {
+    nodes.push(node(alloc, one_case(alloc, members)?, "", "")?)?;
+    Ok(())
+}
+
+fn pair(alloc: Global, first: u32, second: u32) -> Result<List<NodeNo>, Memory> {
     let mut nodes = List::new(alloc);
-    for number in 0..4094_u32 {
+    nodes.add(NodeNo(first))?;
+    nodes.add(NodeNo(second))?;
+    Ok(nodes)
+}
+
+/// Flows of 32 members each, to the 32 behind, but to a last one in place of those at a count and past it.
+fn add_flows(alloc: Global, nodes: &mut List<Node>, count: u32, last: u32) -> Result<(), Fail>
+    requires { count ≤ 4096 }
+{
+    for number in 0..count {
         let mut members = List::new(alloc);
         for behind in 1..33 {
-            members.push(NodeNo(if number < 4093 {
-                (number + behind).min(4093)
-            } else {
-                4092
-            }))?;
+            let member = number + behind;
+            members.push(NodeNo(if member < count { member } else { last }))?;
         }
-        nodes.push(node(alloc, one_case(alloc, members)?, "", "")?)?;
+        add_flow(alloc, nodes, members)?;
     }
-    let mut path = List::new(alloc);
+    Ok(())
+}
+
+#[test]
+fn the_one_cycle_behind_4092_flows_is_found(rt: HostRuntime) -> Result<(), Fail> {
+    let alloc = rt.alloc();
+    let mut nodes = List::new(alloc);
+    add_flows(alloc, &mut nodes, 4092, 4092)?;
+    add_flow(alloc, &mut nodes, pair(alloc, 4093, 4093)?)?;
+    add_flow(alloc, &mut nodes, pair(alloc, 4092, 4092)?)?;
+    let mut path = pair(alloc, 4092, 4093)?;
     path.push(NodeNo(4092))?;
-    path.push(NodeNo(4093))?;
-    path.push(NodeNo(4092))?;
+    assert_cycle(&rt, alloc, &program(alloc, nodes), &path)?;
+    Ok(())
+}
+
+#[test]
+fn a_cycle_before_and_one_behind_4090_flows_are_told_from_them(
+    rt: HostRuntime,
+) -> Result<(), Fail> {
+    let alloc = rt.alloc();
+    let mut nodes = List::new(alloc);
+    add_flows(alloc, &mut nodes, 4090, 4092)?;
+    add_flow(alloc, &mut nodes, pair(alloc, 4091, 0)?)?;
+    add_flow(alloc, &mut nodes, pair(alloc, 4090, 4090)?)?;
+    add_flow(alloc, &mut nodes, pair(alloc, 4093, 4093)?)?;
+    add_flow(alloc, &mut nodes, pair(alloc, 4092, 4092)?)?;
+    let mut path = pair(alloc, 4090, 4091)?;
+    path.push(NodeNo(4090))?;
     assert_cycle(&rt, alloc, &program(alloc, nodes), &path)?;
     Ok(())
 }

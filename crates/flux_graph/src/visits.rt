@@ -37,10 +37,8 @@ impl Visits {
     pub fn add(&mut self, number: u32) -> Result<(), Memory>
         ensures { OnOk result (self.new ≡ with_number self.old number) }
     {
-        match self.set.insert_full(number) {
-            Ok(_) => Ok(()),
-            Err(_) => Err(Memory),
-        }
+        self.set.insert_full(number)?;
+        Ok(())
     }
 
     /// Adds the numbers of nodes, one after the other.

@@ -1,5 +1,5 @@
 -- How the reading of a text ends.
-use Rattle.std.proofs.Common.{◌≡◌, ℕ, ◌<◌, ◌≤◌, inl, inr, List, [], length, drop, refl, subst, ◌∙◌, arith}
+use Rattle.std.proofs.Common.{◌≡◌, ℕ, ◌<◌, ◌≤◌, inl, inr, List, length, drop, refl, subst, ◌∙◌, arith}
 use Rattle.std.proofs.lemmas.List.{length-drop, nil_from_length}
 use Rattle.flux_faults.specs.declared.faults.FaultKind.TheVariants.{BadByte, UnclosedComment}
 use Rattle.flux_lexer.specs.declared.kinds.Token.{Token}

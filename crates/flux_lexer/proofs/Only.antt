@@ -1,5 +1,5 @@
 -- A text is laid out in one way: it has its tokens or one fault.
-use Rattle.std.proofs.Common.{◌≡◌, ℕ, ◌+◌, inl, inr, List, [], ◌∷◌, ◌++◌, ◌<◌, ◌≤◌, length, drop, Result, Ok, Err, IfOk, IfErr, refl, sym, ap, subst, ◌∙◌, arith}
+use Rattle.std.proofs.Common.{◌≡◌, ℕ, ◌+◌, inl, inr, List, [], ◌∷◌, ◌++◌, ◌<◌, ◌≤◌, length, drop, Result, Err, IfErr, refl, sym, ap, subst, ◌∙◌, arith}
 use Rattle.flux_faults.specs.declared.faults.FaultKind.{FaultKind}
 use Rattle.flux_faults.specs.declared.faults.CheckFault.{CheckFault}
 use Rattle.flux_faults.specs.declared.faults.CheckFault.TheVariants.{Static}
@@ -8,7 +8,6 @@ use Rattle.flux_faults.specs.declared.places.TheConstants.{PLACE_LIMIT}
 use Rattle.flux_lexer.specs.declared.kinds.Token.{Token}
 use Rattle.flux_lexer.specs.declared.fronts.Front.{Front}
 use Rattle.flux_lexer.specs.declared.fronts.Front.TheVariants as fronts
-use Rattle.flux_lexer.specs.declared.reading.TheConstants.{PROGRAM_LIMIT}
 use Rattle.flux_lexer.specs.Pieces.{Piece, blank, remark, comment, token, Begins, BeginsNone, IsUnclosed}
 use Rattle.flux_lexer.specs.Texts.{Part, Laid, token_of, tokens_of, AreTokensOf, IsLaidUpTo, Stands, IsFaultOf, IsTokensOrMemory, IsFaultOrMemory}
 use Rattle.flux_lexer.proofs.Seen.{as_front, is_seen, nothing_begins, unclosed_is_no_piece}

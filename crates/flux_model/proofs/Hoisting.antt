@@ -7,20 +7,9 @@ use Rattle.flux_model.specs.declared.programs.ClassNo.{ClassNo}
 use Rattle.flux_model.specs.declared.programs.Hold.{Hold}
 use Rattle.flux_model.specs.declared.programs.Program.{Program}
 use Rattle.flux_model.specs.Modes.{at_least}
-use Rattle.flux_model.specs.Children.{IsWay, IsBelow}
+use Rattle.flux_model.specs.Children.{IsBelow}
 use Rattle.flux_model.specs.Locks.{declared, HasClass, DeclaresBelow, DeclaresPast, IsLocked, DeclaresHere, IsGreatest, AreLocksOf, Holds, AreLocks, HasAtLeast, IsClosed, HasDeclared, IsAtMost, IsLeastClosed}
-
-way_on : (p : Program) (from : ℕ) (first : List ℕ) (middle : ℕ) (second : List ℕ) (to : ℕ)
-    → IsWay p from first middle → IsWay p middle second to → IsWay p from (first ++ middle ∷ second) to
-way_on p from [] middle second to a b = (a, b)
-way_on p from (next ∷ first) middle second to a b = (a.0, way_on p next first middle second to a.1 b)
-
--- what is below a node below another is below that one
-pub below_below : (p : Program) (top middle node : ℕ) → IsBelow p top middle → IsBelow p middle node → IsBelow p top node
-below_below p top middle node a b = record {
-  between = a.between ++ middle ∷ b.between;
-  way = way_on p top a.between middle b.between node a.way b.way;
-}
+use Rattle.flux_model.proofs.BelowLemmas.{below-transitive}
 
 -- of three modes
 pub at_least_on : (a b c : Mode) → at_least a b ≡ true → at_least b c ≡ true → at_least a c ≡ true
@@ -47,7 +36,7 @@ module _ (p : Program) (locks : Holds) (are : AreLocks p locks) where
   -- from a node below, what it or one below it declares
   lifted : (top node : ℕ) (h : Hold) → IsBelow p top node → DeclaresHere p node h → (other : ℕ) × IsBelow p top other × Contains (declared p other) h
   lifted top node h below (inl declares) = (node, below, declares)
-  lifted top node h below (inr (other, further, declares)) = (other, below_below p top node other below further, declares)
+  lifted top node h below (inr (other, further, declares)) = (other, below-transitive p top node other below further, declares)
 
   closed : IsClosed p locks
   closed top node h own below has top_has le =

@@ -26,7 +26,10 @@ in_either x (n ∷ a) b (inr is) = more (in_either x a b is)
     more (inr i) = inr i
 
 -- what is among numbers below a count is below it
-pub in-below_count : (count x : ℕ) (numbers : List NodeNo) → AreBelow count numbers → IsIn x numbers → x < count
+pub in-below_count : (count x : ℕ) (numbers : List NodeNo) → AreBelow count numbers
+    → IsIn x numbers → x < count
 in-below_count count x [] below is = absurd is
-in-below_count count x (n ∷ numbers) (own, below) (inl e) = subst (λ (m : ℕ). m < count) (sym e) own
-in-below_count count x (n ∷ numbers) (own, below) (inr is) = in-below_count count x numbers below is
+in-below_count count x (n ∷ numbers) (own, below) (inl e) =
+    subst (λ (m : ℕ). m < count) (sym e) own
+in-below_count count x (n ∷ numbers) (own, below) (inr is) =
+    in-below_count count x numbers below is

@@ -23,4 +23,5 @@ pub mod Kinds
 pub mod Soundness
 pub mod Items
 pub mod Texts
+pub mod Types
 pub mod Examples

@@ -22,4 +22,4 @@ pub use programs::{
     Body, COUNT_LIMIT, Case, Class, ClassNo, HandleArm, Hold, Node, NodeNo, Program, SourceLine,
     SourceNo,
 };
-pub use signatures::{NodeSig, Sigs, TypeText};
+pub use signatures::{NodeSig, Sigs, TypeText, same_types};

@@ -1,5 +1,8 @@
 //! The types of nodes.
 
+ghost use Rattle.std.specs.Prelude.{◌≡◌};
+ghost use Rattle.flux_model.specs.Types.{same_types};
+
 use flux_values::{Kind, List, TextBytes};
 
 /// A type as it is spelled, and the kind that the library has for it.
@@ -19,4 +22,23 @@ pub struct NodeSig {
 #[derive(Debug, Drop)]
 pub struct Sigs {
     pub nodes: List<NodeSig>,
+}
+
+/// Whether types are spelled alike, in number and order.
+pub fn same_types(a: &[TypeText], b: &[TypeText]) -> bool
+    ensures { result ≡ same_types a.now b.now }
+{
+    let mut rest = a;
+    let mut left = b;
+    while let [ty, others @ ..] = rest {
+        let [other, more @ ..] = left else {
+            return false;
+        };
+        if ty.words.as_bytes() != other.words.as_bytes() {
+            return false;
+        }
+        rest = others;
+        left = more;
+    }
+    left.is_empty()
 }

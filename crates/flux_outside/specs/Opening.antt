@@ -3,6 +3,10 @@ use Rattle.std.specs.Prelude.{◌≡◌, ℕ, Result, Ok, Err}
 use Rattle.std.specs.declared.io.ErrorKind.{ErrorKind}
 use Rattle.std.specs.declared.io.ErrorKind.TheVariants.{NotFound, OutOfMemory}
 use Rattle.flux_outside.specs.Causes.{Rose}
+use Rattle.flux_outside.specs.declared.faults.StoreFault.{StoreFault}
+use Rattle.flux_outside.specs.declared.faults.StoreFault.TheVariants as faults
+use Rattle.flux_outside.specs.declared.stores.File.{File}
+use Rattle.flux_outside.specs.declared.stores.File.TheVariants as files
 use Rattle.flux_outside.specs.declared.system.NotOpened.{NotOpened}
 use Rattle.flux_outside.specs.declared.system.NotOpened.TheVariants.{Missing, Memory, Failed}
 
@@ -11,6 +15,12 @@ abbrev pub why_not : ErrorKind → NotOpened
 why_not NotFound = Missing
 why_not OutOfMemory = Memory
 why_not _ = Failed
+
+-- what a store answers then
+abbrev pub answer_for : NotOpened → Result File StoreFault
+answer_for Missing = Ok files.Missing
+answer_for Memory = Err faults.Memory
+answer_for Failed = Err faults.Failed
 
 -- the count of faults rose where the system failed, and else stands as before
 abbrev pub CountsReason : ℕ → ℕ → NotOpened → Type 0

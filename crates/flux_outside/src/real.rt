@@ -1,6 +1,7 @@
 //! The real streams and files: thin adapters, which tell nothing of what they hold.
 
-ghost use Rattle.std.specs.Prelude.{◌≡◌, ◌+◌, ◌≤◌, [], length, IfOk};
+ghost use Rattle.std.specs.Prelude.{◌≡◌, ◌+◌, ◌≤◌, [], length, IfOk, IfErr, OnOk, OnErr};
+ghost use Rattle.flux_outside.specs.Opening.{answer_for};
 ghost use Rattle.flux_outside.specs.Causes.{HasStoreCause};
 ghost use Rattle.flux_outside.specs.Stores.{FitsIn};
 ghost use Rattle.flux_outside.specs.Readers.{IsFileOf, TakesAtMost};
@@ -83,12 +84,30 @@ impl<R: Files> Store for RealStore<R> {
     ghost faults = { λ store. store.files.faults };
 
     fn read_file(&mut self, alloc: Global, name: &[u8], max: usize) -> Result<File, StoreFault> {
-        match self.files.open(name) {
-            Ok(mut file) => read_up_to(&mut self.files, alloc, &mut file, max),
-            Err(NotOpened::Missing) => Ok(File::Missing),
-            Err(NotOpened::Memory) => Err(StoreFault::Memory),
-            Err(NotOpened::Failed) => Err(StoreFault::Failed),
-        }
+        let opened = self.files.open(name);
+        read_opened(&mut self.files, alloc, opened, max)
+    }
+}
+
+/// All of a file that was opened, or the answer for one that wasn't.
+fn read_opened<R, F: Read + Drop>(
+    files: &mut SystemFiles<R>,
+    alloc: Global,
+    opened: Result<OpenFile<F>, NotOpened>,
+    max: usize,
+) -> Result<File, StoreFault>
+    ensures limit { IfOk result (FitsIn max) }
+    ensures whole { IfOk opened (λ file. IsFileOf (F.remaining file.reader) max result) }
+    ensures cause { OnOk opened (HasStoreCause files.old.faults files.new.faults result) }
+    ensures refused { IfErr opened (λ reason. result ≡ answer_for reason) }
+    ensures unread { OnErr opened (files.new.faults ≡ files.old.faults) }
+    ensures asked { files.new.asked ≡ files.old.asked }
+{
+    match opened {
+        Ok(mut file) => read_up_to(files, alloc, &mut file, max),
+        Err(NotOpened::Missing) => Ok(File::Missing),
+        Err(NotOpened::Memory) => Err(StoreFault::Memory),
+        Err(NotOpened::Failed) => Err(StoreFault::Failed),
     }
 }
 

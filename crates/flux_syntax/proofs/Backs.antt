@@ -22,11 +22,13 @@ use Rattle.flux_syntax.proofs.Printed.{Prints, prints_as, prints_end, prints_bla
 
 -- ---- names of symbols
 
+-- a name or a number is spelled as one
 abbrev pub IsGood : Symbol → Type 0
 IsGood (name word) = IsName word.text
 IsGood (digits word) = IsDigits word.text
 IsGood (mark kind) = Unit {0}
 
+-- all names and numbers are
 abbrev pub Good : List Symbol → Type 0
 Good s = AllByRecursion IsGood s
 
@@ -49,6 +51,7 @@ pub record Between (kind : TokenKind) (bytes : List ℕ) : Type 1 where
   pub back : (R : List Symbol → Type 0) (rest : List ℕ) → Prints R rest → Prints (After (λ _. mark kind) R) (bytes ++ rest)
   pub ends : (rest : List ℕ) → EndsWord (bytes ++ rest)
 
+-- the same things apart from places are in front
 abbrev pub Fronts : {A : Type 0} → (A → A) → (List A → List Symbol → Type 0) → List A → (List Symbol → Type 0) → List Symbol → Type 0
 Fronts {A} plain P xs R s = (ys : List A) × (a rest : List Symbol) × (s ≡ a ++ rest) × (map plain ys ≡ map plain xs) × P ys a × R rest
 
@@ -72,6 +75,7 @@ back_more {A} text plain P between bytes backs b R (x ∷ xs) s rest (a, c, is, 
     join s (at, r0, e0, (y, a1, r1, e1, same, py, (ys, a2, r2, e2, others, ms, r))) =
         (y ∷ ys, mark between ∷ (a1 ++ a2), r2, rw (e0, e1, e2) (ap (λ (l : List Symbol). mark between ∷ l) (sym (append_assoc a1 a2 r2))), rw (same, others) refl, (a1, a2, refl, py, ms), r)
 
+-- the text of a list has its symbols again
 pub back_listed : {A : Type 0} (text : A → List ℕ) (plain : A → A) (P : A → List Symbol → Type 0) (between : TokenKind) (bytes : List ℕ) → Backs text plain P → Between between bytes → (R : List Symbol → Type 0) (xs : List A) (s : List Symbol) (rest : List ℕ)
     → Listed P between xs s → Good s → EndsWord rest → Prints R rest → Prints (Fronts plain (Listed P between) xs R) (joined bytes text xs ++ rest)
 back_listed text plain P between bytes backs b R [] s rest h g ends p = absurd h
@@ -86,6 +90,7 @@ back_listed {A} text plain P between bytes backs b R (x ∷ xs) s rest (a, c, is
     join s (y, a1, r1, e1, same, py, (ys, a2, r2, e2, others, ms, r)) =
         (y ∷ ys, a1 ++ a2, r2, rw (e1, e2) (sym (append_assoc a1 a2 r2)), rw (same, others) refl, (a1, a2, refl, py, ms), r)
 
+-- the text of a list that may be empty has its symbols again
 pub back_maybe : {A : Type 0} (text : A → List ℕ) (plain : A → A) (P : A → List Symbol → Type 0) (between : TokenKind) (bytes : List ℕ) → Backs text plain P → Between between bytes → (R : List Symbol → Type 0) (xs : List A) (s : List Symbol) (rest : List ℕ)
     → Maybe P between xs s → Good s → EndsWord rest → Prints R rest → Prints (Fronts plain (Maybe P between) xs R) (joined bytes text xs ++ rest)
 back_maybe text plain P between bytes backs b R [] s rest none g ends p = prints_as (λ s r. ([], [], s, refl, refl, refl, r)) p
@@ -349,6 +354,7 @@ back_flow called patterns members R a rest (b, c, is, bs, cs) g p =
     (prints_blank 32 refl (prints_mark Equals 1 (codes "= " ++ (members_text members ++ (codes ";\n" ++ rest))) refl refl (prints_blank 32 refl
     (back_maybe word_text bare IsMember ThinArrow (codes " -> ") backs_member thin_arrow _ members c (codes ";\n" ++ rest) cs second.0 refl (prints_stop R rest p))))))))
 
+-- the line of a declaration has it again
 pub back_line : (d : Decl) → BackLine d
 back_line (decl.Signature called ins outs) = back_signature called ins outs
 back_line (decl.Flow called patterns members) = back_flow called patterns members
@@ -360,6 +366,7 @@ back_line (decl.Session source function) = back_session source function
 
 -- ---- all lines
 
+-- the lines of declarations have them again
 pub back_all : (decls : List Decl) (s : List Symbol) → IsProgram decls s → Good s → Prints (λ t. (others : List Decl) × (map bare_decl others ≡ map bare_decl decls) × IsProgram others t) (formatted decls)
 back_all [] s none g = prints_end ([], refl, refl)
 back_all (d ∷ decls) s (a, b, is, h, more) g =

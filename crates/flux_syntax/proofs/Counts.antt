@@ -74,6 +74,7 @@ decl_few (Atomic node constraints) s (a, is, listed) =
     omega (arith, listed_few IsConstraint (λ _. 1) _ constraint_few constraints a listed, ap length is, length-append a (mark CloseBrace ∷ mark Semicolon ∷ []))
 decl_few (Session source function) s is = omega (arith, ap length is)
 
+-- a program has no more words than symbols
 pub words_few : (decls : List Decl) (s : List Symbol) → IsProgram decls s → words_of decls ≤ length s
 words_few [] s is = omega arith
 words_few (d ∷ decls) s (a, b, is, h, more) = let rest = words_few decls b more in omega (arith, rest, decl_few d a h, length-append a b, ap length is)
@@ -89,6 +90,7 @@ decl_some (Handler node codes handler) = omega arith
 decl_some (Atomic node constraints) = omega arith
 decl_some (Session source function) = omega arith
 
+-- there are no more declarations than words
 pub decls_few : (decls : List Decl) → length decls ≤ words_of decls
 decls_few [] = omega arith
 decls_few (d ∷ decls) = let more = decls_few decls in omega (arith, more, decl_some d)

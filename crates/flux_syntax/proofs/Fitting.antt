@@ -34,6 +34,7 @@ fits_parts text at [] laid = record { lie = tt; few = omega arith }
 fits_parts text at (part ∷ parts) laid =
     fits_part text at part.piece part.length parts laid (fits_parts text (at + part.length) parts (subst (Laid parts []) (drop-drop part.length at text ∙ ap (λ (i : ℕ). drop i text) (omega arith)) laid.1))
 
+-- the tokens of a text lie in it, and are few
 pub fit : (text : List ℕ) (tokens : List Token) → AreTokensOf tokens text → Fit text tokens
 fit text tokens are =
     let fits = fits_parts text 0 are.parts are.laid in

@@ -40,6 +40,7 @@ good_part text at remark n parts laid more = more
 good_part text at comment n parts laid more = more
 good_part text at (token kind) n parts laid more = (good_token text at n kind laid.0, more)
 
+-- the names and numbers of a text are spelled as such
 pub good_parts : (text : List ℕ) (at : ℕ) (parts : List Part) → Laid parts [] (drop at text) → Good (map (symbol_of text) (tokens_of at parts))
 good_parts text at [] laid = tt
 good_parts text at (part ∷ parts) laid =
@@ -99,11 +100,13 @@ formatted_bare : (decls : List Decl) → formatted (map bare_decl decls) ≡ for
 formatted_bare [] = refl
 formatted_bare (d ∷ decls) = rw (line_bare d, formatted_bare decls) refl
 
+-- declarations that differ in places alone have one text
 pub same_text : (decls others : List Decl) → map bare_decl others ≡ map bare_decl decls → formatted others ≡ formatted decls
 same_text decls others alike = sym (formatted_bare others) ∙ ap formatted alike ∙ formatted_bare decls
 
 -- ---- the formatted text
 
+-- the formatted text has the declarations again, where it isn't too long
 pub gives : (decls : List Decl) → AreOfText decls → length (formatted decls) ≤ PROGRAM_LIMIT → Gives decls (formatted decls)
 gives decls of few =
     let good = subst (λ (l : List Token). Good (map (symbol_of of.text) l)) (sym of.declared.are.are) (good_parts of.text 0 of.declared.are.parts of.declared.are.laid) in

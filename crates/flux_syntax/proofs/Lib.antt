@@ -14,3 +14,4 @@ pub mod Backs
 pub mod Formats
 pub mod Soonest
 pub mod Standing
+pub mod NumberedNames

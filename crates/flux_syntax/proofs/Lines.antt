@@ -16,10 +16,12 @@ use Rattle.flux_syntax.proofs.Separated.{tell_listed, tell_maybe, tell_stars}
 
 -- ---- what lists are made of
 
+-- what the reader of parameters tells
 pub tell_param : Tells param_at IsParam
 tell_param = tell_as (tell_then tell_name λ ty. tell_then tell_stars λ stars. tell_then tell_name λ called. tell_done (record { ty = ty; stars = stars; name = called }))
     (λ p used (w, a, b, is, m, (n, a1, b1, is1, m1, (v, a2, b2, is2, m2, (e, none)))). rw (e, is, m, is1, m1, is2, m2, none) refl)
 
+-- what the reader of patterns tells
 pub tell_pattern : Tells pattern_at IsPattern
 tell_pattern = tell_if Wildcard
     (tell_as (tell_then (tell_mark Wildcard refl) λ _. tell_done None) (λ p used (u, a, b, is, m, (e, none)). rw (e, is, m, none) refl))
@@ -78,6 +80,7 @@ held called None c m s w (true, Some Writer, a, b, e, is, sc, af) = rw (e, w, is
 held called None c m s w (true, None, a, b, e, is, sc, af) = rw (e, w, is, sc, af) ([], inl refl, inl refl)
 held called None c m s w (false, after, a, b, e, is, sc, (none, nil)) = rw (e, w, is, sc, none, nil) ([], inl refl, refl)
 
+-- what the reader of constraints tells
 pub tell_constraint : Tells constraint_at IsConstraint
 tell_constraint = tell_as (tell_then tell_name λ called. tell_then tell_mode λ mode. tell_held called mode)
     (λ c used (called, a, b, is, m, (mode, a1, b1, is1, m1, h)). let all : used ≡ name called ∷ (a1 ++ b1) = rw (is, m, is1) refl in subst (IsConstraint c) (sym all) (held called mode c a1 b1 m1 h))
@@ -179,6 +182,7 @@ is_chosen (mark Bang ∷ rest) = refl
 is_chosen (mark ThinArrow ∷ rest) = refl
 is_chosen (mark Arrow ∷ rest) = refl
 
+-- what the reader of declarations tells
 pub tell_declaration : Tells declaration_at IsDeclaration
 tell_declaration = tell_same declaration_at is_chosen
     (tell_if Identifier tell_named (tell_if Source tell_source (tell_if Typedef tell_typedef (tell_if Handle tell_handler (tell_if Atomic tell_atomic (tell_if Session tell_session

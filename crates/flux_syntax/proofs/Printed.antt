@@ -26,6 +26,7 @@ seen_at blank at n text = []
 seen_at remark at n text = []
 seen_at comment at n text = []
 
+-- the symbols of parts, one after the other, from a place on
 abbrev pub seen : ℕ → List Part → List ℕ → List Symbol
 seen at [] text = []
 seen at (part ∷ parts) text = seen_at part.piece at part.length text ++ seen (at + part.length) parts (drop part.length text)

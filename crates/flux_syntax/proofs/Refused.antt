@@ -46,6 +46,7 @@ earlier at other text a (u ∷ b) d (t ∷ e) stops stop begun is =
     first : u ∷ b ≡ t ∷ (e ++ d) → u ≡ t
     first e = cc
 
+-- fault 4 stands at one place
 pub one_place : (at other : ℕ) (text : List ℕ) (tokens : List Token) → IsUnexpected at text tokens → IsUnexpected other text tokens → at ≡ other
 one_place at other text tokens a b = both (split a.before a.rest b.before b.rest (sym a.split ∙ b.split))
   where
@@ -134,6 +135,7 @@ within text tokens left (used, is, some, steady) = let p = parts text tokens use
     lengths [] = refl
     lengths (x ∷ l) = ap (λ (n : ℕ). suc n) (lengths l)
 
+-- no more symbols are left than there are tokens
 pub left_within : (text : List ℕ) (tokens : List Token) (left : List Symbol) → program_at (map (symbol_of text) tokens) ≡ stuck left → length left ≤ length tokens
 left_within text tokens left e = within text tokens left (subst (Told_of program_at IsProgram (map (symbol_of text) tokens)) e (told_program (map (symbol_of text) tokens)))
 
@@ -148,6 +150,7 @@ got_of text tokens decls (used, is, program, steady) = subst (IsProgram decls) (
 all : (text : List ℕ) (tokens : List Token) (decls : List Decl) → program_at (map (symbol_of text) tokens) ≡ got decls [] → Spell text tokens decls
 all text tokens decls e = got_of text tokens decls (subst (Told_of program_at IsProgram (map (symbol_of text) tokens)) e (told_program (map (symbol_of text) tokens)))
 
+-- what the parser got is spelled by the tokens
 pub spelled : (text : List ℕ) (tokens : List Token) (decls : List Decl) (left : List Symbol) → program_at (map (symbol_of text) tokens) ≡ got decls left → Spell text tokens decls
 spelled text tokens decls left e = all text tokens decls (e ∙ ap (λ (l : List Symbol). got decls l) (at_end (length (map (symbol_of text) tokens)) [] decls (map (symbol_of text) tokens) left e))
 

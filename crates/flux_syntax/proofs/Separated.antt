@@ -10,6 +10,7 @@ use Rattle.flux_syntax.proofs.Told.{head, some_same, none_same, Told_of, Told, t
 
 -- ---- one thing more
 
+-- the things so far and one more, which these symbols spell
 abbrev pub IsOnto : {A : Type 0} → (A → List Symbol → Type 0) → List A → List A → List Symbol → Type 0
 IsOnto {A} P items xs used = (x : A) × (xs ≡ items ++ x ∷ []) × P x used
 
@@ -23,9 +24,11 @@ told_onto {A} read P items ts told =
 
 -- ---- more things
 
+-- more things, as many as there can be
 abbrev pub more : {A : Type 0} → (List Symbol → Read A) → TokenKind → List A → List Symbol → Read (List A)
 more read between items ts = more_at read between (length ts) items ts
 
+-- one thing more, and then more things
 abbrev pub after : {A : Type 0} → (List Symbol → Read A) → TokenKind → List A → List Symbol → Read (List A)
 after read between items ts = onto read items ts >>= λ xs rest. more read between xs rest
 
@@ -59,6 +62,7 @@ more_after {A} read P between tells items t s e = rw e (went (onto read items s)
     went (got xs left) (used, is, p, steady) = enough read P between tells (length s) (length left) xs left (left_shorter s used left (length s) is (omega arith)) (omega arith)
     went (stuck left) told = refl
 
+-- the things so far and more, which these symbols spell
 abbrev pub IsMore : {A : Type 0} → (A → List Symbol → Type 0) → TokenKind → List A → List A → List Symbol → Type 0
 IsMore {A} P between items xs used = (new : List A) × (xs ≡ items ++ new) × More P between new used
 
@@ -90,6 +94,7 @@ told_more {A} read P between no_word tells (suc n) items (t ∷ rest) le = step 
 
 -- ---- whole lists
 
+-- of a list
 pub told_listed : {A : Type 0} (read : List Symbol → Read A) (P : A → List Symbol → Type 0) (between : TokenKind) → has_word between ≡ false → Tells read P → (ts : List Symbol) → Told (listed_at read between) (Listed P between) ts
 told_listed {A} read P between no_word tells ts =
     told_weaken (listed_at read between) (Both (IsOnto P []) (λ ys xs b. IsMore P between ys xs b)) (Listed P between) ts (listed_at read between ts) (λ xs used h. whole xs used h)
@@ -99,6 +104,7 @@ told_listed {A} read P between no_word tells ts =
     whole : (xs : List A) (used : List Symbol) → Both (IsOnto P []) (λ ys xs b. IsMore P between ys xs b) xs used → Listed P between xs used
     whole xs used (ys, a, b, is, (x, e, p), (new, f, m)) = let all : xs ≡ x ∷ new = rw (f, e) refl in rw all (a, b, is, p, m)
 
+-- the reader of a list tells it
 pub tell_listed : {A : Type 0} {read : List Symbol → Read A} {P : A → List Symbol → Type 0} {between : TokenKind} → has_word between ≡ false → Tells read P → Tells (listed_at read between) (Listed P between)
 tell_listed {read = read} {P = P} {between = between} no_word tells = record {
   told = told_listed read P between no_word tells;
@@ -107,6 +113,7 @@ tell_listed {read = read} {P = P} {between = between} no_word tells = record {
   some = (tells.spelled, [], sym (append-nil tells.spelled), tells.some, refl);
 }
 
+-- of a list that may be empty
 pub told_maybe : {A : Type 0} (read : List Symbol → Read A) (P : A → List Symbol → Type 0) (between : TokenKind) → has_word between ≡ false → Tells read P → (ts : List Symbol) → Told (maybe_at read between) (Maybe P between) ts
 told_maybe {A} read P between no_word tells ts =
     told_if Identifier (listed_at read between) (λ s. got [] s) (Maybe P between) ts
@@ -117,11 +124,13 @@ told_maybe {A} read P between no_word tells ts =
     whole [] used h = absurd h
     whole (x ∷ xs) used h = h
 
+-- the reader of a list that may be empty tells it
 pub tell_maybe : {A : Type 0} {read : List Symbol → Read A} {P : A → List Symbol → Type 0} {between : TokenKind} → has_word between ≡ false → Tells read P → Tells (maybe_at read between) (Maybe P between)
 tell_maybe {read = read} {P = P} {between = between} no_word tells = record { told = told_maybe read P between no_word tells; thing = []; spelled = []; some = refl }
 
 -- ---- stars
 
+-- of stars
 pub told_stars : (ts : List Symbol) → Told stars_at (λ n used. used ≡ stars n) ts
 told_stars [] = ([], refl, refl, λ other same. let none = none_same other same in rw none refl)
 told_stars (t ∷ rest) = step (of_kind Star t) refl (told_stars rest)
@@ -142,5 +151,6 @@ told_stars (t ∷ rest) = step (of_kind Star t) refl (told_stars rest)
         rw e (told_weaken stars_at (λ n used. (u : List Symbol) × (used ≡ t ∷ u) × Both (λ n used. used ≡ stars n) (λ n m b. (m ≡ suc n) × (b ≡ [])) n u) (λ n used. used ≡ stars n) (t ∷ rest) (stars_at rest >>= λ n left. got (suc n) left) (λ m used h. whole m used h own) behind)
     step false e told = rw e ([], refl, refl, λ other same. stays other same e)
 
+-- the reader of stars tells them
 pub tell_stars : Tells stars_at (λ n used. used ≡ stars n)
 tell_stars = record { told = told_stars; thing = 0; spelled = []; some = refl }

@@ -1,7 +1,6 @@
 -- What the lexer and the parser answer together of a text.
-use Rattle.std.proofs.Common.{◌≡◌, refl, ◌≤◌, ◌<◌, ◌+◌, ℕ, suc, List, [], ◌∷◌, ◌++◌, length, drop, map, Result, Ok, Err, IfOk, IfErr, inl, inr, sym, ap, subst, ◌∙◌, arith}
+use Rattle.std.proofs.Common.{◌≡◌, refl, ◌≤◌, ◌<◌, ℕ, suc, List, [], ◌∷◌, ◌++◌, length, map, Result, Ok, Err, IfOk, IfErr, inl, inr, sym, ap, subst, ◌∙◌, arith}
 use Rattle.std.specs.List.{AllByRecursion}
-use Rattle.std.proofs.lemmas.List.{drop-drop, length-drop}
 use Rattle.flux_faults.specs.declared.faults.FaultKind.{FaultKind}
 use Rattle.flux_faults.specs.declared.faults.FaultKind.TheVariants.{Unexpected}
 use Rattle.flux_faults.specs.declared.faults.CheckFault.{CheckFault}

@@ -8,24 +8,29 @@ use Rattle.flux_syntax.specs.declared.declarations.Word.{Word}
 use Rattle.flux_syntax.specs.Symbols.{Symbol, name, digits, mark, is, has_word, number}
 use Rattle.flux_syntax.specs.steps.Reading.{Read, got, stuck, ◌>>=◌, of_kind, begins, mark_at, name_at, number_at}
 
+-- the first symbol, if there is one
 abbrev pub head : List Symbol → Option Symbol
 head [] = None
 head (symbol ∷ rest) = Some symbol
 
+-- what a reader tells of symbols by what it answers
 abbrev pub Told_of : {A : Type 0} → (List Symbol → Read A) → (A → List Symbol → Type 0) → List Symbol → Read A → Type 0
 Told_of read P ts (got x rest) = (used : List Symbol) × (ts ≡ used ++ rest) × P x used × ((other : List Symbol) → head rest ≡ head other → read (used ++ other) ≡ got x other)
 Told_of {A} read P ts (stuck rest) =
     (used : List Symbol) × (ts ≡ used ++ rest) × ((x : A) × (more : List Symbol) × P x (used ++ more)) × ((t : Symbol) (left other : List Symbol) → rest ≡ t ∷ left → read (used ++ t ∷ other) ≡ stuck (t ∷ other))
 
+-- what a reader tells of symbols
 abbrev pub Told : {A : Type 0} → (List Symbol → Read A) → (A → List Symbol → Type 0) → List Symbol → Type 0
 Told read P ts = Told_of read P ts (read ts)
 
 -- ---- heads
 
+-- symbols with the same next one begin alike behind the same ones
 pub head_append : (used rest other : List Symbol) → head rest ≡ head other → head (used ++ rest) ≡ head (used ++ other)
 head_append [] rest other same = same
 head_append (t ∷ used) rest other same = refl
 
+-- what is in two equal options is equal
 pub some_same : {A : Type 0} (a b : A) → ◌≡◌ {A = Option A} (Some a) (Some b) → a ≡ b
 some_same {A} a b e = ap (λ (o : Option A). pick a o) e
   where
@@ -33,12 +38,14 @@ some_same {A} a b e = ap (λ (o : Option A). pick a o) e
     pick a (Some x) = x
     pick a None = a
 
+-- whether a mark is next hangs on the next symbol alone
 pub begins_same : (kind : TokenKind) (rest other : List Symbol) → head rest ≡ head other → begins kind rest ≡ begins kind other
 begins_same kind [] [] same = refl
 begins_same kind [] (t ∷ other) same = absurd cc
 begins_same kind (s ∷ rest) [] same = absurd cc
 begins_same kind (s ∷ rest) (t ∷ other) same = ap (of_kind kind) (some_same s t same)
 
+-- where no symbol is next, there is none
 pub none_same : (other : List Symbol) → head [] ≡ head other → other ≡ []
 none_same [] same = refl
 none_same (t ∷ other) same = absurd cc
@@ -98,12 +105,14 @@ kind_back_of ThinArrow = refl
 kind_back_of Arrow = refl
 kind_back_of Number = refl
 
+-- kinds with one number are one kind
 pub same_kind : (a b : TokenKind) → is a b ≡ true → a ≡ b
 same_kind a b e = sym (kind_back_of a) ∙ ap kind_back (numbers (number a) (number b) e) ∙ kind_back_of b
   where
     numbers : (n m : ℕ) → eqb n m ≡ true → n ≡ m
     numbers n m e = grind (arith, nat_tests)
 
+-- a kind is itself
 pub is_itself : (k : TokenKind) → is k k ≡ true
 is_itself k = grind (arith, nat_tests)
 
@@ -133,18 +142,22 @@ told_head read other P ts (got x rest) same (used, is, p, steady) =
 told_head read other P ts (stuck rest) same (used, is, some, steady) =
     (used, is, some, λ t left more e. same (used ++ t ∷ more) (ap head is ∙ head_append used rest (t ∷ more) (ap head e)) ∙ steady t left more e)
 
+-- a reader that reads the same where the next symbol is the same tells the same
 pub told_as : {A : Type 0} (read other : List Symbol → Read A) (P : A → List Symbol → Type 0) (ts : List Symbol) → ((s : List Symbol) → head ts ≡ head s → read s ≡ other s) → Told other P ts → Told read P ts
 told_as read other P ts same told = subst (Told_of read P ts) (sym (same ts refl)) (told_head read other P ts (other ts) same told)
 
+-- what follows from what is told is told
 pub told_weaken : {A : Type 0} (read : List Symbol → Read A) (P Q : A → List Symbol → Type 0) (ts : List Symbol) (r : Read A) → ((x : A) (used : List Symbol) → P x used → Q x used) → Told_of read P ts r → Told_of read Q ts r
 told_weaken read P Q ts (got x rest) weak (used, is, p, steady) = (used, is, weak x used p, steady)
 told_weaken read P Q ts (stuck rest) weak (used, is, (x, more, p), steady) = (used, is, (x, more, weak x (used ++ more) p), steady)
 
 -- ---- single symbols
 
+-- of a reader that reads nothing
 pub told_done : {A : Type 0} (x : A) (P : A → List Symbol → Type 0) (ts : List Symbol) → P x [] → Told (λ s. got x s) P ts
 told_done x P ts p = ([], refl, p, λ other same. refl)
 
+-- of a mark
 pub told_mark : (kind : TokenKind) (ts : List Symbol) → has_word kind ≡ false → Told (mark_at kind) (λ _ used. used ≡ mark kind ∷ []) ts
 told_mark kind [] no_word = ([], refl, (tt, mark kind ∷ [], refl), λ t left other e. absurd cc)
 told_mark kind (t ∷ rest) no_word = step (of_kind kind t) refl
@@ -160,6 +173,7 @@ no_place = record { text = []; at = 0 }
 told_other : (ts : List Symbol) → name_at ts ≡ stuck ts → ((t : Symbol) (left other : List Symbol) → ts ≡ t ∷ left → name_at (t ∷ other) ≡ stuck (t ∷ other)) → Told_of name_at (λ word used. used ≡ name word ∷ []) ts (stuck ts)
 told_other ts e stays = ([], refl, (no_place, name no_place ∷ [], refl), stays)
 
+-- of a name
 pub told_name : (ts : List Symbol) → Told name_at (λ word used. used ≡ name word ∷ []) ts
 told_name [] = told_other [] refl (λ t left other e. absurd cc)
 told_name (name word ∷ rest) = (name word ∷ [], refl, refl, λ other same. refl)
@@ -180,6 +194,7 @@ told_name (mark kind ∷ rest) = told_other (mark kind ∷ rest) refl stays
 told_no_number : (ts : List Symbol) → number_at ts ≡ stuck ts → ((t : Symbol) (left other : List Symbol) → ts ≡ t ∷ left → number_at (t ∷ other) ≡ stuck (t ∷ other)) → Told_of number_at (λ word used. used ≡ digits word ∷ []) ts (stuck ts)
 told_no_number ts e stays = ([], refl, (no_place, digits no_place ∷ [], refl), stays)
 
+-- of a number
 pub told_number : (ts : List Symbol) → Told number_at (λ word used. used ≡ digits word ∷ []) ts
 told_number [] = told_no_number [] refl (λ t left other e. absurd cc)
 told_number (digits word ∷ rest) = (digits word ∷ [], refl, refl, λ other same. refl)
@@ -198,6 +213,7 @@ told_number (mark kind ∷ rest) = told_no_number (mark kind ∷ rest) refl stay
 
 -- ---- one after the other
 
+-- first one thing and then another
 abbrev pub Both : {A B : Type 0} → (A → List Symbol → Type 0) → (A → B → List Symbol → Type 0) → B → List Symbol → Type 0
 Both {A} P Q y used = (x : A) × (a b : List Symbol) × (used ≡ a ++ b) × P x a × Q x y b
 
@@ -222,12 +238,14 @@ seq_of read f P Q ts (got x rest) (used, is, p, steady) second some = then_told 
 seq_of read f P Q ts (stuck rest) (used, is, (x, more, p), steady) second some =
     (used, is, ((some x).0, more ++ (some x).1, (x, used ++ more, (some x).1, sym (append_assoc used more (some x).1), p, (some x).2)), λ t left other e. ap (λ (r : Read _). r >>= f) (steady t left other e))
 
+-- one reader after another tells both
 pub seq : {A B : Type 0} (read : List Symbol → Read A) (f : A → List Symbol → Read B) (P : A → List Symbol → Type 0) (Q : A → B → List Symbol → Type 0) (ts : List Symbol)
     → Told read P ts → ((x : A) (used rest : List Symbol) → ts ≡ used ++ rest → P x used → Told (f x) (Q x) rest) → ((x : A) → (y : B) × (b : List Symbol) × Q x y b) → Told (λ s. read s >>= f) (Both P Q) ts
 seq read f P Q ts first second some = seq_of read f P Q ts (read ts) first second some
 
 -- ---- a choice by the next symbol
 
+-- of a choice by the next symbol
 pub told_if : {A : Type 0} (kind : TokenKind) (this that : List Symbol → Read A) (P : A → List Symbol → Type 0) (ts : List Symbol) → (begins kind ts ≡ true → Told this P ts) → (begins kind ts ≡ false → Told that P ts) → Told (λ s. if begins kind s then this s else that s) P ts
 told_if {A} kind this that P ts on_this on_that = step (begins kind ts) refl
   where
@@ -237,6 +255,7 @@ told_if {A} kind this that P ts on_this on_that = step (begins kind ts) refl
 
 -- ---- a symbol before
 
+-- of a reader behind a symbol
 pub told_behind : {A : Type 0} (read inner : List Symbol → Read A) (P : A → List Symbol → Type 0) (t : Symbol) (rest : List Symbol) (r : Read A) → ((s : List Symbol) → read (t ∷ s) ≡ inner s) → Told_of inner P rest r → Told_of read (λ x used. (u : List Symbol) × (used ≡ t ∷ u) × P x u) (t ∷ rest) r
 told_behind read inner P t rest (got x left) same (used, is, p, steady) = (t ∷ used, ap (λ (l : List Symbol). t ∷ l) is, (used, refl, p), λ other heads. same (used ++ other) ∙ steady other heads)
 told_behind read inner P t rest (stuck left) same (used, is, (x, more, p), steady) =
@@ -251,21 +270,27 @@ pub record Tells {A : Type 0} (read : List Symbol → Read A) (P : A → List Sy
   pub spelled : List Symbol
   pub some : P thing spelled
 
+-- a thing is at hand, and no symbols are read
 abbrev pub Nothing_more : {A : Type 0} → A → A → List Symbol → Type 0
 Nothing_more x y b = (y ≡ x) × (b ≡ [])
 
+-- the reader of nothing
 pub tell_done : {A : Type 0} (x : A) → Tells (λ s. got x s) (Nothing_more x)
 tell_done x = record { told = λ ts. told_done x (Nothing_more x) ts (refl, refl); thing = x; spelled = []; some = (refl, refl) }
 
+-- the reader of a mark
 pub tell_mark : (kind : TokenKind) → has_word kind ≡ false → Tells (mark_at kind) (λ _ used. used ≡ mark kind ∷ [])
 tell_mark kind no_word = record { told = λ ts. told_mark kind ts no_word; thing = tt; spelled = mark kind ∷ []; some = refl }
 
+-- the reader of a name
 pub tell_name : Tells name_at (λ word used. used ≡ name word ∷ [])
 tell_name = record { told = told_name; thing = record { text = []; at = 0 }; spelled = name (record { text = []; at = 0 }) ∷ []; some = refl }
 
+-- the reader of a number
 pub tell_number : Tells number_at (λ word used. used ≡ digits word ∷ [])
 tell_number = record { told = told_number; thing = no_place; spelled = digits no_place ∷ []; some = refl }
 
+-- one reader after another
 pub tell_then : {A B : Type 0} {read : List Symbol → Read A} {f : A → List Symbol → Read B} {P : A → List Symbol → Type 0} {Q : A → B → List Symbol → Type 0} → Tells read P → ((x : A) → Tells (f x) (Q x)) → Tells (λ s. read s >>= f) (Both P Q)
 tell_then {read = read} {f = f} {P = P} {Q = Q} first second = record {
   told = λ ts. seq read f P Q ts (first.told ts) (λ x used rest is p. (second x).told rest) (λ x. ((second x).thing, (second x).spelled, (second x).some));
@@ -274,6 +299,7 @@ tell_then {read = read} {f = f} {P = P} {Q = Q} first second = record {
   some = (first.thing, first.spelled, (second first.thing).spelled, refl, first.some, (second first.thing).some);
 }
 
+-- a choice of readers by the next symbol
 pub tell_if : {A : Type 0} (kind : TokenKind) {one other : List Symbol → Read A} {P : A → List Symbol → Type 0} → Tells one P → Tells other P → Tells (λ s. if begins kind s then one s else other s) P
 tell_if kind {one = one} {other = other} {P = P} first second = record {
   told = λ ts. told_if kind one other P ts (λ e. first.told ts) (λ e. second.told ts);
@@ -282,6 +308,7 @@ tell_if kind {one = one} {other = other} {P = P} first second = record {
   some = second.some;
 }
 
+-- a reader tells what follows from what it tells
 pub tell_as : {A : Type 0} {read : List Symbol → Read A} {P Q : A → List Symbol → Type 0} → Tells read P → ((x : A) (used : List Symbol) → P x used → Q x used) → Tells read Q
 tell_as {read = read} {P = P} {Q = Q} tells weak = record {
   told = λ ts. told_weaken read P Q ts (read ts) weak (tells.told ts);
@@ -290,6 +317,7 @@ tell_as {read = read} {P = P} {Q = Q} tells weak = record {
   some = weak tells.thing tells.spelled tells.some;
 }
 
+-- equal readers tell the same
 pub tell_same : {A : Type 0} (read : List Symbol → Read A) {other : List Symbol → Read A} {P : A → List Symbol → Type 0} → ((s : List Symbol) → read s ≡ other s) → Tells other P → Tells read P
 tell_same read {other = other} {P = P} same tells = record {
   told = λ ts. told_as read other P ts (λ s heads. same s) (tells.told ts);
@@ -298,5 +326,6 @@ tell_same read {other = other} {P = P} same tells = record {
   some = tells.some;
 }
 
+-- a reader that is always stuck, of something that could have been read
 pub tell_stuck : {A : Type 0} {P : A → List Symbol → Type 0} (thing : A) (spelled : List Symbol) → P thing spelled → Tells {A = A} (λ s. stuck s) P
 tell_stuck thing spelled some = record { told = λ ts. ([], refl, (thing, spelled, some), λ t left other e. refl); thing = thing; spelled = spelled; some = some }

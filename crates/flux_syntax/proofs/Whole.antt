@@ -37,6 +37,7 @@ more_whole read P between Ends no_word gets (suc n) items (x ∷ xs) s rest (a, 
     let got_one = gets.whole x a (b ++ rest) p (ends_behind read P between Ends gets xs b rest m ends) in
     rw (is, own, append_assoc a b rest, got_one) (more_whole read P between Ends no_word gets n (items ++ x ∷ []) xs b rest m ends other le_n ∙ ap (λ (l : List _). got l rest) (append_assoc items (x ∷ []) xs))
 
+-- a list that is spelled is read
 pub listed_whole : {A : Type 0} (read : List Symbol → Read A) (P : A → List Symbol → Type 0) (between : TokenKind) (Ends : List Symbol → Type 0) → has_word between ≡ false → Gets read P between Ends → (xs : List A) (s rest : List Symbol)
     → Listed P between xs s → Ends rest → begins between rest ≡ false → listed_at read between (s ++ rest) ≡ got xs rest
 listed_whole read P between Ends no_word gets [] s rest h ends other = absurd h
@@ -44,6 +45,7 @@ listed_whole read P between Ends no_word gets (x ∷ xs) s rest (a, b, is, p, m)
     let got_one = gets.whole x a (b ++ rest) p (ends_behind read P between Ends gets xs b rest m ends) in
     rw (is, append_assoc a b rest, got_one) (more_whole read P between Ends no_word gets (length (b ++ rest)) (x ∷ []) xs b rest m ends other (omega arith))
 
+-- a list that may be empty is read where it is spelled
 pub maybe_whole : {A : Type 0} (read : List Symbol → Read A) (P : A → List Symbol → Type 0) (between : TokenKind) (Ends : List Symbol → Type 0) → has_word between ≡ false → Gets read P between Ends → ((x : A) (a rest : List Symbol) → P x a → begins Identifier (a ++ rest) ≡ true) → (xs : List A) (s rest : List Symbol)
     → Maybe P between xs s → Ends rest → begins between rest ≡ false → begins Identifier rest ≡ false → maybe_at read between (s ++ rest) ≡ got xs rest
 maybe_whole read P between Ends no_word gets starts [] s rest none ends other no_one = rw (none, no_one) refl
@@ -148,6 +150,7 @@ atomic_whole node constraints s rest (a, is, cs) =
     let list = listed_whole constraint_at IsConstraint Comma Quiet refl gets_constraint constraints a (mark CloseBrace ∷ mark Semicolon ∷ rest) cs (record { question = refl; bang = refl; paren = refl }) refl in
     rw (is, append_assoc a (mark CloseBrace ∷ mark Semicolon ∷ []) rest, list) refl
 
+-- a declaration that is spelled is read
 pub declaration_whole : (d : Decl) (s rest : List Symbol) → IsDeclaration d s → declaration_at (s ++ rest) ≡ got d rest
 declaration_whole (decl.Signature called ins outs) s rest h = signature_whole called ins outs s rest h
 declaration_whole (decl.Flow called patterns members) s rest h = flow_whole called patterns members s rest h

@@ -3,9 +3,10 @@ use Rattle.std.proofs.Common.{◌≡◌, ◌≤◌, ◌-◌, ◌&&◌, suc, Bool
 use Rattle.std.specs.List.{slice_get}
 use Rattle.std.proofs.lemmas.List.{take_all}
 use Rattle.flux_model.specs.declared.signatures.NodeSig.{NodeSig}
+use Rattle.flux_model.specs.Types.{same_types}
 use Rattle.flux_syntax.specs.declared.declarations.Word.{Word}
 use Rattle.flux_types.specs.Signatures.{last_of}
-use Rattle.flux_types.specs.Rows.{WordSigs, same_types, is_like_node}
+use Rattle.flux_types.specs.Rows.{WordSigs, is_like_node}
 
 -- the last of others, where there are any
 pub last_some : {A : Type 0} (first : A) (others : List A) (last : A)

@@ -9,17 +9,8 @@ use Rattle.flux_model.specs.declared.programs.Body.TheVariants.{Concrete, Abstra
 use Rattle.flux_model.specs.Leading.{members_of, handlers_of}
 use Rattle.flux_model.specs.Children.{IsIn}
 use Rattle.flux_model.specs.Nested.{LooksDown}
+use Rattle.flux_model.proofs.NodeLists.{in_front, in_behind}
 use Rattle.flux_types.specs.Signatures.{last_of, case_sig, cases_sig, body_sig, sig_by}
-
--- what is in the first of two lists is in both
-pub in_front : (x : ℕ) (a b : List NodeNo) → IsIn x a → IsIn x (a ++ b)
-in_front x [] b is = absurd is
-in_front x (n ∷ a) b (inl e) = inl e
-in_front x (n ∷ a) b (inr i) = inr (in_front x a b i)
-
-in_behind : (x : ℕ) (a b : List NodeNo) → IsIn x b → IsIn x (a ++ b)
-in_behind x [] b is = is
-in_behind x (n ∷ a) b is = inr (in_behind x a b is)
 
 last_in : (first : NodeNo) (members : List NodeNo) → let last = last_of first members in IsIn last.0 (first ∷ members)
 last_in first [] = inl refl

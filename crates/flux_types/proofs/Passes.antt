@@ -7,14 +7,16 @@ use Rattle.flux_values.specs.Meanings.{LibraryMeaning}
 use Rattle.flux_model.specs.declared.programs.Class.{Class}
 use Rattle.flux_syntax.specs.declared.declarations.Word.{Word}
 use Rattle.flux_model.specs.declared.signatures.NodeSig.{NodeSig}
+use Rattle.flux_model.specs.Types.{same_types}
 use Rattle.flux_syntax.specs.declared.declarations.Decl.{Decl}
 use Rattle.flux_syntax.specs.declared.declarations.Decl.TheVariants.{Signature, Flow, Source, Typedef, Atomic, Session}
 use Rattle.flux_syntax.specs.Words.{known, naming, and_name, names_after, names_of, unless_known, first_words_after, first_words, texts_of, defined, targeted}
 use Rattle.flux_syntax.specs.ProgramOfText.{node_of, body_of, classes_of, source_of, places}
 use Rattle.flux_syntax.specs.Least.{sooner, soonest}
 use Rattle.flux_syntax.proofs.Soonest.{soonest_append}
+use Rattle.flux_syntax.proofs.NumberedNames.{texts, names_are_first}
 use Rattle.flux_types.specs.declared.flows.FlowPlaces.{FlowPlaces}
-use Rattle.flux_types.specs.Rows.{WordSigs, word_sig, same_types, Predicates, is_hollow, hollow_node, no_signatures, unjoined_in, miscounted_in, unlike_node_in, unlike_predicates_in, unlike_target, unlike_source}
+use Rattle.flux_types.specs.Rows.{WordSigs, word_sig, Predicates, is_hollow, hollow_node, no_signatures, unjoined_in, miscounted_in, unlike_node_in, unlike_predicates_in, unlike_target, unlike_source}
 use Rattle.flux_types.specs.Signatures.{nodes_of}
 use Rattle.flux_types.specs.steps.Passing.{hollow_places, target_places, flow_passed, session_passed}
 
@@ -70,31 +72,6 @@ module _ (names : List (List ℕ)) (sigs : ℕ → NodeSig) (all : List Decl) wh
   targets_pass (other ∷ decls) place = targets_pass decls place
 
 -- ---- nodes
-
-abbrev texts : List Word → List (List ℕ)
-texts words = map (λ word. word.text) words
-
-texts-append : (a b : List Word) → texts (a ++ b) ≡ texts a ++ texts b
-texts-append [] b = refl
-texts-append (w ∷ a) b = ap (λ (l : List (List ℕ)). w.text ∷ l) (texts-append a b)
-
-names_first : (names : List (List ℕ)) (decls : List Decl) → names_after names decls ≡ names ++ texts (first_words_after names decls)
-names_first names [] = sym (append-nil names)
-names_first names (d ∷ decls) = one (naming d) (λ others. names_first others decls)
-  where
-    named : (word : Word) (t : Bool) → ((others : List (List ℕ)) → names_after others decls ≡ others ++ texts (first_words_after others decls))
-        → names_after (if t then names else names ++ word.text ∷ []) decls ≡ names ++ texts ((if t then [] else word ∷ []) ++ first_words_after (if t then names else names ++ word.text ∷ []) decls)
-    named word true all = all names
-    named word false all = all (names ++ word.text ∷ []) ∙ append_assoc names (word.text ∷ []) (texts (first_words_after (names ++ word.text ∷ []) decls))
-
-    one : (found : Option Word) → ((others : List (List ℕ)) → names_after others decls ≡ others ++ texts (first_words_after others decls))
-        → names_after (and_name names found) decls ≡ names ++ texts (unless_known names found ++ first_words_after (and_name names found) decls)
-    one None all = all names
-    one (Some word) all = named word (known names word.text) all
-
--- the names of nodes are those of their first naming lines
-pub names_are_first : (decls : List Decl) → names_of decls ≡ texts (first_words decls)
-names_are_first decls = names_first [] decls
 
 module _ (names types : List (List ℕ)) (classes : List Class) (decls : List Decl) where
   abbrev hollow : Word → List Word

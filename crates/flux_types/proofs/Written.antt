@@ -13,6 +13,7 @@ use Rattle.flux_model.specs.declared.programs.Body.TheVariants.{Concrete, Abstra
 use Rattle.flux_model.specs.Leading.{members_of, handlers_of, leads_in}
 use Rattle.flux_model.specs.Children.{IsIn}
 use Rattle.flux_model.specs.Nested.{for_node, nested}
+use Rattle.flux_model.proofs.NodeLists.{in_front}
 use Rattle.flux_model.specs.Kinds.{sig_or_none, sig_at}
 use Rattle.flux_model.specs.Ordering.{IsOrder}
 use Rattle.flux_syntax.specs.declared.declarations.Decl.{Decl}
@@ -23,7 +24,7 @@ use Rattle.flux_graph.proofs.Depths.{through-rule}
 use Rattle.flux_graph.proofs.Fillings.{Puts, length-filled, slice_get-filled}
 use Rattle.flux_types.specs.Signatures.{Kinds, nothing, line_sig, written, cases_sig, sig_by, nodes_of, sig_of, AreSigs}
 use Rattle.flux_types.specs.steps.Filling.{put_line, put_lines, put_body, put_found, put_node}
-use Rattle.flux_types.proofs.Looking.{in_front, cases_same, sigs_look_down}
+use Rattle.flux_types.proofs.Looking.{cases_same, sigs_look_down}
 
 -- ---- what lines write
 

@@ -10,6 +10,7 @@ use Rattle.flux_model.specs.declared.programs.Body.TheVariants.{Concrete, Abstra
 use Rattle.flux_model.specs.declared.programs.NodeNo.{NodeNo}
 use Rattle.flux_model.specs.declared.signatures.TypeText.{TypeText}
 use Rattle.flux_model.specs.declared.signatures.NodeSig.{NodeSig}
+use Rattle.flux_model.specs.Types.{same_types}
 use Rattle.flux_faults.specs.declared.faults.FaultKind.TheVariants.{NoSignature, JoinTypes, CaseCount, CaseTypes, PredicateType, SourceTypes, SessionTypes}
 use Rattle.flux_syntax.specs.declared.declarations.Word.{Word}
 use Rattle.flux_syntax.specs.declared.declarations.Decl.{Decl}
@@ -30,12 +31,6 @@ abbrev pub sigs_of : LibraryMeaning → List Decl → WordSigs
 sigs_of meaning decls = word_sig (names_of decls) (sig_of meaning.kind decls)
 
 -- ---- comparing
-
--- the same types, as they are spelled
-abbrev pub same_types : List TypeText → List TypeText → Bool
-same_types [] [] = true
-same_types (a ∷ as_) (b ∷ bs) = bytes_eq a.words b.words && same_types as_ bs
-same_types as_ bs = false
 
 abbrev pub same_kind : Kind → Kind → Bool
 same_kind kinds.Int kinds.Int = true

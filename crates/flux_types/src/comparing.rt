@@ -1,7 +1,7 @@
-//! Types, compared as they are spelled, and kinds.
+//! Kinds of types, and the least place where something doesn't hold.
 
 ghost use Rattle.std.specs.Prelude.{◌≡◌};
-ghost use Rattle.flux_types.specs.Rows.{same_types, same_kind, have_kinds, takes, unless};
+ghost use Rattle.flux_types.specs.Rows.{same_kind, have_kinds, takes, unless};
 ghost use Rattle.flux_syntax.specs.Least.{soonest};
 
 use flux_model::TypeText;
@@ -10,25 +10,6 @@ use flux_values::Kind;
 
 /// The least place so far, from 0; None where there is none.
 pub type Place = Option<u32>;
-
-/// Whether types are spelled alike, in number and order.
-pub fn same_types(a: &[TypeText], b: &[TypeText]) -> bool
-    ensures { result ≡ same_types a.now b.now }
-{
-    let mut rest = a;
-    let mut left = b;
-    while let [ty, others @ ..] = rest {
-        let [other, more @ ..] = left else {
-            return false;
-        };
-        if ty.words.as_bytes() != other.words.as_bytes() {
-            return false;
-        }
-        rest = others;
-        left = more;
-    }
-    left.is_empty()
-}
 
 fn same_kind(a: Kind, b: Kind) -> bool
     ensures { result ≡ same_kind a b }

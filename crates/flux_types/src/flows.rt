@@ -2,17 +2,18 @@
 
 ghost use Rattle.std.specs.Prelude.{◌≡◌, ◌==◌, ◌&&◌, fold, length, None};
 ghost use Rattle.flux_model.specs.Kinds.{sig_at};
+ghost use Rattle.flux_model.specs.Types.{same_types};
 ghost use Rattle.flux_syntax.specs.Least.{soonest, first_fault};
 ghost use Rattle.flux_types.specs.Signatures.{last_of};
 ghost use Rattle.std.specs.List.{list_all};
-ghost use Rattle.flux_types.specs.Rows.{same_types, word_sig, is_hollow, unjoined, unjoined_after, has_count, is_like_node, unlike_input, unlike_inputs, unlike_patterns, miscounted_in, unlike_node_in};
+ghost use Rattle.flux_types.specs.Rows.{word_sig, is_hollow, unjoined, unjoined_after, has_count, is_like_node, unlike_input, unlike_inputs, unlike_patterns, miscounted_in, unlike_node_in};
 ghost use Rattle.flux_types.specs.steps.Passing.{kind_in, hollow_places, flow_passed, flow_fault};
 
-use crate::comparing::{Place, same_types, takes, unless};
+use crate::comparing::{Place, takes, unless};
 use crate::predicates::Predicates;
 use crate::words::Signed;
 use flux_faults::FaultKind;
-use flux_model::{Body, Case, Node, TypeText};
+use flux_model::{Body, Case, Node, TypeText, same_types};
 use flux_syntax::{Decl, Word, fault_or, sooner};
 use flux_values::List;
 

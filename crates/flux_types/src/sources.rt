@@ -5,10 +5,10 @@ ghost use Rattle.flux_model.specs.Kinds.{sig_at};
 ghost use Rattle.flux_types.specs.Rows.{word_sig, takes_all};
 ghost use Rattle.flux_types.specs.steps.Passing.{target_places, session_passed};
 
-use crate::comparing::{Place, have_kinds, same_types, unless};
+use crate::comparing::{Place, have_kinds, unless};
 use crate::words::{Signed, ins_of, outs_of};
 use flux_library::Library;
-use flux_model::{NodeSig, SourceLine, TypeText};
+use flux_model::{NodeSig, SourceLine, TypeText, same_types};
 use flux_syntax::{Decl, Word, sooner};
 use flux_values::Memory;
 use std::alloc::Global;

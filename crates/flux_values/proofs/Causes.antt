@@ -17,7 +17,7 @@ use Rattle.flux_values.specs.declared.values.Value.TheVariants as values
 use Rattle.flux_values.specs.declared.texts.TheConstants.{TEXT_LIMIT}
 use Rattle.flux_values.specs.Texts.{hex_digit, printed_byte, printed_value, printed_bool}
 use Rattle.flux_values.specs.Reading.{IsValue, BeginsWith, BeginsNone, ReadsBack, IsRead}
-use Rattle.flux_values.specs.Spellings.{minus, with_sign, SpellsByte, SpellEach, Spells, BeginsSpelled, IsFirstValue, CanGoOn, IsTooLong, IsBadValue, HasCause, IsOrMemory}
+use Rattle.flux_values.specs.Spellings.{minus, with_sign, SpellsByte, SpellEach, Spells, BeginsSpelled, IsLongest, CanGoOn, IsTooLong, IsBadValue, HasCause, IsOrMemory}
 use Rattle.flux_values.proofs.Opened.{cut_alike}
 use Rattle.flux_values.proofs.Fronts.{begins_head, begins_none, goes_less, as_text}
 use Rattle.flux_values.proofs.TextsRead.{closes, nothing_full, Long, long_parts}
@@ -206,7 +206,7 @@ reads_back (Err faults.Memory) bytes cause v b = tt
 front_taken : (bytes : List ℕ) (v : Value) (n : ℕ) (b : BeginsSpelled bytes v n) → take n bytes ≡ b.spelling
 front_taken bytes v n b = ap (λ (m : ℕ). take m bytes) b.long ∙ ap (take (length b.spelling)) b.front ∙ take_at b.spelling b.rest (length b.spelling) refl
 
-pub printed_read : (bytes : List ℕ) (v : Value) (n : ℕ) → IsFirstValue bytes v n → take n bytes ≡ printed_value v → IsRead (Ok (v, n)) bytes
+pub printed_read : (bytes : List ℕ) (v : Value) (n : ℕ) → IsLongest bytes v n → take n bytes ≡ printed_value v → IsRead (Ok (v, n)) bytes
 printed_read bytes v n first is =
     let b = first.begins in
     let same : b.spelling ≡ printed_value v = sym (front_taken bytes v n b) ∙ is in (

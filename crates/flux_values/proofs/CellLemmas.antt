@@ -9,7 +9,8 @@ use Rattle.std.specs.List.Sorted.{IsSearchInRange, IsBinarySearchResult}
 use Rattle.std.specs.FinMap as fin
 use Rattle.std.specs.FinMap.Entries.{find, put, is_sorted-put, find-where_key, is_sorted-where_key}
 use Rattle.flux_values.specs.declared.values.Value.{Value}
-use Rattle.flux_values.specs.Cells.{CellMap, Entries, AreInOrder, IsPlaceOf, changed, edited}
+use Rattle.flux_values.specs.Cells.{CellMap, changed}
+use Rattle.flux_values.specs.steps.Cells.{Entries, AreInOrder, IsPlaceOf, edited}
 use Rattle.flux_values.proofs.Sorted.{comparisons_rise, IsGap, IsThere, gap_find, gap_put, gap_without, there_find, there_put, there_without}
 
 -- a binary search finds the place of a name

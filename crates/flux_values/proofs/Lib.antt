@@ -8,3 +8,4 @@ pub mod Causes
 pub mod Sorted
 pub mod CellLemmas
 pub mod Sets
+pub mod Equal

@@ -11,7 +11,7 @@ use Rattle.std.proofs.Math.Seq.{take-append_seam, take-append-add}
 use Rattle.flux_values.specs.declared.values.Value.{Value}
 use Rattle.flux_values.specs.declared.values.Value.TheVariants as values
 use Rattle.flux_values.specs.Reading.{NoDigitFirst}
-use Rattle.flux_values.specs.Spellings.{minus, with_sign, BeginsSpelled, IsFirstValue, CanGoOn, IsTooLong, IsBadValue}
+use Rattle.flux_values.specs.Spellings.{minus, with_sign, BeginsSpelled, IsLongest, CanGoOn, IsTooLong, IsBadValue}
 use Rattle.flux_values.specs.steps.Numbers.{limit_of, IsSigned, AreDigits, AreTooMany}
 use mir.Val.{bool_byte}
 use Rattle.flux_values.proofs.Fronts.{IsHead, begins_head, cannot_go_on, quote_first}
@@ -124,7 +124,7 @@ no_text_there : (negative : Bool) (x : List ℕ) (at : ℕ) → FirstDigit x →
 no_text_there negative x at f long = number_not_long negative f.digit f.rest at f.small (subst (λ (l : List ℕ). IsTooLong (minus negative ++ l) at) f.is long)
 
 -- the number of all digits at the front is read
-pub number_read : (negative : Bool) (x : List ℕ) (m n : ℕ) → AreDigits x (limit_of negative) m n → IsFirstValue (minus negative ++ x) (values.Int (with_sign negative m)) (length (minus negative) + n)
+pub number_read : (negative : Bool) (x : List ℕ) (m n : ℕ) → AreDigits x (limit_of negative) m n → IsLongest (minus negative ++ x) (values.Int (with_sign negative m)) (length (minus negative) + n)
 number_read negative x m n ds =
     let f = first_taken x n ds.numeral in
     record {
@@ -231,13 +231,13 @@ some_before bytes (suc at) number value some = omega arith
 
 -- a number behind its sign
 pub signed_read : (negative : Bool) (bytes : List ℕ) (sign limit m n : ℕ) → IsSigned negative bytes → sign ≡ bool_byte negative → limit ≡ 9223372036854775807 + bool_byte negative → AreDigits (drop sign bytes) limit m n
-    → IsFirstValue bytes (values.Int (with_sign negative m)) (sign + n) × (m ≤ limit_of negative)
+    → IsLongest bytes (values.Int (with_sign negative m)) (sign + n) × (m ≤ limit_of negative)
 signed_read true bytes sign limit m n first is top ds =
     let there : AreDigits (drop 1 bytes) (limit_of true) m n = subst (λ (l : ℕ). AreDigits (drop 1 bytes) l m n) top (subst (λ (s : ℕ). AreDigits (drop s bytes) limit m n) is ds) in
-    (subst (λ (l : List ℕ). IsFirstValue l (values.Int (with_sign true m)) (sign + n)) (sym first) (subst (λ (s : ℕ). IsFirstValue (45 ∷ drop 1 bytes) (values.Int (with_sign true m)) (s + n)) (sym is) (number_read true (drop 1 bytes) m n there)), there.small)
+    (subst (λ (l : List ℕ). IsLongest l (values.Int (with_sign true m)) (sign + n)) (sym first) (subst (λ (s : ℕ). IsLongest (45 ∷ drop 1 bytes) (values.Int (with_sign true m)) (s + n)) (sym is) (number_read true (drop 1 bytes) m n there)), there.small)
 signed_read false bytes sign limit m n first is top ds =
     let there : AreDigits bytes (limit_of false) m n = subst (λ (l : ℕ). AreDigits bytes l m n) top (subst (λ (s : ℕ). AreDigits (drop s bytes) limit m n) is ds) in
-    (subst (λ (s : ℕ). IsFirstValue bytes (values.Int (with_sign false m)) (s + n)) (sym is) (number_read false bytes m n there), there.small)
+    (subst (λ (s : ℕ). IsLongest bytes (values.Int (with_sign false m)) (s + n)) (sym is) (number_read false bytes m n there), there.small)
 
 -- no number behind its sign
 pub signed_bad : (negative : Bool) (bytes : List ℕ) (sign limit at : ℕ) → IsSigned negative bytes → sign ≡ bool_byte negative → limit ≡ 9223372036854775807 + bool_byte negative

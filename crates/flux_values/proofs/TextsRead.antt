@@ -8,7 +8,7 @@ use Rattle.flux_values.specs.declared.values.Value.{Value}
 use Rattle.flux_values.specs.declared.values.Value.TheVariants as values
 use Rattle.flux_values.specs.declared.reading.Piece.TheVariants as pieces
 use Rattle.flux_values.specs.declared.texts.TheConstants.{TEXT_LIMIT}
-use Rattle.flux_values.specs.Spellings.{SpellEach, OpensText, BeginsSpelled, IsFirstValue, IsTooLong, IsBadValue}
+use Rattle.flux_values.specs.Spellings.{SpellEach, OpensText, BeginsSpelled, IsLongest, IsTooLong, IsBadValue}
 use Rattle.flux_values.specs.steps.Pieces.{piece_of}
 use Rattle.flux_values.proofs.Pieces.{piece_back, piece_stops}
 use Rattle.flux_values.proofs.Opened.{none_found, no_quote, cut_alike, goes_on, each_more, laid_more}
@@ -126,7 +126,7 @@ pieces_long : (bytes t : List ℕ) (at : ℕ) (opens : OpensText (take at bytes)
 pieces_long bytes t at opens le = omega (arith, sym (length-take-le at bytes le) ∙ ap length opens.laid)
 
 -- a text closed here is read
-pub text_read : (bytes t : List ℕ) (at : ℕ) → OpensText (take at bytes) t → All (λ b. b < 256) t → length t ≤ TEXT_LIMIT → at < length bytes → get_or bytes at 0 ≡ 34 → IsFirstValue bytes (values.Text t) (at + 1)
+pub text_read : (bytes t : List ℕ) (at : ℕ) → OpensText (take at bytes) t → All (λ b. b < 256) t → length t ≤ TEXT_LIMIT → at < length bytes → get_or bytes at 0 ≡ 34 → IsLongest bytes (values.Text t) (at + 1)
 text_read bytes t at opens each few lt quote =
     let left : drop at bytes ≡ 34 ∷ drop (at + 1) bytes = drop_more bytes at 0 lt ∙ ap (λ (b : ℕ). b ∷ drop (at + 1) bytes) quote in
     let laid : bytes ≡ 34 ∷ (concat opens.pieces ++ 34 ∷ drop (at + 1) bytes) = front_is bytes t at opens ∙ ap (λ (l : List ℕ). 34 ∷ (concat opens.pieces ++ l)) left in

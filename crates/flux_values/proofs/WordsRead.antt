@@ -6,7 +6,7 @@ use Rattle.std.proofs.lemmas.Bool.Decides.{nat_tests}
 use Rattle.flux_values.specs.declared.values.Value.{Value}
 use Rattle.flux_values.specs.declared.values.Value.TheVariants as values
 use Rattle.flux_values.specs.Texts.{printed_bool}
-use Rattle.flux_values.specs.Spellings.{BeginsSpelled, IsFirstValue, CanGoOn, IsTooLong, IsBadValue}
+use Rattle.flux_values.specs.Spellings.{BeginsSpelled, IsLongest, CanGoOn, IsTooLong, IsBadValue}
 use Rattle.flux_values.proofs.Fronts.{IsHead, begins_head, begins_none, cannot_go_on, quote_first}
 
 head_at : (x : List ℕ) (v : Value) (n : ℕ) → BeginsSpelled x v n → IsHead v (get_or x 0 0)
@@ -42,7 +42,7 @@ no_word_text true x at first long = no_text_at x at long (omega arith)
 no_word_text false x at first long = no_text_at x at long (omega arith)
 
 -- a word is read
-pub word_read : (truth : Bool) (bytes : List ℕ) (at : ℕ) → get_or bytes 0 0 ≡ get_or (printed_bool truth) 0 0 → at ≡ length (printed_bool truth) → take at bytes ≡ printed_bool truth → IsFirstValue bytes (values.Bool truth) at
+pub word_read : (truth : Bool) (bytes : List ℕ) (at : ℕ) → get_or bytes 0 0 ≡ get_or (printed_bool truth) 0 0 → at ≡ length (printed_bool truth) → take at bytes ≡ printed_bool truth → IsLongest bytes (values.Bool truth) at
 word_read truth bytes at first long is = record {
   begins = record { spelling = printed_bool truth; rest = drop at bytes; spells = record { is_value = tt; form = refl }; ends = tt; front = sym (take-append-drop at bytes) ∙ ap (λ (l : List ℕ). l ++ drop at bytes) is; long = long };
   longest = λ other m begins. let a = as_word truth bytes other m first begins in omega (arith, a.long);

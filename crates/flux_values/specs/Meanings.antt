@@ -6,8 +6,9 @@ use Rattle.flux_values.specs.declared.answers.Answer.{Answer}
 use Rattle.flux_values.specs.declared.meanings.Sig.{Sig}
 use Rattle.flux_values.specs.Cells.{CellMap}
 
--- by names: the kind that a type spells, a node's signature, what a predicate takes, what a session
--- function takes; a node's answer on values and cells; whether a predicate holds; a session's number
+-- by names: the kind that a type spells, a node's signature, what a predicate takes, what a
+-- session function takes; a node's answer on values and cells; whether a predicate holds; a
+-- session's number
 pub record LibraryMeaning : Type 0 where
   pub kind : List ℕ → Option Kind
   pub node : List ℕ → Option Sig

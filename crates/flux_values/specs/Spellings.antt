@@ -18,6 +18,7 @@ abbrev pub minus : Bool → List ℕ
 minus true = 45 ∷ []
 minus false = []
 
+-- a number by its sign and its magnitude
 abbrev pub with_sign : Bool → ℕ → ℤ
 with_sign true magnitude = neg_ℤ (pos magnitude)
 with_sign false magnitude = pos magnitude
@@ -91,7 +92,7 @@ pub record BeginsSpelled (bytes : List ℕ) (value : Value) (n : ℕ) : Type 0 w
   pub long : n ≡ length spelling
 
 -- the longest spelling that begins the bytes is this value's, and so many bytes long
-pub record IsFirstValue (bytes : List ℕ) (value : Value) (n : ℕ) : Type 0 where
+pub record IsLongest (bytes : List ℕ) (value : Value) (n : ℕ) : Type 0 where
   pub begins : BeginsSpelled bytes value n
   pub longest : (other : Value) (m : ℕ) → BeginsSpelled bytes other m → m ≤ n
 
@@ -123,7 +124,7 @@ pub record IsBadValue (bytes : List ℕ) (at : ℕ) : Type 0 where
 
 -- an answer has its cause
 abbrev pub HasCause : Result (Value × ℕ) ValueFault → List ℕ → Type 0
-HasCause (Ok read) bytes = IsFirstValue bytes read.0 read.1
+HasCause (Ok read) bytes = IsLongest bytes read.0 read.1
 HasCause (Err (faults.TooLong at)) bytes = IsTooLong bytes at
 HasCause (Err (faults.BadValue at)) bytes = IsBadValue bytes at
 HasCause (Err faults.Memory) bytes = ⊤

@@ -12,14 +12,14 @@ pub enum Mode {
 }
 
 /// How a call ended: with values, or with a code from 1 to 255.
-#[derive(Debug, Drop)]
+#[derive(Debug, PartialEq, Eq, Drop)]
 pub enum CallResult {
     Good(List<Value>),
     Bad(u16),
 }
 
 /// A change of a cell: it sets a name, or removes it where there is no value.
-#[derive(Debug, Drop)]
+#[derive(Debug, PartialEq, Eq, Drop)]
 pub struct Put {
     pub cell: TextBytes,
     pub name: TextBytes,
@@ -27,7 +27,7 @@ pub struct Put {
 }
 
 /// All that a call of a node answers.
-#[derive(Debug, Drop)]
+#[derive(Debug, PartialEq, Eq, Drop)]
 pub struct Answer {
     pub result: CallResult,
     pub puts: List<Put>,

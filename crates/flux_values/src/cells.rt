@@ -1,10 +1,12 @@
 //! Cells: what a session or the whole program remembers, by name.
 
-ghost use Rattle.std.specs.Prelude.{◌≡◌, ◌↔◌, ◌<◌, ◌≤◌, IfOk, OnOk, OnErr, IsNone, IfSome, Some, None, option_copied, length, slice_get, map as mapped};
+ghost use Rattle.std.specs.Prelude.{◌≡◌, ◌<◌, IfOk, OnOk, OnErr, Some, None, option_copied, slice_get};
 ghost use Rattle.std.specs.Ordering.{nat_cmp};
 ghost use Rattle.std.specs.Cmp.Lexicographic.{slice_cmp};
 ghost use Rattle.std.specs.FinMap as map;
-ghost use Rattle.flux_values.specs.Cells.{changed, edited, AreInOrder, IsPlaceOf};
+ghost use Rattle.std.specs.Arc.{arc_value};
+ghost use Rattle.flux_values.specs.Cells.{changed};
+ghost use Rattle.flux_values.specs.steps.Cells.{edited, AreInOrder, IsPlaceOf};
 
 use crate::failures::Memory;
 use crate::texts::TextBytes;
@@ -12,15 +14,24 @@ use crate::values::Value;
 use std::alloc::Global;
 use std::cmp::Ordering;
 use std::marker::Model;
+use std::sync::Arc;
 
-/// A finite map from text to value. Its names stand in bytewise order.
+/// The names in bytewise order, each with its value.
+type Entries = Vec<(TextBytes, Value)>;
+
+/// A finite map from text to value.
+///
+/// Copies share their entries until one of them is changed.
 #[derive(Debug, Drop)]
 pub struct Cell {
-    entries: Vec<(TextBytes, Value)>,
+    alloc: Global,
+    /// None where nothing was put yet.
+    entries: Option<Arc<Entries, Global>>,
 }
 
 impl Model for Cell {
-    ghost use Rattle.flux_values.specs.Cells.{CellMap, AreInOrder};
+    ghost use Rattle.flux_values.specs.Cells.{CellMap};
+    ghost use Rattle.flux_values.specs.steps.Cells.{held, AreInOrder};
     ghost use Rattle.std.specs.FinMap as map;
     ghost use Rattle.std.specs.Coded.{coded_list, coded_ℕ};
     ghost use Rattle.flux_values.specs.contracts.values.Value as value;
@@ -29,9 +40,9 @@ impl Model for Cell {
 
     ghost coded = { map.code (coded_list coded_ℕ) value.the_row.coded };
 
-    ghost view = { λ c. map.from_sorted c.entries.items };
+    ghost view = { λ c. map.from_sorted (held c.entries) };
 
-    ghost invariant = { λ c. AreInOrder c.entries.items };
+    ghost invariant = { λ c. AreInOrder (held c.entries) };
 }
 
 impl Cell {
@@ -40,7 +51,8 @@ impl Cell {
         ensures { result ≡ map.empty }
     {
         Cell {
-            entries: Vec::new(alloc),
+            alloc,
+            entries: None,
         }
     }
 }
@@ -50,8 +62,9 @@ impl Cell {
     pub fn get(&self, name: &[u8]) -> Option<&Value>
         ensures { option_copied result ≡ map.get self.now name.now }
     {
-        match find_place(&self.entries, name) {
-            Ok(place) => Some(&self.entries[place].1),
+        let entries = self.entries();
+        match find_place(entries, name) {
+            Ok(place) => Some(&entries[place].1),
             Err(_) => None,
         }
     }
@@ -60,9 +73,20 @@ impl Cell {
     pub fn name_at(&self, place: usize) -> Option<&TextBytes>
         ensures { option_copied result ≡ slice_get (map.keys self.now) place }
     {
-        match self.entries.get(place) {
+        match self.entries().get(place) {
             Some((name, _)) => Some(name),
             None => None,
+        }
+    }
+
+    /// The entries in order.
+    fn entries(&self) -> &[(TextBytes, Value)]
+        ensures order { AreInOrder result.now }
+        ensures same { map.from_sorted result.now ≡ self.now }
+    {
+        match &self.entries {
+            Some(shared) => shared,
+            None => &[],
         }
     }
 
@@ -71,16 +95,52 @@ impl Cell {
         ensures ok { OnOk result (self.new ≡ changed self.old name value) }
         ensures err { OnErr result (self.new ≡ self.old) }
     {
-        edit(&mut self.entries, name, value)
+        match &mut self.entries {
+            Some(shared) => edit_shared(self.alloc, shared, name, value),
+            None => {
+                let mut entries = Vec::new(self.alloc);
+                edit(&mut entries, name, value)?;
+                self.entries = Some(Arc::new(self.alloc, entries)?);
+                Ok(())
+            }
+        }
     }
 
     /// The same cell once more.
-    pub fn copy(&self, alloc: Global) -> Result<Cell, Memory>
+    pub fn copy(&self) -> Result<Cell, Memory>
         ensures { IfOk result (λ copied. copied ≡ self.now) }
     {
+        let entries = match &self.entries {
+            Some(shared) => Some(Arc::try_clone(shared)?),
+            None => None,
+        };
         Ok(Cell {
-            entries: copy_entries(alloc, &self.entries)?,
+            alloc: self.alloc,
+            entries,
         })
+    }
+}
+
+/// Changes the entries in place where no other cell has them, and else a copy of them.
+fn edit_shared(
+    alloc: Global,
+    shared: &mut Arc<Entries, Global>,
+    name: TextBytes,
+    value: Option<Value>,
+) -> Result<(), Memory>
+    requires { AreInOrder (arc_value shared.old).items }
+    ensures ok { let before = (arc_value shared.old).items in
+        OnOk result ((arc_value shared.new).items ≡ edited before name value) }
+    ensures err { OnErr result ((arc_value shared.new).items ≡ (arc_value shared.old).items) }
+{
+    match Arc::get_mut(shared) {
+        Some(entries) => edit(entries, name, value),
+        None => {
+            let mut entries = copy_entries(alloc, shared)?;
+            edit(&mut entries, name, value)?;
+            *shared = Arc::new(alloc, entries)?;
+            Ok(())
+        }
     }
 }
 
@@ -98,11 +158,7 @@ fn compare_name(entry: &(TextBytes, Value), name: &[u8]) -> Ordering
     entry.0.as_bytes().cmp(name)
 }
 
-fn edit(
-    entries: &mut Vec<(TextBytes, Value)>,
-    name: TextBytes,
-    value: Option<Value>,
-) -> Result<(), Memory>
+fn edit(entries: &mut Entries, name: TextBytes, value: Option<Value>) -> Result<(), Memory>
     requires { AreInOrder entries.old.items }
     ensures ok { OnOk result (entries.new.items ≡ edited entries.old.items name value) }
     ensures err { OnErr result (entries.new.items ≡ entries.old.items) }
@@ -116,7 +172,7 @@ fn edit(
     }
 }
 
-fn set(entries: &mut Vec<(TextBytes, Value)>, name: TextBytes, value: Value) -> Result<(), Memory>
+fn set(entries: &mut Entries, name: TextBytes, value: Value) -> Result<(), Memory>
     requires { AreInOrder entries.old.items }
     ensures ok { OnOk result (entries.new.items ≡ edited entries.old.items name (Some value)) }
     ensures err { OnErr result (entries.new.items ≡ entries.old.items) }
@@ -130,7 +186,7 @@ fn set(entries: &mut Vec<(TextBytes, Value)>, name: TextBytes, value: Value) -> 
     }
 }
 
-fn remove(entries: &mut Vec<(TextBytes, Value)>, name: &TextBytes)
+fn remove(entries: &mut Entries, name: &TextBytes)
     requires { AreInOrder entries.old.items }
     ensures { entries.new.items ≡ edited entries.old.items name.now None }
 {
@@ -139,10 +195,7 @@ fn remove(entries: &mut Vec<(TextBytes, Value)>, name: &TextBytes)
     }
 }
 
-fn copy_entries(
-    alloc: Global,
-    entries: &[(TextBytes, Value)],
-) -> Result<Vec<(TextBytes, Value)>, Memory>
+fn copy_entries(alloc: Global, entries: &[(TextBytes, Value)]) -> Result<Entries, Memory>
     ensures { IfOk result (λ copied. copied.items ≡ entries.now) }
 {
     let mut copied = Vec::new(alloc);

@@ -1,8 +1,10 @@
 //! Values, texts and lists: what flows carry and what nodes answer.
 //!
-//! Contracts see a `List` as a list, a `TextBytes` and a `Bytes` as a list of bytes, and a `Cell` as a finite
-//! map from text to value. A value has one printed spelling, and `read_value` reads it back with its length.
-//! Whatever takes memory says so by `Memory`, or by handing the item back, and changes nothing then.
+//! Contracts see a `List` as a list, a `TextBytes` and a `Bytes` as a list of bytes, and a `Cell`
+//! as a finite map from text to value. A value has one printed spelling. `read_value` reads it and
+//! each other spelling of a value with its length, and else names the first byte at which none goes
+//! on. Whatever takes memory says so by `Memory`, or by handing the item back, and changes nothing
+//! then; but `append_value` and `append_text` may leave a part of what they add.
 #![tactic(auto)]
 
 mod answers;

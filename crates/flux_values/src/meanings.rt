@@ -1,11 +1,13 @@
-//! What a library of nodes means: its types, nodes, predicates and session functions, for contracts alone.
+//! What a library of nodes means, for contracts alone: its types, nodes, predicates and session
+//! functions.
 
 use crate::answers::Mode;
 use crate::lists::List;
 use crate::texts::TextBytes;
 use crate::values::Kind;
 
-/// What a node is to a server: an inner node, or a source of items, some of which read a link's head or line.
+/// What a node is to a server: an inner node, or a source of items, some of which read a link's
+/// head or line.
 #[derive(Clone, Copy, Debug, PartialEq, Eq)]
 pub enum Role {
     Plain,
@@ -15,14 +17,14 @@ pub enum Role {
 }
 
 /// A cell that a node uses, and how.
-#[derive(Debug, Drop)]
+#[derive(Debug, PartialEq, Eq, Drop)]
 pub struct CellUse {
     pub name: TextBytes,
     pub mode: Mode,
 }
 
 /// What a library says of a node.
-#[derive(Debug, Drop)]
+#[derive(Debug, PartialEq, Eq, Drop)]
 pub struct Sig {
     pub ins: List<Kind>,
     pub outs: List<Kind>,
@@ -30,7 +32,8 @@ pub struct Sig {
     pub role: Role,
 }
 
-/// What a library means. It has no call: programs over a library say by its member what they promise.
+/// What a library means. It has no call: programs over a library say by its member what they
+/// promise.
 pub trait Meaning {
     ghost use Rattle.flux_values.specs.Meanings.{LibraryMeaning};
 

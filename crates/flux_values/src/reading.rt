@@ -1,11 +1,11 @@
 //! Values read from the front of bytes.
 
-ghost use Rattle.std.specs.Prelude.{◌≡◌, ◌≢◌, ◌<◌, ◌≤◌, ◌++◌, ◌*◌, ◌+◌, ◌-◌, ◌^◌, ◌∷◌, ◌⊎◌, ℕ, ℤ, [], length, drop, take, IfSome, Ok, Err, slice_index, slice_get};
+ghost use Rattle.std.specs.Prelude.{◌≡◌, ◌<◌, ◌≤◌, ◌*◌, ◌+◌, ◌-◌, ◌∷◌, ℕ, length, drop, IfSome, Ok, Err, slice_index, slice_get};
 ghost use Rattle.flux_values.specs.declared.values.Value.{Value};
 ghost use Rattle.flux_values.specs.declared.failures.ValueFault.TheVariants as faults;
 ghost use Rattle.flux_values.specs.Texts.{printed_bool};
 ghost use Rattle.flux_values.specs.Reading.{ReadsBack, IsRead, BeginsWith};
-ghost use Rattle.flux_values.specs.Spellings.{with_sign, HasCause, IsOrMemory, IsFirstValue, IsTooLong, IsBadValue};
+ghost use Rattle.flux_values.specs.Spellings.{with_sign, HasCause, IsOrMemory, IsLongest, IsTooLong, IsBadValue};
 ghost use Rattle.flux_values.specs.steps.Pieces.{piece_of, escape_of, hexadecimal_of, digit_in};
 ghost use Rattle.flux_values.specs.steps.Numbers.{IsSigned, AreDigitsRead, limit_of};
 
@@ -26,20 +26,21 @@ enum Piece {
 
 /// The value whose longest spelling begins the bytes, and that spelling's length.
 ///
-/// Besides printed spellings it reads leading zeros, `-0`, hexadecimal digits in either case, `\x` for any
-/// byte, and any raw byte other than `"`, `\` and LF within a text. An Int ends where no digit follows.
+/// Besides printed spellings it reads leading zeros, `-0`, hexadecimal digits in either case, `\x`
+/// for any byte, and any raw byte other than `"`, `\` and LF within a text. An Int ends where no
+/// digit follows.
 /// `TooLong` and `BadValue` are of the first byte at which no spelling goes on.
 pub fn read_value(alloc: Global, bytes: &[u8]) -> Result<(Value, usize), ValueFault>
     // Each answer has its cause.
     ensures cause { HasCause result bytes.now }
     // Each cause has its answer, but for want of memory.
-    ensures value { (value : Value) (n : ℕ) → IsFirstValue bytes.now value n
+    ensures value { (value : Value) (n : ℕ) → IsLongest bytes.now value n
         → IsOrMemory (Ok (value, n)) result }
     ensures too_long { (at : ℕ) → IsTooLong bytes.now at
         → IsOrMemory (Err (faults.TooLong at)) result }
     ensures bad { (at : ℕ) → IsBadValue bytes.now at
         → IsOrMemory (Err (faults.BadValue at)) result }
-    // A printed value is read back with its length, whatever follows it that isn't a digit after an Int.
+    // A printed value is read back with its length, whatever follows it; but no digit after an Int.
     ensures again { (value : Value) → BeginsWith value bytes.now → ReadsBack result value }
 {
     read_front(alloc, bytes)
@@ -50,7 +51,7 @@ pub fn read_value(alloc: Global, bytes: &[u8]) -> Result<(Value, usize), ValueFa
 pub fn read_printed_value(alloc: Global, bytes: &[u8]) -> Result<(Value, usize), ValueFault>
     // Each answer has its cause.
     ensures read { IsRead result bytes.now }
-    // A printed value is read back with its length, whatever follows it that isn't a digit after an Int.
+    // A printed value is read back with its length, whatever follows it; but no digit after an Int.
     ensures again { (value : Value) → BeginsWith value bytes.now → ReadsBack result value }
 {
     let (value, length) = match read_value(alloc, bytes) {
@@ -126,8 +127,8 @@ fn signed(negative: bool, magnitude: u64) -> i64
     }
 }
 
-/// The number that the digits at the front spell, and how many they are; or where no spelling of a number
-/// up to the limit goes on.
+/// The number that the digits at the front spell, and how many they are; or where no spelling of a
+/// number up to the limit goes on.
 fn read_digits(bytes: &[u8], limit: u64) -> Result<(u64, usize), usize>
     requires { 9 ≤ limit }
     ensures { AreDigitsRead result bytes.now limit }

@@ -1,7 +1,7 @@
 //! Spellings from the profile's tables, and each call that takes memory once.
 
 use crate::{
-    Bytes, Cell, Kind, List, Memory, TextBytes, TextFault, Value, ValueFault, append_number,
+    Bytes, CallResult, Cell, List, Memory, TextBytes, TextFault, Value, ValueFault, append_number,
     append_text, append_value, print_value, read_printed_value, read_value,
 };
 use std::test::Fail;
@@ -173,11 +173,57 @@ fn a_cell_remembers_by_name(rt: HostRuntime) -> Result<(), Fail> {
         b"b".as_slice()
     );
     assert!(rt; cell.name_at(2).is_none());
-    let kept = cell.copy(alloc)?;
+    let kept = cell.copy()?;
     cell.put(TextBytes::copy(alloc, b"b")?, None)?;
+    cell.put(
+        TextBytes::copy(alloc, b"c")?,
+        Some(Value::Text(TextBytes::copy(alloc, b"new")?)),
+    )?;
     assert!(rt; cell.get(b"b").is_none());
     assert!(rt; matches!(kept.get(b"b"), Some(Value::Int(3))));
+    assert!(rt; kept.get(b"c").is_none());
     assert!(rt; matches!(cell.get(b"a"), Some(Value::Int(2))));
+    Ok(())
+}
+
+#[test]
+fn a_copy_of_a_cell_is_changed_by_itself(rt: HostRuntime) -> Result<(), Fail> {
+    let alloc = rt.alloc();
+    let empty = Cell::new(alloc);
+    let mut copied = empty.copy()?;
+    copied.put(TextBytes::copy(alloc, b"a")?, None)?;
+    assert!(rt; copied.name_at(0).is_none());
+    copied.put(TextBytes::copy(alloc, b"a")?, Some(Value::Bool(true)))?;
+    assert!(rt; empty.get(b"a").is_none());
+    let mut other = copied.copy()?;
+    other.put(TextBytes::copy(alloc, b"a")?, Some(Value::Bool(false)))?;
+    assert!(rt; matches!(copied.get(b"a"), Some(Value::Bool(true))));
+    assert!(rt; matches!(other.get(b"a"), Some(Value::Bool(false))));
+    crosses_threads(&other);
+    Ok(())
+}
+
+fn crosses_threads<T: Send + Sync>(_value: &T) {}
+
+#[test]
+fn equal_values_are_equal_and_texts_are_in_bytewise_order(rt: HostRuntime) -> Result<(), Fail> {
+    let alloc = rt.alloc();
+    let text = TextBytes::copy(alloc, b"ab")?;
+    let longer = TextBytes::copy(alloc, b"ab\0")?;
+    assert!(rt; text == text.again(alloc)? && text != longer && text < longer);
+    assert!(rt; TextBytes::copy(alloc, b"b")? > longer);
+    assert!(rt; Bytes::copy(alloc, b"x")? == Bytes::copy(alloc, b"x")?);
+    let mut values = List::new(alloc);
+    values.add(Value::Text(text))?;
+    values.add(Value::Int(-1))?;
+    let mut others = List::new(alloc);
+    for value in &values {
+        assert!(rt; values != others);
+        others.add(value.copy(alloc)?)?;
+    }
+    assert!(rt; values == others && CallResult::Good(values) == CallResult::Good(others));
+    assert!(rt; CallResult::Bad(1) != CallResult::Bad(2));
+    assert!(rt; Value::Bool(true) != Value::Int(1));
     Ok(())
 }
 

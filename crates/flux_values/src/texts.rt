@@ -1,9 +1,16 @@
 //! Bytes, and texts of at most 65,536 bytes.
 
-ghost use Rattle.std.specs.Prelude.{◌≡◌, ◌≤◌, ◌<◌, ◌++◌, [], length, IfOk, OnOk, OnErr, IsErrOf, ◌↔◌};
+ghost use Rattle.std.specs.Prelude.{◌≡◌, ◌≤◌, ◌<◌, ◌++◌, [], length, IfOk, OnOk, OnErr, IsErrOf, ◌↔◌, nat_eq};
+ghost use Rattle.std.specs.Ordering.{nat_cmp, as_partial_cmp};
+ghost use Rattle.std.specs.Cmp.{partial_equiv_from_equiv};
+ghost use Rattle.std.specs.Cmp.Lexicographic.{pointwise, slice_cmp, nat_list_cmp_total};
+ghost use Rattle.std.specs.Cmp.Rules.{comparing};
+ghost use Rattle.std.proofs.Common.{rules};
+ghost use Rattle.std.proofs.lemmas.Cmp.{nat_list_eq_equiv};
 
 use crate::failures::{Memory, TextFault};
 use std::alloc::Global;
+use std::cmp::Ordering;
 use std::marker::Model;
 
 /// The greatest length of a text, in bytes.
@@ -22,13 +29,15 @@ impl Model for TextBytes {
 
     ghost view = { λ t. t.bytes.items };
 
-    ghost invariant = { λ t. length t.bytes.items ≤ 65536 };
+    ghost use Rattle.flux_values.specs.declared.texts.TheConstants.{TEXT_LIMIT};
+
+    ghost invariant = { λ t. length t.bytes.items ≤ TEXT_LIMIT };
 }
 
 impl TextBytes {
     pub fn copy(alloc: Global, bytes: &[u8]) -> Result<TextBytes, TextFault>
         ensures same { IfOk result (λ text. text ≡ bytes.now) }
-        ensures too_long { IsErrOf result TextFault.TooLong ↔ (65536 < length bytes.now) }
+        ensures too_long { IsErrOf result TextFault.TooLong ↔ (TEXT_LIMIT < length bytes.now) }
     {
         if bytes.len() > TEXT_LIMIT {
             return Err(TextFault::TooLong);
@@ -41,14 +50,14 @@ impl TextBytes {
 
     pub fn as_bytes(&self) -> &[u8]
         ensures same { result.now ≡ self.now }
-        ensures limit { length self.now ≤ 65536 }
+        ensures limit { length self.now ≤ TEXT_LIMIT }
     {
         self.bytes.as_slice()
     }
 
     /// Makes a text of what is at hand, and takes no memory.
     pub fn from_vec(bytes: Vec<u8>) -> TextBytes
-        requires { length bytes.items ≤ 65536 }
+        requires { length bytes.items ≤ TEXT_LIMIT }
         ensures { result ≡ bytes.items }
     {
         TextBytes { bytes }
@@ -61,6 +70,46 @@ impl TextBytes {
         Ok(TextBytes {
             bytes: Vec::from_slice(alloc, &self.bytes)?,
         })
+    }
+}
+
+/// Texts are equal where their bytes are.
+impl PartialEq for TextBytes {
+    ghost eq = { pointwise nat_eq };
+
+    ghost laws = { partial_equiv_from_equiv nat_list_eq_equiv };
+
+    fn eq(&self, other: &TextBytes) -> bool {
+        self.as_bytes() == other.as_bytes()
+    }
+}
+
+impl Eq for TextBytes {
+    ghost laws = { nat_list_eq_equiv };
+}
+
+/// Bytewise.
+impl Ord for TextBytes {
+    ghost cmp = { slice_cmp nat_cmp };
+
+    ghost total = { nat_list_cmp_total };
+
+    ghost matches_partial_cmp = { Prim.search (comparing, rules) };
+
+    ghost matches_eq = { Prim.search (comparing, rules) };
+
+    fn cmp(&self, other: &TextBytes) -> Ordering {
+        self.as_bytes().cmp(other.as_bytes())
+    }
+}
+
+impl PartialOrd for TextBytes {
+    ghost partial_cmp = { as_partial_cmp (slice_cmp nat_cmp) };
+
+    ghost laws = { Prim.search (comparing, rules) };
+
+    fn partial_cmp(&self, other: &TextBytes) -> Option<Ordering> {
+        Some(self.cmp(other))
     }
 }
 
@@ -109,4 +158,19 @@ impl Bytes {
     {
         self.bytes.as_slice()
     }
+}
+
+/// They are equal where their bytes are.
+impl PartialEq for Bytes {
+    ghost eq = { pointwise nat_eq };
+
+    ghost laws = { partial_equiv_from_equiv nat_list_eq_equiv };
+
+    fn eq(&self, other: &Bytes) -> bool {
+        self.as_bytes() == other.as_bytes()
+    }
+}
+
+impl Eq for Bytes {
+    ghost laws = { nat_list_eq_equiv };
 }

@@ -15,7 +15,7 @@ pub enum Kind {
     Text,
 }
 
-#[derive(Debug, Drop)]
+#[derive(Debug, PartialEq, Eq, Drop)]
 pub enum Value {
     Int(i64),
     Bool(bool),

@@ -1,6 +1,7 @@
 -- For the tests alone: programs of which a short look shows that they are numbered.
-use Rattle.std.specs.Prelude.{◌≡◌, ◌<◌, ℕ, List, [], length}
+use Rattle.std.specs.Prelude.{◌≡◌, ◌≤◌, ◌+◌, ℕ, List, [], length}
 use Rattle.std.specs.List.{AllByRecursion}
+use Rattle.flux_model.specs.declared.programs.TheConstants.{COUNT_LIMIT}
 use Rattle.flux_model.specs.declared.programs.Case.{Case}
 use Rattle.flux_model.specs.declared.programs.Node.{Node}
 use Rattle.flux_model.specs.declared.programs.Body.{Body}
@@ -20,8 +21,7 @@ AreUnpatterned cases = AllByRecursion (λ case. case.patterns ≡ []) cases
 pub record IsPlain (count : ℕ) (node : Node) : Type 0 where
   pub declares : node.declared ≡ []
   pub patterns : AreUnpatterned (cases_of node.body)
-  pub few_cases : length (cases_of node.body) < 524288
-  pub few : length (leads_to node) < 524288
+  pub few : length (cases_of node.body) + length (leads_to node) ≤ COUNT_LIMIT
   pub below : AreBelow count (leads_to node)
 
 abbrev pub ArePlain : ℕ → List Node → Type 0

@@ -9,6 +9,7 @@ use Rattle.flux_values.specs.Meanings.{LibraryMeaning}
 use Rattle.flux_model.specs.declared.programs.Node.{Node}
 use Rattle.flux_model.specs.declared.programs.SourceLine.{SourceLine}
 use Rattle.flux_model.specs.declared.signatures.NodeSig.{NodeSig}
+use Rattle.flux_model.specs.Types.{same_types}
 use Rattle.flux_faults.specs.declared.faults.FaultKind.{FaultKind}
 use Rattle.flux_faults.specs.declared.faults.FaultKind.TheVariants.{JoinTypes, CaseCount, CaseTypes, PredicateType}
 use Rattle.flux_syntax.specs.declared.declarations.Word.{Word}
@@ -18,7 +19,7 @@ use Rattle.flux_syntax.specs.Words.{known}
 use Rattle.flux_syntax.specs.Least.{sooner, soonest, fault_or}
 use Rattle.flux_types.specs.declared.predicates.Predicates.{Predicates}
 use Rattle.flux_types.specs.declared.flows.FlowPlaces.{FlowPlaces}
-use Rattle.flux_types.specs.Rows.{WordSigs, taken_by, is_hollow, unjoined_in, miscounted_in, unlike_node_in, unlike_predicates_in, same_types, unlike_source}
+use Rattle.flux_types.specs.Rows.{WordSigs, taken_by, is_hollow, unjoined_in, miscounted_in, unlike_node_in, unlike_predicates_in, unlike_source}
 use Rattle.flux_types.specs.Rows as rows
 
 -- ---- predicates

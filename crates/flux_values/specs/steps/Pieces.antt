@@ -27,9 +27,12 @@ letter_of None = Stops 1
 -- after `\`
 abbrev pub escape_of : List ℕ → Piece
 escape_of [] = Stops 1
-escape_of (letter ∷ bytes) = if letter == 120 then hexadecimal_of bytes else letter_of (escaped letter)
+escape_of (letter ∷ bytes) =
+    if letter == 120 then hexadecimal_of bytes else letter_of (escaped letter)
 
 abbrev pub piece_of : List ℕ → Piece
 piece_of [] = Stops 0
 piece_of (b ∷ bytes) =
-    if b == 92 then escape_of bytes else if b == 34 then Stops 0 else if b == 10 then Stops 0 else Spells b 1
+    if b == 92 then escape_of bytes else
+    if b == 34 then Stops 0 else
+    if b == 10 then Stops 0 else Spells b 1

@@ -1,9 +1,6 @@
-use Rattle.std.proofs.Common.{◌≡◌, ◌++◌, length}
-use Rattle.flux_check.specs.Summing.{line_sizes}
+use Rattle.std.proofs.Common.{◌≡◌, map, take}
+use Rattle.flux_check.specs.steps.Summing.{line_size}
 use Rattle.flux_check.proofs.sizing.line_sizes.Given as goal
 
-abbrev pub invariant-loop-rest : goal.invariant-loop-rest
-invariant-loop-rest l = line_sizes l.table l.fn.lines ≡ l.sizes ++ line_sizes l.table l.rest
-
-abbrev pub decreases-loop-rest : goal.decreases-loop-rest
-decreases-loop-rest l = length l.rest
+abbrev pub invariant-loop-line : goal.invariant-loop-line
+invariant-loop-line l = l.sizes ≡ map (line_size l.table) (take l.line-index l.lines)

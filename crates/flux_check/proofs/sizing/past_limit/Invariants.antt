@@ -1,5 +1,5 @@
 use Rattle.std.proofs.Common.{◌≡◌, None, length}
-use Rattle.flux_check.specs.Summing.{large_along}
+use Rattle.flux_check.specs.steps.Summing.{large_along}
 use Rattle.flux_check.proofs.sizing.past_limit.Given as goal
 
 abbrev pub invariant-loop-rest : goal.invariant-loop-rest

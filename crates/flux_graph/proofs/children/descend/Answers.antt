@@ -1,11 +1,9 @@
-use Rattle.std.proofs.Common.{◌∙◌, ◌+◌, ◌≡◌, get_or, length, drop, reverse, sym, subst, ap, arith}
+use Rattle.std.proofs.Common.{◌∙◌, ◌+◌, ◌≡◌, get_or, length, drop, reverse, sym, ap}
 use Rattle.std.proofs.lemmas.List.{length_push}
 use Rattle.std.proofs.lemmas.Option.{slice_get-get_or}
 use Rattle.std.proofs.lemmas.Iterator.Adapters.{YieldsList-from_rev_slice}
 use Rattle.std.proofs.lemmas.Iterator.Consumers.{YieldsList-turn, YieldsList-end}
 use Rattle.flux_model.specs.Leading.{leads_in}
-use Rattle.flux_graph.specs.steps.Visits.{with_all}
-use Rattle.flux_graph.specs.steps.Descending.{IsOnTheWay}
 use Rattle.flux_graph.proofs.Descending.{on_the_way_first, on_the_way_past, on_the_way_down, on_the_way_last, next_of}
 use Rattle.flux_graph.proofs.children.descend.Goals as goal
 

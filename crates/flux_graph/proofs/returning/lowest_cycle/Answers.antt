@@ -1,4 +1,4 @@
-use Rattle.std.proofs.Common.{arith, subst}
+use Rattle.std.proofs.Common.{subst}
 use Rattle.flux_graph.specs.steps.Returning.{IsBack}
 use Rattle.flux_graph.proofs.Back.{is_lowest, none_at_all}
 use Rattle.flux_graph.proofs.returning.lowest_cycle.Goals as goal

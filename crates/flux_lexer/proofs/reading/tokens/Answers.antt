@@ -1,4 +1,4 @@
-use Rattle.std.proofs.Common.{◌≡◌, ℕ, List, length, drop, sym, subst, ◌∙◌, arith}
+use Rattle.std.proofs.Common.{◌≡◌, ℕ, List, drop, sym, subst, ◌∙◌, arith}
 use Rattle.std.proofs.lemmas.List.{take_rest, length-drop}
 use Rattle.flux_faults.specs.declared.faults.FaultKind.TheVariants.{BadByte, UnclosedComment}
 use Rattle.flux_lexer.specs.declared.fronts.Front.{Front}

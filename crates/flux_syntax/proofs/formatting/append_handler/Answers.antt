@@ -1,4 +1,4 @@
-use Rattle.std.proofs.Common.{◌≡◌, ℕ, List, ◌++◌, OnOk, codes, sym, ap, subst, ◌∙◌, append_assoc}
+use Rattle.std.proofs.Common.{◌≡◌, ℕ, List, ◌++◌, OnOk, codes, ap, subst, ◌∙◌, append_assoc}
 use Rattle.flux_syntax.specs.Formatted.{codes_text}
 use Rattle.flux_syntax.proofs.formatting.append_handler.Goals as goal
 

@@ -11,13 +11,14 @@ pub returns : goal.returns
 returns c = λ was.
     let nodes = c.args.nodes.now in let node = c.args.node.0 in let v = c.args.self.now.visited in
     let now : IsClearing nodes c.if-has_all.self =
-        elim c.if-has_all.branch [
-          then-has_all+in_ok-add w ↦
-              let led : c.as_slice-2.result.now ≡ leads_in nodes node = c.as_slice-2.ensures ∙ c.in_ok-leads_in.ensures in
-              let all : list_all (λ n. list_any (eqb n.0) v) (leads_in nodes node) ≡ true = subst (λ ns. list_all (λ n. list_any (eqb n.0) v) ns ≡ true) led (sym c.has_all.ensures ∙ w.if-has_all.true) in
-              rw (w.self-is, w.in_ok-add.ensures) (record {
-                closed = was.closed;
-                cleared = cleared_more nodes v c.args.self.now.cleared node was.closed (sym c.has.ensures ∙ c.if-has.false) (all_known v (leads_in nodes node) all) was.cleared;
-              })
-        | else-has_all w ↦ rw w.self-is was ] in
+    elim c.if-has_all.branch [
+      | then-has_all+in_ok-add w ↦
+          let led : c.as_slice-2.result.now ≡ leads_in nodes node = c.as_slice-2.ensures ∙ c.in_ok-leads_in.ensures in
+          let all : list_all (λ n. list_any (eqb n.0) v) (leads_in nodes node) ≡ true = subst (λ ns. list_all (λ n. list_any (eqb n.0) v) ns ≡ true) led (sym c.has_all.ensures ∙ w.if-has_all.true) in
+          rw (w.self-is, w.in_ok-add.ensures) (record {
+            closed = was.closed;
+            cleared = cleared_more nodes v c.args.self.now.cleared node was.closed (sym c.has.ensures ∙ c.if-has.false) (all_known v (leads_in nodes node) all) was.cleared;
+          })
+      | else-has_all w ↦ rw w.self-is was
+    ] in
     on_ok c.visit_onward.result (c.visit_onward.ensures.closed now.closed) (λ closed. record { closed = closed; cleared = now.cleared })

@@ -1,0 +1,6 @@
+pub mod Keys
+pub mod CellLemmas
+pub mod Settling
+pub mod Overlays
+pub mod Copied
+pub mod AfterPuts

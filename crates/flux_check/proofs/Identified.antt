@@ -1,0 +1,98 @@
+-- The names of a program of sound declarations: identifiers, each of one node.
+use Rattle.std.proofs.Common.{◌≡◌, ℕ, Bool, true, false, ◌||◌, if◌then◌else◌, List, [], ◌∷◌, ◌++◌, map, Some, refl, sym, ap, subst, ◌∙◌}
+use Rattle.std.specs.List.{position_or_len, AllByRecursion}
+use Rattle.std.specs.Str.{bytes_eq}
+use Rattle.flux_values.specs.Identifiers.{IsIdentifier, is_word}
+use Rattle.flux_values.specs.Meanings.{LibraryMeaning}
+use Rattle.flux_lexer.specs.declared.kinds.TokenKind.TheVariants as tokens
+use Rattle.flux_lexer.specs.Kinds.{is_word as is_lexed}
+use Rattle.flux_model.specs.declared.programs.Class.{Class}
+use Rattle.flux_model.specs.declared.programs.Node.{Node}
+use Rattle.flux_model.specs.Names.{AreNamedApart, IsNamed}
+use Rattle.flux_syntax.specs.declared.declarations.Word.{Word}
+use Rattle.flux_syntax.specs.declared.declarations.Decl.{Decl}
+use Rattle.flux_syntax.specs.declared.declarations.Decl.TheVariants.{Signature, Flow, Source, Typedef, Handler, Atomic, Session}
+use Rattle.flux_syntax.specs.Words.{known, and_name, names_after, names_of}
+use Rattle.flux_syntax.specs.ProgramOfText.{classes_of, program_of}
+use Rattle.flux_syntax.proofs.Spelled.{IsName}
+use Rattle.flux_syntax.proofs.Standing.{AllStandIn}
+use Rattle.flux_syntax.proofs.Printed.{word_of_name}
+use Rattle.flux_syntax.proofs.NumberedNames.{place_at}
+use Rattle.flux_types.specs.Signatures.{nodes_of}
+use Rattle.flux_check.specs.Judgement.{AreSound}
+use Rattle.flux_check.proofs.Numbered.{text_same, node_named, map_get}
+use Rattle.flux_check.proofs.Soundness.{no_classes, no_class}
+
+-- ---- names are identifiers
+
+unreserved : (a b c d e f g : Bool)
+    → (if a then tokens.Source else if b then tokens.Typedef else if c then tokens.Handle else if d then tokens.Error else if e then tokens.Atomic else if f then tokens.Session else if g then tokens.Wildcard else tokens.Identifier) ≡ tokens.Identifier
+    → (a || (b || (c || (d || (e || (f || (g || false))))))) ≡ false
+unreserved true b c d e f g is = absurd cc
+unreserved false true c d e f g is = absurd cc
+unreserved false false true d e f g is = absurd cc
+unreserved false false false true e f g is = absurd cc
+unreserved false false false false true f g is = absurd cc
+unreserved false false false false false true g is = absurd cc
+unreserved false false false false false false true is = absurd cc
+unreserved false false false false false false false is = refl
+
+same_word : (text : List ℕ) → is_lexed text ≡ true → is_word text ≡ true
+same_word [] e = e
+same_word (b ∷ text) e = e
+
+-- a name as the text spells it is an identifier
+pub name_identified : (text : List ℕ) → IsName text → IsIdentifier text
+name_identified text name =
+    let word = word_of_name text name.kind in
+    record { word = same_word text word.0; free = unreserved _ _ _ _ _ _ _ word.1 }
+
+-- ---- the names of declarations
+
+with_last : (names : List (List ℕ)) (name : List ℕ) → AllByRecursion IsIdentifier names → IsIdentifier name → AllByRecursion IsIdentifier (names ++ name ∷ [])
+with_last [] name all own = (own, tt)
+with_last (n ∷ names) name all own = (all.0, with_last names name all.1 own)
+
+with_word : (names : List (List ℕ)) (word : Word) → AllByRecursion IsIdentifier names → IsName word.text → AllByRecursion IsIdentifier (and_name names (Some word))
+with_word names word all own = one (known names word.text)
+  where
+    one : (t : Bool) → AllByRecursion IsIdentifier (if t then names else names ++ word.text ∷ [])
+    one true = all
+    one false = with_last names word.text all (name_identified word.text own)
+
+all_identified : (text : List ℕ) (names : List (List ℕ)) (decls : List Decl) → AllStandIn text decls → AllByRecursion IsIdentifier names → AllByRecursion IsIdentifier (names_after names decls)
+all_identified text names [] stand all = all
+all_identified text names (Signature name ins outs ∷ decls) stand all = let own = stand.0.0.0 in all_identified text (and_name names (Some name)) decls stand.1 (with_word names name all own.name)
+all_identified text names (Flow name patterns members ∷ decls) stand all = let own = stand.0.0.0 in all_identified text (and_name names (Some name)) decls stand.1 (with_word names name all own.name)
+all_identified text names (Source name target ∷ decls) stand all = all_identified text names decls stand.1 all
+all_identified text names (Typedef name function ∷ decls) stand all = all_identified text names decls stand.1 all
+all_identified text names (Handler node codes handler ∷ decls) stand all = all_identified text names decls stand.1 all
+all_identified text names (Atomic node constraints ∷ decls) stand all = all_identified text names decls stand.1 all
+all_identified text names (Session source function ∷ decls) stand all = all_identified text names decls stand.1 all
+
+nodes_identified : (of : List ℕ → Node) → ((name : List ℕ) → (let node = of name in node.name ≡ name)) → (names : List (List ℕ)) → AllByRecursion IsIdentifier names → AllByRecursion (λ node. IsIdentifier node.name) (map of names)
+nodes_identified of same [] all = tt
+nodes_identified of same (n ∷ names) all = (subst IsIdentifier (sym (same n)) all.0, nodes_identified of same names all.1)
+
+-- ---- nodes stand apart
+
+-- no two nodes of declarations have one name
+pub nodes_apart : (decls : List Decl) → AreNamedApart (nodes_of decls)
+nodes_apart decls a b first second at_first at_second same =
+    let one = map_get (node_named decls) (names_of decls) a first at_first in
+    let other = map_get (node_named decls) (names_of decls) b second at_second in
+    let names_same : one.from ≡ other.from = ap (λ (node : Node). node.name) one.is ∙ same ∙ sym (ap (λ (node : Node). node.name) other.is) in
+    sym (place_at decls a one.from one.from one.at (text_same one.from one.from refl))
+    ∙ ap (λ (name : List ℕ). position_or_len (bytes_eq name) (names_of decls)) names_same
+    ∙ place_at decls b other.from other.from other.at (text_same other.from other.from refl)
+
+-- the program of sound declarations whose words are names of a text has names
+pub names_kept : (meaning : LibraryMeaning) (text : List ℕ) (decls : List Decl) → AreSound meaning decls → AllStandIn text decls → IsNamed (program_of decls)
+names_kept meaning text decls all_sound stand =
+    let none = no_classes meaning decls all_sound in
+    record {
+      nodes = nodes_identified (node_named decls) (λ name. refl) (names_of decls) (all_identified text [] decls stand tt);
+      classes = subst (AllByRecursion (λ (class : Class). IsIdentifier class.name)) (sym none) tt;
+      apart = nodes_apart decls;
+      classes_apart = λ a b first second at_first. absurd (no_class (classes_of decls) a first none at_first);
+    }

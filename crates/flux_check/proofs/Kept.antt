@@ -1,0 +1,38 @@
+-- What was found of sound declarations is what a checked program keeps.
+use Rattle.std.proofs.Common.{ℕ, List, refl}
+use Rattle.flux_values.specs.Meanings.{LibraryMeaning}
+use Rattle.flux_model.specs.declared.programs.NodeNo.{NodeNo}
+use Rattle.flux_model.specs.declared.signatures.NodeSig.{NodeSig}
+use Rattle.flux_model.specs.Numbered.{IsNumbered}
+use Rattle.flux_model.specs.Ordering.{IsOrder}
+use Rattle.flux_syntax.specs.declared.declarations.Decl.{Decl}
+use Rattle.flux_syntax.specs.Declares.{Declares}
+use Rattle.flux_syntax.specs.ProgramOfText.{program_of}
+use Rattle.flux_syntax.proofs.Standing.{all_stand}
+use Rattle.flux_types.specs.Signatures.{nodes_of, AreSigs}
+use Rattle.flux_check.specs.Judgement.{AreSound, AreChecked}
+use Rattle.flux_check.specs.steps.Checking.{AreSizes}
+use Rattle.flux_check.proofs.Soundness.{sound}
+use Rattle.flux_check.proofs.Identified.{names_kept}
+
+-- the program of a text's sound declarations is checked, by an order, signatures and sizes that are its own
+pub checked : (meaning : LibraryMeaning) (text : List ℕ) (decls : List Decl) (order : List NodeNo) (sigs : List NodeSig) (sizes : List ℕ)
+    → Declares decls text → IsNumbered (program_of decls) → IsOrder (nodes_of decls) order → AreSigs meaning.kind decls sigs → AreSound meaning decls → AreSizes decls (program_of decls) sizes
+    → AreChecked meaning decls (program_of decls) sigs order sizes
+checked meaning text decls order sigs sizes declared numbered ordered are all_sound sized =
+    let for_library = sound meaning decls order sigs numbered ordered are all_sound in
+    record {
+      sound = all_sound;
+      is = refl;
+      sigs_ = are;
+      keeps = record {
+        numbered = numbered;
+        named = names_kept meaning text decls all_sound (all_stand decls text declared);
+        acyclic = all_sound.ordered.acyclic;
+        agree = for_library.kinds_are.agree;
+        ordered = ordered;
+        sizes_ = sized.are;
+        small = sized.small;
+      };
+      for_library = for_library;
+    }

@@ -1,0 +1,5 @@
+pub mod Places
+pub mod Handlers
+pub mod Sessions
+pub mod Rows
+pub mod steps

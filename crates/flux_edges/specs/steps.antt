@@ -1,0 +1,2 @@
+-- Steps of the code, which no public clause cites.
+pub mod Marking

@@ -1,0 +1,6 @@
+pub mod Holding
+pub mod Standing
+pub mod Orderly
+pub mod Blocking
+pub mod Keys
+pub mod Trials

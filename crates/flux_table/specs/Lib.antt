@@ -1,0 +1,5 @@
+pub mod Locks
+pub mod Tables
+pub mod Blockers
+pub mod Changes
+pub mod steps
