@@ -9,3 +9,4 @@ pub mod Printed
 pub mod Causes
 pub mod Answers
 pub mod Top
+pub mod BuiltIn

@@ -1,6 +1,6 @@
 //! All that the program does, as one call.
 
-ghost use Rattle.flux_library.specs.Basics.{basic_meaning};
+ghost use Rattle.flux_driver.specs.BuiltIn.{built_in};
 ghost use Rattle.flux_driver.specs.Top.{HasDone};
 
 use crate::commands::prepare;
@@ -61,7 +61,7 @@ pub fn top<S: Store, O: Sink, E: Sink>(
     words: &[Bytes],
     world: &mut World<S, O, E>,
 ) -> Status
-    ensures { HasDone basic_meaning words.now
+    ensures { HasDone built_in words.now
         (record {
           files = S.files world.old.store;
           asked = S.asked world.old.store;
