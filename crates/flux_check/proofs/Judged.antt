@@ -187,14 +187,14 @@ module _ (meaning : LibraryMeaning) (decls : List Decl) (built : first_constrain
         handled : fault_or HandlerTypes (least_of None (unlike_handlers (sig_at sigs) named)) None ≡ first_fault (handler_rows (sig_of meaning.kind decls) decls)
         handled =
             ap (λ (p : Option ℕ). fault_or HandlerTypes p None)
-              (ap (λ (n : Named). least_of None (unlike_handlers (sig_at sigs) n)) resolved.is
-              ∙ handlers_least (sig_at sigs) decls (handles_named meaning decls resolved.sound))
+            (ap (λ (n : Named). least_of None (unlike_handlers (sig_at sigs) n)) resolved.is
+            ∙ handlers_least (sig_at sigs) decls (handles_named meaning decls resolved.sound))
             ∙ ap (λ (s : ℕ → NodeSig). first_fault (handler_rows s decls)) (sigs_same meaning.kind decls sigs typed.are)
 
         pub handlers_refused : (fault : CheckFault) → IsLeastFault (fault_or HandlerTypes (least_of None (unlike_handlers (sig_at sigs) named)) None) fault → IsDeclsRefusal meaning decls fault
         handlers_refused fault f =
             later_refused fault (behind sigs_part (edge_rows meaning decls) fault typed.sound
-              (earlier handlers_part (sources_part ++ last_rows decls) fault (subst (λ (x : Option (FaultKind × ℕ)). IsLeastFault x fault) handled f)))
+            (earlier handlers_part (sources_part ++ last_rows decls) fault (subst (λ (x : Option (FaultKind × ℕ)). IsLeastFault x fault) handled f)))
 
         module _ (fits : least_of None (unlike_handlers (sig_at sigs) named) ≡ None) where
           no_handlers : first_fault (handler_rows (sig_of meaning.kind decls) decls) ≡ None
@@ -213,7 +213,7 @@ module _ (meaning : LibraryMeaning) (decls : List Decl) (built : first_constrain
             pub sessions_refused : (fault : CheckFault) → IsLeastFault (fault_or NoSession (least_of None (unserved_sources named)) None) fault → IsDeclsRefusal meaning decls fault
             sessions_refused fault f =
                 edges fault (behind sources_part (last_rows decls) fault sourced
-                  (earlier (session_rows decls) (size_rows decls) fault (subst (λ (x : Option (FaultKind × ℕ)). IsLeastFault x fault) served f)))
+                (earlier (session_rows decls) (size_rows decls) fault (subst (λ (x : Option (FaultKind × ℕ)). IsLeastFault x fault) served f)))
 
             module _ (no_sessions : least_of None (unserved_sources named) ≡ None) where
               none_unserved : first_fault (session_rows decls) ≡ None
@@ -242,7 +242,7 @@ module _ (meaning : LibraryMeaning) (decls : List Decl) (built : first_constrain
                 pub checked_is : IsDeclared decls → AreChecked meaning decls named.program sigs order sizes
                 checked_is (text, declared) = subst (λ (p : Program). AreChecked meaning decls p sigs order sizes) (sym program_is)
                     (checked meaning text decls order sigs sizes declared (subst IsNumbered program_is resolved.numbered)
-                      (subst (λ (p : Program). IsOrder p.nodes order) program_is ordered) typed.are all_sound (subst (λ (p : Program). AreSizes decls p sizes) program_is sized))
+                    (subst (λ (p : Program). IsOrder p.nodes order) program_is ordered) typed.are all_sound (subst (λ (p : Program). AreSizes decls p sizes) program_is sized))
 
 -- ---- texts
 

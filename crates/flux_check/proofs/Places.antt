@@ -198,7 +198,7 @@ module _ (n : ℕ) where
   used_in : (d : Decl) → DeclIn d → AllIn (names.used_names d)
   used_in d h =
       both_in (listed (sourced d)) (listed (names.sessioned d) ++ names.inner_names d) (sourced_in d h)
-        (both_in (listed (names.sessioned d)) (names.inner_names d) (sessioned_in d h) (inner_in d h))
+      (both_in (listed (names.sessioned d)) (names.inner_names d) (sessioned_in d h) (inner_in d h))
 
   patterns_in : (d : Decl) → DeclIn d → AllIn (names.pattern_words d)
   patterns_in (Flow name None members) h = tt
@@ -216,15 +216,15 @@ module _ (n : ℕ) where
   repeated_in sort each before [] h = tt
   repeated_in sort each before (d ∷ decls) h =
       both_in (names.listed_if (list_any (names.repeats sort d) before) (sort d)) (names.repeated_after sort (before ++ d ∷ []) decls)
-        (listed_if_in (list_any (names.repeats sort d) before) (sort d) (each d h.0)) (repeated_in sort each (before ++ d ∷ []) decls h.1)
+      (listed_if_in (list_any (names.repeats sort d) before) (sort d) (each d h.0)) (repeated_in sort each (before ++ d ∷ []) decls h.1)
 
   twice_in : (decls : List Decl) → DeclsIn decls → AllIn (names.twice_named decls)
   twice_in decls h =
       both_in (names.repeated decls naming) _ (repeated_in naming naming_in [] decls h)
-        (both_in (names.repeated decls defined) _ (repeated_in defined defined_in [] decls h)
-          (both_in (names.repeated decls sourced) _ (repeated_in sourced sourced_in [] decls h)
-            (both_in (names.repeated decls names.handled) _ (repeated_in names.handled handled_in [] decls h)
-              (both_in (names.repeated decls names.sessioned) _ (repeated_in names.sessioned sessioned_in [] decls h) tt))))
+      (both_in (names.repeated decls defined) _ (repeated_in defined defined_in [] decls h)
+      (both_in (names.repeated decls sourced) _ (repeated_in sourced sourced_in [] decls h)
+      (both_in (names.repeated decls names.handled) _ (repeated_in names.handled handled_in [] decls h)
+      (both_in (names.repeated decls names.sessioned) _ (repeated_in names.sessioned sessioned_in [] decls h) tt))))
 
   type_in : (meaning : LibraryMeaning) (param : Param) → Within param.ty → AllIn (names.unknown_type meaning param)
   type_in meaning param h = if_in _ param.ty h
@@ -234,8 +234,8 @@ module _ (n : ℕ) where
       let i = mapped_in (λ param. param.ty) ins (left_in (map (λ param. param.ty) ins) (map (λ param. param.ty) outs) h.0.1) in
       let o = mapped_in (λ param. param.ty) outs (right_in (map (λ param. param.ty) ins) (map (λ param. param.ty) outs) h.0.1) in
       both_in (flat_map (names.unknown_type meaning) ins) (flat_map (names.unknown_type meaning) outs)
-        (flat_in (λ param. Within param.ty) (names.unknown_type meaning) (type_in meaning) ins i)
-        (flat_in (λ param. Within param.ty) (names.unknown_type meaning) (type_in meaning) outs o)
+      (flat_in (λ param. Within param.ty) (names.unknown_type meaning) (type_in meaning) ins i)
+      (flat_in (λ param. Within param.ty) (names.unknown_type meaning) (type_in meaning) outs o)
   types_in meaning (Flow name patterns members) h = tt
   types_in meaning (Source name target) h = tt
   types_in meaning (Typedef name function) h = tt
@@ -283,7 +283,7 @@ module _ (n : ℕ) where
   first_in known_names [] h = tt
   first_in known_names (d ∷ decls) h =
       both_in (unless_known known_names (naming d)) (first_words_after (and_name known_names (naming d)) decls)
-        (one (naming d) (naming_in d h.0)) (first_in (and_name known_names (naming d)) decls h.1)
+      (one (naming d) (naming_in d h.0)) (first_in (and_name known_names (naming d)) decls h.1)
     where
       one : (w : Option Word) → AllIn (listed w) → AllIn (unless_known known_names w)
       one None i = tt
@@ -310,7 +310,7 @@ module _ (n : ℕ) where
   classes_in before [] h = tt
   classes_in before (c ∷ constraints) h =
       both_in (names.word_if (not (list_any (is_on (class_of c)) before)) c.name) (names.class_words_after (before ++ c ∷ []) constraints)
-        (if_in (not (list_any (is_on (class_of c)) before)) c.name h.0) (classes_in (before ++ c ∷ []) constraints h.1)
+      (if_in (not (list_any (is_on (class_of c)) before)) c.name h.0) (classes_in (before ++ c ∷ []) constraints h.1)
 
   abbrev CodeIn : names.CodeOn → Type 0
   CodeIn c = let w = c.number in Within w
@@ -337,22 +337,43 @@ module _ (n : ℕ) where
   bad_codes_in before [] h = tt
   bad_codes_in before (c ∷ codes) h =
       both_in (names.word_if (names.is_bad_code before c) c.number) (names.bad_codes_after (before ++ c ∷ []) codes)
-        (if_in (names.is_bad_code before c) c.number h.0) (bad_codes_in (before ++ c ∷ []) codes h.1)
+      (if_in (names.is_bad_code before c) c.number h.0) (bad_codes_in (before ++ c ∷ []) codes h.1)
 
   names_in : (meaning : LibraryMeaning) (decls : List Decl) → DeclsIn decls → RowsIn (names.rows meaning decls)
-  names_in meaning decls h =
-      (twice_in decls h,
-      (flat_in DeclIn _ (λ d i. filter_in _ (names.used_names d) (used_in d i)) decls h,
-      (flat_in DeclIn _ (types_in meaning) decls h,
-      (flat_in DeclIn _ (absent_in meaning) decls h,
-      (flat_in DeclIn _ (unlike_in meaning) decls h,
-      (flat_in DeclIn _ (λ d i. both_in (names.unknown_function meaning d) _ (function_in meaning d i) (filter_in _ (names.pattern_words d) (patterns_in d i))) decls h,
-      (flat_in DeclIn _ (session_in meaning) decls h,
-      (flat_in DeclIn _ (λ d i. both_in (names.not_among (names.source_nodes meaning decls) (listed (sourced d))) _ (filter_in _ (listed (sourced d)) (sourced_in d i)) (filter_in _ (listed (names.sessioned d)) (sessioned_in d i))) decls h,
-      (flat_in DeclIn _ (λ d i. filter_in _ (names.inner_names d) (inner_in d i)) decls h,
-      (both_in (drop NODE_LIMIT (first_words decls)) (drop CLASS_LIMIT (names.class_words decls)) (drop_in NODE_LIMIT (first_words decls) (first_in [] decls h)) (drop_in CLASS_LIMIT (names.class_words decls) (classes_in [] (flat_map constraints_of decls) (constraints_in decls h))),
-      (bad_codes_in [] (flat_map names.codes_in decls) (codes_in decls h),
-      tt)))))))))))
+  names_in meaning decls h = (
+    twice_in decls h,
+    (
+      flat_in DeclIn _ (λ d i. filter_in _ (names.used_names d) (used_in d i)) decls h,
+      (
+        flat_in DeclIn _ (types_in meaning) decls h,
+        (
+          flat_in DeclIn _ (absent_in meaning) decls h,
+          (
+            flat_in DeclIn _ (unlike_in meaning) decls h,
+            (
+              flat_in DeclIn _ (λ d i. both_in (names.unknown_function meaning d) _ (function_in meaning d i) (filter_in _ (names.pattern_words d) (patterns_in d i))) decls h,
+              (
+                flat_in DeclIn _ (session_in meaning) decls h,
+                (
+                  flat_in DeclIn _ (λ d i. both_in (names.not_among (names.source_nodes meaning decls) (listed (sourced d))) _ (filter_in _ (listed (sourced d)) (sourced_in d i)) (filter_in _ (listed (names.sessioned d)) (sessioned_in d i))) decls h,
+                  (
+                    flat_in DeclIn _ (λ d i. filter_in _ (names.inner_names d) (inner_in d i)) decls h,
+                    (
+                      both_in (drop NODE_LIMIT (first_words decls)) (drop CLASS_LIMIT (names.class_words decls)) (drop_in NODE_LIMIT (first_words decls) (first_in [] decls h)) (drop_in CLASS_LIMIT (names.class_words decls) (classes_in [] (flat_map constraints_of decls) (constraints_in decls h))),
+                      (
+                        bad_codes_in [] (flat_map names.codes_in decls) (codes_in decls h),
+                        tt,
+                      ),
+                    ),
+                  ),
+                ),
+              ),
+            ),
+          ),
+        ),
+      ),
+    ),
+  )
 
   -- ---- rows on types
 
@@ -464,18 +485,37 @@ module _ (n : ℕ) where
 
   later_in : (meaning : LibraryMeaning) (decls : List Decl) → DeclsIn decls → RowsIn (later_rows meaning decls)
   later_in meaning decls h =
-      let sigs = types.sigs_of meaning decls in
-      (hollow_in decls (first_words decls) (first_in [] decls h),
-      (flat_in DeclIn _ (joins_in sigs) decls h,
-      (flat_in DeclIn _ (counts_in sigs) decls h,
-      (flat_in DeclIn _ (cases_in sigs) decls h,
-      (flat_in DeclIn _ (predicates_in sigs (types.predicates_of meaning decls)) decls h,
-      (flat_in DeclIn _ (handlers_in (sig_of meaning.kind decls) (names_of decls)) decls h,
-      (flat_in DeclIn _ (targets_in sigs) decls h,
-      (flat_in DeclIn _ (functions_in meaning sigs) decls h,
-      (flat_in DeclIn _ (unserved_in decls) decls h,
-      (large_in (flow_size decls) 0 decls h,
-      tt))))))))))
+      let sigs = types.sigs_of meaning decls in (
+        hollow_in decls (first_words decls) (first_in [] decls h),
+        (
+          flat_in DeclIn _ (joins_in sigs) decls h,
+          (
+            flat_in DeclIn _ (counts_in sigs) decls h,
+            (
+              flat_in DeclIn _ (cases_in sigs) decls h,
+              (
+                flat_in DeclIn _ (predicates_in sigs (types.predicates_of meaning decls)) decls h,
+                (
+                  flat_in DeclIn _ (handlers_in (sig_of meaning.kind decls) (names_of decls)) decls h,
+                  (
+                    flat_in DeclIn _ (targets_in sigs) decls h,
+                    (
+                      flat_in DeclIn _ (functions_in meaning sigs) decls h,
+                      (
+                        flat_in DeclIn _ (unserved_in decls) decls h,
+                        (
+                          large_in (flow_size decls) 0 decls h,
+                          tt,
+                        ),
+                      ),
+                    ),
+                  ),
+                ),
+              ),
+            ),
+          ),
+        ),
+      )
 
   -- ---- a form that isn't built, and the places of nodes
 

@@ -38,9 +38,7 @@ fn size_at(table: &[u32], node: NodeNo) -> u32
 fn add_sizes(table: &[u32], nodes: &[NodeNo], size: u32) -> u32
     ensures { result ≡ capped_sum table.now size nodes.now }
 {
-    nodes
-        .iter()
-        .fold(size, |total, node| capped_sum(total, size_at(table, *node)))
+    nodes.iter().fold(size, |total, node| capped_sum(total, size_at(table, *node)))
 }
 
 /// Puts a node's size into its place, once all that it leads to have theirs.

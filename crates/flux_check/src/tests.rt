@@ -84,6 +84,26 @@ fn each_row_stands_at_its_words(rt: HostRuntime) -> Result<(), Fail> {
 }
 
 #[test]
+fn rows_on_cases_and_handlers_stand_at_their_words(rt: HostRuntime) -> Result<(), Fail> {
+    let alloc = rt.alloc();
+    let parts = [PASS, b"A: [_] = Pass; A: [_, _] = ;"];
+    assert_parts(&rt, alloc, &parts, FaultKind::CaseCount, 39)?;
+    let parts = [PASS, SHOW, b"A: [_] = Pass; A: [_] = Show;"];
+    assert_parts(&rt, alloc, &parts, FaultKind::CaseTypes, 58)?;
+    let parts = [PASS, ECHO, b"handle error Pass => Echo;"];
+    assert_parts(&rt, alloc, &parts, FaultKind::HandlerTypes, 72)?;
+    let parts = [
+        TICK,
+        PASS,
+        SHOW,
+        b"source Tick => A; A = Pass; handle error A:(1) => Show;",
+    ];
+    let text = joined(alloc, &parts)?;
+    assert_sizes(&rt, alloc, text.as_bytes(), &[10]);
+    Ok(())
+}
+
+#[test]
 fn a_cycle_is_shown_from_its_lowest_node(rt: HostRuntime) {
     let (alloc, cycle) = (rt.alloc(), FaultKind::Cycle);
     let path = [b"A".as_slice(), b"B", b"A"];
@@ -98,8 +118,8 @@ fn a_cycle_is_shown_from_its_lowest_node(rt: HostRuntime) {
 fn earlier_groups_are_looked_at_first(rt: HostRuntime) -> Result<(), Fail> {
     let alloc = rt.alloc();
     assert_parts(&rt, alloc, &[b"A = $;"], FaultKind::BadByte, 4)?;
-    let unbuilt = b"A = B; typedef a B;";
-    assert_parts(&rt, alloc, &[unbuilt], FaultKind::NotBuilt, 15)?;
+    let unbuilt = b"A = B; atomic B: {c};";
+    assert_parts(&rt, alloc, &[unbuilt], FaultKind::NotBuilt, 14)?;
     let unknown = b"A = A; B = C;";
     assert_parts(&rt, alloc, &[unknown], FaultKind::UnknownNode, 11)?;
     let large = joined(alloc, &[TICK, PASS, b"A = A; source Tick => A;"])?;

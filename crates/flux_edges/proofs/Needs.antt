@@ -133,7 +133,7 @@ module _ (p : Program) where
         one (Some node) at contains =
             rule number node at
             ∙ first_true (list_any (is_session p.classes) node.declared) (list_any (λ led. needs_session p led.0) (leads_to node))
-                (any_hold (is_session p.classes) node.declared d.hold contains.0 contains.1 contains.2 test)
+            (any_hold (is_session p.classes) node.declared d.hold contains.0 contains.1 contains.2 test)
 
     leads_needs : (from next : ℕ) → IsIn next (leads_in p.nodes from) → needs_session p next ≡ true → needs_session p from ≡ true
     leads_needs from next is holds = one (slice_get p.nodes from) refl is
@@ -143,7 +143,7 @@ module _ (p : Program) where
         one (Some node) at is =
             rule from node at
             ∙ second_true (list_any (is_session p.classes) node.declared) (list_any (λ led. needs_session p led.0) (leads_to node))
-                (any_led (needs_session p) (leads_to node) next is holds)
+            (any_led (needs_session p) (leads_to node) next is holds)
 
     led_needs : (from : ℕ) (between : List NodeNo) (to : ℕ) → IsLed p.nodes from (between ++ record { 0 = to } ∷ []) → needs_session p to ≡ true → needs_session p from ≡ true
     led_needs from [] to (is, _) holds = leads_needs from to is holds

@@ -168,8 +168,8 @@ module _ (sigs : ℕ → NodeSig) (names : List (List ℕ)) where
 
       one : (t : Bool) → unlike_arms sigs rest_arms rest_sites ≡ own_places number name decls ++ unlike_arms sigs arms sites
           → unlike_arms sigs
-              (map (arm_of number) (cons_option (if t then Some (record { codes = map (λ code. decimal_value code.text) codes; node = number_of names handler }) else None) (filter_map (text_arm names name) decls)) ++ arms)
-              (cons_option (if t then Some handler.at else None) (filter_map (handler_place name) decls) ++ sites)
+          (map (arm_of number) (cons_option (if t then Some (record { codes = map (λ code. decimal_value code.text) codes; node = number_of names handler }) else None) (filter_map (text_arm names name) decls)) ++ arms)
+          (cons_option (if t then Some handler.at else None) (filter_map (handler_place name) decls) ++ sites)
           ≡ ((if t then unless (fits number handler) handler.at else []) ++ own_places number name decls) ++ unlike_arms sigs arms sites
       one true others = ap (λ (l : List ℕ). unless (fits number handler) handler.at ++ l) others ∙ sym (append_assoc (unless (fits number handler) handler.at) (own_places number name decls) (unlike_arms sigs arms sites))
       one false others = others
@@ -316,6 +316,6 @@ handlers_least sigs decls known_ =
     let names = names_of decls in
     ap (least_of None) (all_arms sigs names (texts_of defined decls) (classes_of decls) decls 0 names)
     ∙ same_least (all_places sigs names 0 names decls) (row_places sigs names decls)
-        (all_in_row sigs names 0 names (λ k name at wanted e. place_at decls k name wanted at e ∙ omega arith) decls)
-        (row_in_all sigs names decls known_)
+    (all_in_row sigs names 0 names (λ k name at wanted e. place_at decls k name wanted at e ∙ omega arith) decls)
+    (row_in_all sigs names decls known_)
     ∙ sym (least_words None (flat_map (unlike_handler sigs names) decls))

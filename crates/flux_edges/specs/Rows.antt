@@ -28,7 +28,7 @@ unlike_handler sigs names other = []
 abbrev pub unserved_source : List Decl → Decl → List Word
 unserved_source decls (Source name target) = word_unless
     (is_some (session_of name.text decls)
-      || not (needs_session (program_of decls) (place_of (names_of decls) target))) name
+    || not (needs_session (program_of decls) (place_of (names_of decls) target))) name
 unserved_source decls other = []
 
 abbrev pub handler_rows : (ℕ → NodeSig) → List Decl → List Row

@@ -84,16 +84,15 @@ fn arms_along(sigs: &[NodeSig], arms: &[Arm], sites: &[u32]) -> Place
     place
 }
 
-/// Fault 21, where a handler doesn't take what its node takes: at the first such handler in the text.
+/// Fault 21, where a handler doesn't take what its node takes: at the first such handler in the
+/// text.
 pub fn handler_types(alloc: Global, named: &Named, sigs: &Sigs) -> Result<(), CheckFault>
     ensures fits { OnOk result
         (least_of None (unlike_handlers (sig_at sigs.now.nodes) named.now) ≡ None) }
     ensures fault { IfErr result (IsLeastFault (fault_or HandlerTypes
         (least_of None (unlike_handlers (sig_at sigs.now.nodes) named.now)) None)) }
 {
-    let Ok(arms) = arms_of(alloc, named.program.nodes.as_slice()) else {
-        return Err(CheckFault::Memory);
-    };
+    let arms = arms_of(alloc, named.program.nodes.as_slice())?;
     let sites = named.sites.handlers.as_slice();
     let place = arms_along(sigs.nodes.as_slice(), arms.as_slice(), sites);
     fault(alloc, FaultKind::HandlerTypes, place)

@@ -15,7 +15,11 @@ pub type Place = Option<u32>;
 pub fn unless(holds: bool, at: u32, place: Place) -> Place
     ensures { result ≡ sooner_of holds at place }
 {
-    if holds { place } else { Some(sooner(place, at)) }
+    if holds {
+        place
+    } else {
+        Some(sooner(place, at))
+    }
 }
 
 /// The fault of a row with this least place, if it stands.

@@ -164,8 +164,8 @@ fn needing(alloc: Global, p: &Program) -> Result<List<bool>, Memory>
     }
 }
 
-/// Fault 26, where a source without a session function leads, by its target and on, to a node with a
-/// session constraint: at the first such source's name in the text.
+/// Fault 26, where a source without a session function leads, by its target and on, to a node with
+/// a session constraint: at the first such source's name in the text.
 pub fn session_edges(alloc: Global, named: &Named) -> Result<(), CheckFault>
     requires numbered { IsNumbered named.now.program }
     requires acyclic { HasCycle named.now.program.nodes → ⊥ }
@@ -176,9 +176,7 @@ pub fn session_edges(alloc: Global, named: &Named) -> Result<(), CheckFault>
     ensures fault { IfErr result (IsLeastFault (fault_or NoSession
         (least_of None (unserved_sources named.now)) None)) }
 {
-    let Ok(marks) = needing(alloc, &named.program) else {
-        return Err(CheckFault::Memory);
-    };
+    let marks = needing(alloc, &named.program)?;
     let lines = named.program.sources.as_slice();
     let place = lines_along(marks.as_slice(), lines, named.sites.sources.as_slice());
     fault(alloc, FaultKind::NoSession, place)

@@ -11,9 +11,9 @@ use Rattle.flux_model.specs.Locks.{no_locks}
 use Rattle.flux_model.specs.Sizes.{source_size, total_size}
 use Rattle.flux_hoist.specs.declared.checked.TheConstants.{SIZE_LIMIT}
 
--- the program is numbered, its names are distinct identifiers, and leading has no cycle; the signatures agree at each
--- join, case, handler and source; the order and the sizes, without locks as long as constraints aren't built, are those
--- of the program, and the sizes sum to at most 65,536
+-- the program is numbered, its names are distinct identifiers, and leading has no cycle; the kinds of the signatures agree
+-- at each join, case, handler and source; the order and the sizes, without locks as long as constraints aren't built, are
+-- those of the program, and the sizes sum to at most 65,536
 pub record Keeps (program : Program) (sigs : List NodeSig) (order : List NodeNo) (sizes : List ℕ) : Type 0 where
   pub numbered : IsNumbered program
   pub named : IsNamed program

@@ -45,7 +45,7 @@ module _ (p : Program) (locks : Holds) (are : AreLocks p locks) where
       let great = lower.modes h has in
       let (other, under, declares) = lifted top node h below great.declares in
       held top h (inr (other, under, declares))
-        (inr (record { node = other; below = under; declares = (h.mode, declares) }, past top h.class own.class le (upper.only own top_has)))
+      (inr (record { node = other; below = under; declares = (h.mode, declares) }, past top h.class own.class le (upper.only own top_has)))
 
   declares_own : HasDeclared p locks
   declares_own node h declares = held node h (inl declares) (inl (h.mode, declares))

@@ -77,7 +77,7 @@ meaning = record {
   id = λ name args. 4;
 }
 
--- a source, which is the last node, starts a flow at the first node for its one item
+-- a source starts a flow at the first node for its one item; the source's own node isn't listed, and no walk needs it
 abbrev pub setup_of : List Node → Holds → List ℕ → Value → Setup
 setup_of nodes locks class value = record {
   program = record {

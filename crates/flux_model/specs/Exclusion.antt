@@ -36,7 +36,7 @@ held_after key modes (Call made ∷ events) = held_after key modes events
 held_after key modes (Exit node outcome ∷ events) = held_after key modes events
 held_after key modes (End outcome ∷ events) = held_after key modes events
 
--- the modes of a flow's takes of a key that it hasn't dropped
+-- the modes of a flow's takes of a key that it hasn't dropped, where its events follow a walk
 abbrev pub modes_held : List Entry → ℕ → Key → List Mode
 modes_held entries flow key = held_after key [] (events_by flow entries)
 

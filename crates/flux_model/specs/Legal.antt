@@ -20,6 +20,6 @@ pub record IsLegal (setup : Setup) (entries : List Entry) : Type 0 where
   pub waits : WaitsAreRight setup entries
   pub free : IsFreeOfCycles setup entries
 
--- each item's flow is one whole path
+-- each item's flow is one whole path of its walk; cited beside `IsLegal`, which says that the locks are the program's
 abbrev pub IsWhole : Setup → List Entry → Type 0
 IsWhole setup entries = (flow : ℕ) → flow < length setup.items → IsWholePath setup entries flow

@@ -12,5 +12,4 @@ pub fn worked_examples()
 /// assignment has at least as much.
 pub fn hoisting_law()
     ensures { LocksAreLeastClosed }
-{
-}
+{}

@@ -1,3 +1,11 @@
 pub mod Keys
-pub mod Few
+pub mod Symbols
+pub mod Twice
+pub mod Canonical
+pub mod Taken
+pub mod Joined
+pub mod Gathered
+pub mod Sound
 pub mod Numbers
+pub mod Tabled
+pub mod Stepwise

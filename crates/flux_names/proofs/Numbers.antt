@@ -1,172 +1,327 @@
 -- Where no row stands the program is numbered.
-use Rattle.std.proofs.Common.{◌≡◌, ◌≤◌, ◌<◌, ◌+◌, ℕ, suc, ap, Bool, true, false, List, [], ◌∷◌, ◌++◌, length, map, Option, Some, None, refl, sym, subst, ◌∙◌, arith, length-append}
-use Rattle.std.specs.List.{flat_map, position_or_len, AllByRecursion}
+use Rattle.std.proofs.Common.{◌≡◌, ◌≤◌, ◌<◌, ◌+◌, ℕ, Bool, true, false, if◌then◌else◌, List, [], ◌∷◌, ◌++◌, length, map, Option, Some, None, refl, sym, ap, subst, ◌∙◌, arith}
+use Rattle.std.specs.List.{list_any, filter_map, cons_option, flat_map, position_or_len, enumerate_from, AllByRecursion}
 use Rattle.std.specs.Str.{bytes_eq}
-use Rattle.std.proofs.lemmas.List.{append-nil}
-use Rattle.flux_faults.specs.declared.faults.FaultKind.{FaultKind}
+use Rattle.std.proofs.lemmas.List.{length-append, length-map}
+use Rattle.flux_values.specs.Meanings.{LibraryMeaning}
+use Rattle.flux_values.specs.declared.answers.Mode.{Mode}
+use Rattle.flux_model.specs.declared.programs.TheConstants.{COUNT_LIMIT}
+use Rattle.flux_model.specs.declared.programs.Class.{Class}
+use Rattle.flux_model.specs.declared.programs.Hold.{Hold}
+use Rattle.flux_model.specs.declared.programs.NodeNo.{NodeNo}
+use Rattle.flux_model.specs.declared.programs.HandleArm.{HandleArm}
+use Rattle.flux_model.specs.declared.programs.Case.{Case}
+use Rattle.flux_model.specs.declared.programs.Body.{Body}
+use Rattle.flux_model.specs.declared.programs.Body.TheVariants.{Concrete, Abstract}
+use Rattle.flux_model.specs.declared.programs.SourceLine.{SourceLine}
+use Rattle.flux_model.specs.Leading.{members_of, handlers_of, leads_to}
+use Rattle.flux_model.specs.Numbered.{AreBelow, AreOnClasses, IsPatternBelow, ArePatternsBelow, parts_of, IsNumbered}
 use Rattle.flux_syntax.specs.declared.declarations.Word.{Word}
+use Rattle.flux_syntax.specs.declared.declarations.Constraint.{Constraint}
 use Rattle.flux_syntax.specs.declared.declarations.Decl.{Decl}
 use Rattle.flux_syntax.specs.declared.declarations.Decl.TheVariants.{Signature, Flow, Source, Typedef, Handler, Atomic, Session}
-use Rattle.flux_model.specs.declared.programs.SourceLine.{SourceLine}
-use Rattle.flux_model.specs.declared.programs.Node.{Node}
-use Rattle.flux_model.specs.Leading.{leads_to, AreBelow, IsNumbered, parts_of}
-use Rattle.flux_syntax.proofs.Counts.{decls_few}
 use Rattle.flux_syntax.specs.Counted.{total, words_in, words_of}
-use Rattle.flux_syntax.specs.Words.{naming, sourced, inner, and_name, names_after, names_of}
-use Rattle.flux_syntax.specs.Words.{listed}
-use Rattle.flux_syntax.specs.Least.{sooner, soonest, fault_or, first_fault}
-use Rattle.flux_names.specs.Rows.{Kinds, Nodes, known, among, all_among, again, twice_after, twice_named, unknown_nodes, rows}
-use Rattle.flux_syntax.specs.ProgramOfText.{number_of, node_of, source_of, program_with}
-use Rattle.flux_names.proofs.Few.{few_names}
+use Rattle.flux_syntax.specs.Words.{naming, defined, known, and_name, names_after, names_of, function_of, texts_of, sourced, listed}
+use Rattle.flux_syntax.specs.ProgramOfText.{place_of, number_of, library_name, pattern_of, patterns_of, case_of, is_signed, body_of, arm_of, constraints_of, constraints_on, decimal_value, classes_of, hold_on, mode_on, declared_by, source_of, node_of, program_of}
+use Rattle.flux_syntax.specs.Least.{first_fault}
+use Rattle.flux_syntax.proofs.Counts.{decls_few}
+use Rattle.flux_names.specs.Rows.{not_among, used_names, inner_names, sessioned, pattern_words, unknown_function, unknown_predicates_in, unknown_nodes, unknown_predicates, rows}
+use Rattle.flux_names.proofs.Symbols.{bytes_same, below_length}
+use Rattle.flux_names.proofs.Canonical.{classes_in_order, canonical, few_classes}
+use Rattle.flux_names.proofs.Gathered.{nil_append}
+use Rattle.flux_names.proofs.Sound.{AreSound, sound, all_parts}
 
--- ---- rows that don't stand
+-- ---- lists
 
-some_place : (at : ℕ) (words : List Word) → soonest (Some at) words ≡ None → ⊥
-some_place at [] e = absurd cc
-some_place at (w ∷ words) e = some_place (sooner (Some at) w.at) words e
-
-pub no_words : (words : List Word) → soonest None words ≡ None → words ≡ []
-no_words [] e = refl
-no_words (w ∷ words) e = absurd (some_place w.at words e)
-
-pub no_row : (kind : FaultKind) (place : Option ℕ) (other : Option (FaultKind × ℕ)) → fault_or kind place other ≡ None → (place ≡ None) × (other ≡ None)
-no_row kind None other e = (refl, e)
-no_row kind (Some at) other e = absurd cc
-
-pub nil_append : (a b : List Word) → a ++ b ≡ [] → (a ≡ []) × (b ≡ [])
-nil_append [] b e = (refl, e)
-nil_append (w ∷ a) b e = absurd cc
-
--- ---- numbers
-
-known_below : (names : List (List ℕ)) (name : List ℕ) → known names name ≡ true → position_or_len (bytes_eq name) names < length names
-known_below [] name e = absurd cc
-known_below (n ∷ names) name e = one (bytes_eq name n) refl (known_below names name)
-  where
-    one : (t : Bool) → bytes_eq name n ≡ t → (known names name ≡ true → position_or_len (bytes_eq name) names < length names) → position_or_len (bytes_eq name) (n ∷ names) < length (n ∷ names)
-    one true i more = rw i (omega arith)
-    one false i more = let h : known names name ≡ true = rw i at e in let lt = more h in rw i (omega (arith, lt))
-
-pub known_word : (names : List (List ℕ)) (w : Word) → among false names w ≡ [] → known names w.text ≡ true
-known_word names w e = one (known names w.text) refl
-  where
-    one : (t : Bool) → known names w.text ≡ t → known names w.text ≡ true
-    one true i = i
-    one false i = let h : ◌≡◌ {A = List Word} (w ∷ []) [] = rw i at e in absurd cc
-
-all_below : (names : List (List ℕ)) (words : List Word) → all_among false names words ≡ [] → AreBelow (length names) (map (number_of names) words)
-all_below names [] e = tt
-all_below names (w ∷ words) e = let both = nil_append (among false names w) (all_among false names words) e in (known_below names w.text (known_word names w both.0), all_below names words both.1)
-
--- ---- nodes and sources
-
-pub all_append : {A : Type 0} (P : A → Type 0) (a b : List A) → AllByRecursion P a → AllByRecursion P b → AllByRecursion P (a ++ b)
+pub all_append : {X : Type 0} (P : X → Type 0) (a b : List X) → AllByRecursion P a → AllByRecursion P b → AllByRecursion P (a ++ b)
 all_append P [] b x y = y
 all_append P (x ∷ a) b h y = (h.0, all_append P a b h.1 y)
 
-node_below : (names : List (List ℕ)) (d : Decl) → all_among false names (listed (sourced d) ++ inner d) ≡ [] → AllByRecursion (λ node. AreBelow (length names) (leads_to node)) (node_of names d)
-node_below names (Signature name ins outs) e = (tt, tt)
-node_below names (Flow name patterns members) e = (subst (AreBelow (length names)) (sym (append-nil (map (number_of names) members ++ []) ∙ append-nil (map (number_of names) members))) (all_below names members e), tt)
-node_below names (Source name target) e = tt
-node_below names (Typedef name function) e = tt
-node_below names (Handler node codes handler) e = tt
-node_below names (Atomic node constraints) e = tt
-node_below names (Session source function) e = tt
+all_map : {X Y : Type 0} (P : Y → Type 0) (f : X → Y) → ((x : X) → P (f x)) → (xs : List X) → AllByRecursion P (map f xs)
+all_map P f each [] = tt
+all_map P f each (x ∷ xs) = (each x, all_map P f each xs)
+
+-- ---- words that are known have numbers
+
+-- no word is unknown
+pub known_words : (names : List (List ℕ)) (words : List Word) → not_among names words ≡ [] → AllByRecursion (λ w. known names w.text ≡ true) words
+known_words names [] e = tt
+known_words names (w ∷ words) e = one (known names w.text) refl (known_words names words)
+  where
+    one : (t : Bool) → known names w.text ≡ t → (not_among names words ≡ [] → AllByRecursion (λ w. known names w.text ≡ true) words) → AllByRecursion (λ w. known names w.text ≡ true) (w ∷ words)
+    one true i more = (i, more (rw i at e))
+    one false i more = let h : ◌≡◌ {A = List Word} (w ∷ not_among names words) [] = rw i at e in absurd cc
+
+pub known_below : (names : List (List ℕ)) (w : Word) → known names w.text ≡ true → place_of names w < length names
+known_below names w e = below_length bytes_eq bytes_same w.text names e
+
+all_below : (names : List (List ℕ)) (words : List Word) → AllByRecursion (λ w. known names w.text ≡ true) words → AreBelow (length names) (map (number_of names) words)
+all_below names [] each = tt
+all_below names (w ∷ words) each = (known_below names w each.0, all_below names words each.1)
+
+-- the names of a line are known
+abbrev KnowsLines : List (List ℕ) → List Decl → Type 0
+KnowsLines names decls = flat_map (λ d. not_among names (used_names d)) decls ≡ []
+
+knows_first : (names : List (List ℕ)) (d : Decl) (decls : List Decl) → KnowsLines names (d ∷ decls) → AllByRecursion (λ w. known names w.text ≡ true) (used_names d)
+knows_first names d decls e = known_words names (used_names d) (nil_append (not_among names (used_names d)) (flat_map (λ d. not_among names (used_names d)) decls) e).0
+
+knows_rest : (names : List (List ℕ)) (d : Decl) (decls : List Decl) → KnowsLines names (d ∷ decls) → KnowsLines names decls
+knows_rest names d decls e = (nil_append (not_among names (used_names d)) (flat_map (λ d. not_among names (used_names d)) decls) e).1
+
+-- ---- members and handlers
+
+members_more : (count : ℕ) (o : Option Case) (cases : List Case) → AllByRecursion (λ case. AreBelow count case.members) (cons_option o []) → AreBelow count (flat_map (λ case. case.members) cases)
+    → AreBelow count (flat_map (λ case. case.members) (cons_option o cases))
+members_more count None cases own rest = rest
+members_more count (Some case) cases own rest = all_append (λ (n : NodeNo). n.0 < count) case.members (flat_map (λ case. case.members) cases) own.0 rest
+
+case_below : (names types : List (List ℕ)) (name : List ℕ) (d : Decl) → AllByRecursion (λ w. known names w.text ≡ true) (used_names d) → AllByRecursion (λ case. AreBelow (length names) case.members) (cons_option (case_of names types name d) [])
+case_below names types name (Flow called patterns members) each = one (bytes_eq called.text name)
+  where
+    case : Case
+    case = record { patterns = patterns_of types patterns; members = map (number_of names) members }
+
+    one : (b : Bool) → AllByRecursion (λ case. AreBelow (length names) case.members) (cons_option (if b then Some case else None) [])
+    one true = (all_below names members each, tt)
+    one false = tt
+case_below names types name (Signature called ins outs) each = tt
+case_below names types name (Source called target) each = tt
+case_below names types name (Typedef called function) each = tt
+case_below names types name (Handler node codes handler) each = tt
+case_below names types name (Atomic node constraints) each = tt
+case_below names types name (Session source function) each = tt
+
+cases_below : (names types : List (List ℕ)) (name : List ℕ) (decls : List Decl) → KnowsLines names decls → AreBelow (length names) (flat_map (λ case. case.members) (filter_map (case_of names types name) decls))
+cases_below names types name [] e = tt
+cases_below names types name (d ∷ decls) e =
+    members_more (length names) (case_of names types name d) (filter_map (case_of names types name) decls)
+    (case_below names types name d (knows_first names d decls e)) (cases_below names types name decls (knows_rest names d decls e))
+
+body_below : (names types : List (List ℕ)) (name : List ℕ) (decls : List Decl) → KnowsLines names decls → (b : Bool)
+    → AreBelow (length names) (members_of (if b then Concrete (library_name name) else Abstract (filter_map (case_of names types name) decls)))
+body_below names types name decls e true = tt
+body_below names types name decls e false = cases_below names types name decls e
+
+arm_below : (names : List (List ℕ)) (name : List ℕ) (d : Decl) (arms : List HandleArm) → AllByRecursion (λ w. known names w.text ≡ true) (used_names d) → AreBelow (length names) (handlers_of arms)
+    → AreBelow (length names) (handlers_of (cons_option (arm_of names name d) arms))
+arm_below names name (Handler node codes handler) arms each rest = one (bytes_eq node.text name)
+  where
+    arm : HandleArm
+    arm = record { codes = map (λ code. decimal_value code.text) codes; node = number_of names handler }
+
+    one : (b : Bool) → AreBelow (length names) (handlers_of (cons_option (if b then Some arm else None) arms))
+    one true = (known_below names handler each.1.0, rest)
+    one false = rest
+arm_below names name (Signature called ins outs) arms each rest = rest
+arm_below names name (Flow called patterns members) arms each rest = rest
+arm_below names name (Source called target) arms each rest = rest
+arm_below names name (Typedef called function) arms each rest = rest
+arm_below names name (Atomic node constraints) arms each rest = rest
+arm_below names name (Session source function) arms each rest = rest
+
+arms_below : (names : List (List ℕ)) (name : List ℕ) (decls : List Decl) → KnowsLines names decls → AreBelow (length names) (handlers_of (filter_map (arm_of names name) decls))
+arms_below names name [] e = tt
+arms_below names name (d ∷ decls) e = arm_below names name d (filter_map (arm_of names name) decls) (knows_first names d decls e) (arms_below names name decls (knows_rest names d decls e))
+
+node_below : (names types : List (List ℕ)) (classes : List Class) (decls : List Decl) → KnowsLines names decls → (name : List ℕ) → AreBelow (length names) (leads_to (node_of names types classes decls name))
+node_below names types classes decls e name =
+    all_append (λ (n : NodeNo). n.0 < length names) (members_of (body_of names types name decls)) (handlers_of (filter_map (arm_of names name) decls))
+    (body_below names types name decls e (list_any (is_signed name) decls)) (arms_below names name decls e)
+
+-- ---- constraints
+
+hold_below : (count number : ℕ) (mode : Option Mode) (holds : List Hold) → number < count → AreOnClasses count holds → AreOnClasses count (cons_option (hold_on number mode) holds)
+hold_below count number None holds lt rest = rest
+hold_below count number (Some mode) holds lt rest = (lt, rest)
+
+holds_below : (f : Class → Option Mode) (count number : ℕ) (classes : List Class) → number + length classes ≤ count → AreOnClasses count (filter_map (λ numbered. hold_on numbered.0 (f numbered.1)) (enumerate_from number classes))
+holds_below f count number [] le = tt
+holds_below f count number (class ∷ classes) le =
+    hold_below count number (f class) (filter_map (λ numbered. hold_on numbered.0 (f numbered.1)) (enumerate_from (number + 1) classes)) (omega arith) (holds_below f count (number + 1) classes (omega arith))
+
+-- ---- patterns
+
+pattern_below : (types : List (List ℕ)) (pattern : Option Word) (rest : List Word) → AllByRecursion (λ w. known types w.text ≡ true) (cons_option pattern rest) → IsPatternBelow (length types) (pattern_of types pattern) × AllByRecursion (λ w. known types w.text ≡ true) rest
+pattern_below types None rest each = (tt, each)
+pattern_below types (Some w) rest each = (known_below types w each.0, each.1)
+
+patterns_below : (types : List (List ℕ)) (patterns : List (Option Word)) → AllByRecursion (λ w. known types w.text ≡ true) (filter_map (λ p. p) patterns) → AllByRecursion (IsPatternBelow (length types)) (map (pattern_of types) patterns)
+patterns_below types [] each = tt
+patterns_below types (pattern ∷ patterns) each =
+    let parts = pattern_below types pattern (filter_map (λ p. p) patterns) each in (parts.0, patterns_below types patterns parts.1)
+
+abbrev KnowsPatterns : List (List ℕ) → List Decl → Type 0
+KnowsPatterns types decls = AllByRecursion (λ d. AllByRecursion (λ w. known types w.text ≡ true) (pattern_words d)) decls
+
+knows_patterns : (meaning : LibraryMeaning) (types : List (List ℕ)) (decls : List Decl) → flat_map (unknown_predicates_in meaning types) decls ≡ [] → KnowsPatterns types decls
+knows_patterns meaning types [] e = tt
+knows_patterns meaning types (d ∷ decls) e =
+    let both = nil_append (unknown_predicates_in meaning types d) (flat_map (unknown_predicates_in meaning types) decls) e in
+    (known_words types (pattern_words d) (nil_append (unknown_function meaning d) (not_among types (pattern_words d)) both.0).1, knows_patterns meaning types decls both.1)
+
+flow_patterns_below : (types : List (List ℕ)) (name : Word) (patterns : Option (List (Option Word))) (members : List Word) → AllByRecursion (λ w. known types w.text ≡ true) (pattern_words (Flow name patterns members)) → AllByRecursion (IsPatternBelow (length types)) (patterns_of types patterns)
+flow_patterns_below types name None members each = tt
+flow_patterns_below types name (Some patterns) members each = patterns_below types patterns each
+
+case_patterns : (names types : List (List ℕ)) (name : List ℕ) (d : Decl) (cases : List Case) → AllByRecursion (λ w. known types w.text ≡ true) (pattern_words d)
+    → AllByRecursion (λ case. AllByRecursion (IsPatternBelow (length types)) case.patterns) cases → AllByRecursion (λ case. AllByRecursion (IsPatternBelow (length types)) case.patterns) (cons_option (case_of names types name d) cases)
+case_patterns names types name (Flow called patterns members) cases each rest = one (bytes_eq called.text name)
+  where
+    case : Case
+    case = record { patterns = patterns_of types patterns; members = map (number_of names) members }
+
+    one : (b : Bool) → AllByRecursion (λ case. AllByRecursion (IsPatternBelow (length types)) case.patterns) (cons_option (if b then Some case else None) cases)
+    one true = (flow_patterns_below types called patterns members each, rest)
+    one false = rest
+case_patterns names types name (Signature called ins outs) cases each rest = rest
+case_patterns names types name (Source called target) cases each rest = rest
+case_patterns names types name (Typedef called function) cases each rest = rest
+case_patterns names types name (Handler node codes handler) cases each rest = rest
+case_patterns names types name (Atomic node constraints) cases each rest = rest
+case_patterns names types name (Session source function) cases each rest = rest
+
+cases_patterns : (names types : List (List ℕ)) (name : List ℕ) (decls : List Decl) → KnowsPatterns types decls → AllByRecursion (λ case. AllByRecursion (IsPatternBelow (length types)) case.patterns) (filter_map (case_of names types name) decls)
+cases_patterns names types name [] e = tt
+cases_patterns names types name (d ∷ decls) e = case_patterns names types name d (filter_map (case_of names types name) decls) e.0 (cases_patterns names types name decls e.1)
+
+body_patterns : (names types : List (List ℕ)) (name : List ℕ) (decls : List Decl) → KnowsPatterns types decls → (b : Bool) → ArePatternsBelow (length types) (if b then Concrete (library_name name) else Abstract (filter_map (case_of names types name) decls))
+body_patterns names types name decls e true = tt
+body_patterns names types name decls e false = cases_patterns names types name decls e
+
+-- as many predicates as names of them
+as_many : (decls : List Decl) → length (texts_of defined decls) ≡ length (texts_of function_of decls)
+as_many [] = refl
+as_many (Typedef name function ∷ decls) = let more = as_many decls in omega (arith, more)
+as_many (Signature name ins outs ∷ decls) = as_many decls
+as_many (Flow name patterns members ∷ decls) = as_many decls
+as_many (Source name target ∷ decls) = as_many decls
+as_many (Handler node codes handler ∷ decls) = as_many decls
+as_many (Atomic node constraints ∷ decls) = as_many decls
+as_many (Session source function ∷ decls) = as_many decls
+
+-- ---- sources
 
 abbrev IsLineBelow : ℕ → SourceLine → Type 0
 IsLineBelow count line = (line.node.0 < count) × (line.target.0 < count)
 
-line_below : (names : List (List ℕ)) (d : Decl) → all_among false names (listed (sourced d) ++ inner d) ≡ [] → AllByRecursion (IsLineBelow (length names)) (source_of names d)
-line_below names (Source name target) e = let both = all_below names (name ∷ target ∷ []) e in ((both.0, both.1.0), tt)
-line_below names (Signature name ins outs) e = tt
-line_below names (Flow name patterns members) e = tt
-line_below names (Typedef name function) e = tt
-line_below names (Handler node codes handler) e = tt
-line_below names (Atomic node constraints) e = tt
-line_below names (Session source function) e = tt
-
-nodes_below : (names : List (List ℕ)) (decls : List Decl) → unknown_nodes names decls ≡ [] → AllByRecursion (λ node. AreBelow (length names) (leads_to node)) (flat_map (node_of names) decls)
-nodes_below names [] e = tt
-nodes_below names (d ∷ decls) e = let both = nil_append (all_among false names (listed (sourced d) ++ inner d)) (unknown_nodes names decls) e in
-    all_append (λ node. AreBelow (length names) (leads_to node)) (node_of names d) (flat_map (node_of names) decls) (node_below names d both.0) (nodes_below names decls both.1)
-
-lines_below : (names : List (List ℕ)) (decls : List Decl) → unknown_nodes names decls ≡ [] → AllByRecursion (IsLineBelow (length names)) (flat_map (source_of names) decls)
-lines_below names [] e = tt
-lines_below names (d ∷ decls) e = let both = nil_append (all_among false names (listed (sourced d) ++ inner d)) (unknown_nodes names decls) e in
-    all_append (IsLineBelow (length names)) (source_of names d) (flat_map (source_of names) decls) (line_below names d both.0) (lines_below names decls both.1)
-
--- ---- one node for each name
-
-pub new_name : (names : List (List ℕ)) (w : Word) → again names (Some w) ≡ [] → length (and_name names (Some w)) ≡ length names + 1
-new_name names w e = one (known names w.text) refl
-  where
-    one : (t : Bool) → known names w.text ≡ t → length (and_name names (Some w)) ≡ length names + 1
-    one true i = let h : ◌≡◌ {A = List Word} (w ∷ []) [] = rw i at e in absurd cc
-    one false i = rw i (length-append names (w.text ∷ []) ∙ omega arith)
-
-count_names : (all names : List (List ℕ)) (decls : List Decl) → twice_after naming names decls ≡ [] → length (names_after names decls) ≡ length names + length (flat_map (node_of all) decls)
-count_names all names [] e = omega arith
-count_names all names (Signature name ins outs ∷ decls) e =
-    let both = nil_append (again names (Some name)) (twice_after naming (and_name names (Some name)) decls) e in
-    let more = count_names all (and_name names (Some name)) decls both.1 in let one = new_name names name both.0 in omega (arith, more, one)
-count_names all names (Flow name patterns members ∷ decls) e =
-    let both = nil_append (again names (Some name)) (twice_after naming (and_name names (Some name)) decls) e in
-    let more = count_names all (and_name names (Some name)) decls both.1 in let one = new_name names name both.0 in omega (arith, more, one)
-count_names all names (Source name target ∷ decls) e = count_names all names decls e
-count_names all names (Typedef name function ∷ decls) e = count_names all names decls e
-count_names all names (Handler node codes handler ∷ decls) e = count_names all names decls e
-count_names all names (Atomic node constraints ∷ decls) e = count_names all names decls e
-count_names all names (Session source function ∷ decls) e = count_names all names decls e
+lines_below : (names : List (List ℕ)) (all decls : List Decl) → KnowsLines names decls → AllByRecursion (IsLineBelow (length names)) (filter_map (source_of names all) decls)
+lines_below names all [] e = tt
+lines_below names all (Source called target ∷ decls) e =
+    let each = knows_first names (Source called target) decls e in
+    ((known_below names called each.0, known_below names target each.1.0), lines_below names all decls (knows_rest names (Source called target) decls e))
+lines_below names all (Signature called ins outs ∷ decls) e = lines_below names all decls (knows_rest names (Signature called ins outs) decls e)
+lines_below names all (Flow called patterns members ∷ decls) e = lines_below names all decls (knows_rest names (Flow called patterns members) decls e)
+lines_below names all (Typedef called function ∷ decls) e = lines_below names all decls (knows_rest names (Typedef called function) decls e)
+lines_below names all (Handler node codes handler ∷ decls) e = lines_below names all decls (knows_rest names (Handler node codes handler) decls e)
+lines_below names all (Atomic node constraints ∷ decls) e = lines_below names all decls (knows_rest names (Atomic node constraints) decls e)
+lines_below names all (Session source function ∷ decls) e = lines_below names all decls (knows_rest names (Session source function) decls e)
 
 -- ---- nothing is longer than the declarations
 
-few_lines : (names : List (List ℕ)) (decls : List Decl) → length (flat_map (source_of names) decls) ≤ length decls
-few_lines names [] = omega arith
-few_lines names (Source name target ∷ decls) = let more = few_lines names decls in omega (arith, more)
-few_lines names (Signature name ins outs ∷ decls) = let more = few_lines names decls in omega (arith, more)
-few_lines names (Flow name patterns members ∷ decls) = let more = few_lines names decls in omega (arith, more)
-few_lines names (Typedef name function ∷ decls) = let more = few_lines names decls in omega (arith, more)
-few_lines names (Handler node codes handler ∷ decls) = let more = few_lines names decls in omega (arith, more)
-few_lines names (Atomic node constraints ∷ decls) = let more = few_lines names decls in omega (arith, more)
-few_lines names (Session source function ∷ decls) = let more = few_lines names decls in omega (arith, more)
+one_name : (names : List (List ℕ)) (word : Option Word) → length (and_name names word) ≤ length names + 1
+one_name names None = omega arith
+one_name names (Some word) = one (known names word.text)
+  where
+    one : (b : Bool) → length (if b then names else names ++ word.text ∷ []) ≤ length names + 1
+    one true = omega arith
+    one false = omega (arith, length-append names (word.text ∷ []))
 
-one_each : (members : List Word) → total (λ _. 1) members ≡ length members
-one_each [] = refl
-one_each (w ∷ members) = let more = one_each members in omega (arith, more)
+few_after : (names : List (List ℕ)) (decls : List Decl) → length (names_after names decls) ≤ length names + length decls
+few_after names [] = omega arith
+few_after names (d ∷ decls) = let more = few_after (and_name names (naming d)) decls in let one = one_name names (naming d) in omega (arith, more, one)
 
-length_of : (names : List (List ℕ)) (members : List Word) → length (map (number_of names) members) ≡ length members
-length_of names [] = refl
-length_of names (w ∷ members) = ap (λ (n : ℕ). suc n) (length_of names members)
+-- there are no more names than words
+pub few_names : (decls : List Decl) → length (names_of decls) ≤ words_of decls
+few_names decls = let more = few_after [] decls in omega (arith, more, decls_few decls)
 
-abbrev HasFewParts : ℕ → Node → Type 0
-HasFewParts most node = parts_of node.body ≤ most
+few_filtered : {Y : Type 0} (f : Decl → Option Y) (decls : List Decl) → length (filter_map f decls) ≤ length decls
+few_filtered f [] = omega arith
+few_filtered {Y} f (d ∷ decls) = one (f d) (few_filtered f decls)
+  where
+    one : (o : Option Y) → length (filter_map f decls) ≤ length decls → length (cons_option o (filter_map f decls)) ≤ length (d ∷ decls)
+    one None more = omega (arith, more)
+    one (Some y) more = omega (arith, more)
 
-node_few : (names : List (List ℕ)) (most : ℕ) (d : Decl) → words_in d ≤ most → AllByRecursion (HasFewParts most) (node_of names d)
-node_few names most (Signature name ins outs) le = (omega arith, tt)
-node_few names most (Flow name patterns members) le =
-    (omega (arith, le, one_each members, length_of names members, length-append (map (number_of names) members) []), tt)
-node_few names most (Source name target) le = tt
-node_few names most (Typedef name function) le = tt
-node_few names most (Handler node codes handler) le = tt
-node_few names most (Atomic node constraints) le = tt
-node_few names most (Session source function) le = tt
+-- nor more texts of a sort
+pub few_texts : (sort : Decl → Option Word) (decls : List Decl) → length (texts_of sort decls) ≤ words_of decls
+few_texts sort decls = omega (arith, length-map (filter_map sort decls) (λ (w : Word). w.text), few_filtered sort decls, decls_few decls)
 
-nodes_few : (names : List (List ℕ)) (most : ℕ) (decls : List Decl) → words_of decls ≤ most → AllByRecursion (HasFewParts most) (flat_map (node_of names) decls)
-nodes_few names most [] le = tt
-nodes_few names most (d ∷ decls) le = all_append (HasFewParts most) (node_of names d) (flat_map (node_of names) decls) (node_few names most d (omega (arith, le))) (nodes_few names most decls (omega (arith, le)))
+total_each : {X : Type 0} (xs : List X) → total (λ _. 1) xs ≡ length xs
+total_each [] = refl
+total_each (x ∷ xs) = let more = total_each xs in omega (arith, more)
 
-pub numbered : (kind : Kinds) (node : Nodes) (decls : List Decl) → words_of decls ≤ 1048576 → first_fault (rows kind node decls) ≡ None → IsNumbered (program_with (names_of decls) decls)
-numbered kind node decls few sound =
-    let names = names_of decls in
-    let first = no_row _ (soonest None (twice_named decls)) _ sound in
-    let second = no_row _ (soonest None (unknown_nodes names decls)) _ first.1 in
-    let twice = nil_append (twice_after naming [] decls) (twice_after sourced [] decls) (no_words (twice_named decls) first.0) in
-    let unknown = no_words (unknown_nodes names decls) second.0 in
-    let count : length names ≡ length (flat_map (node_of names) decls) = count_names names [] decls twice.0 ∙ omega arith in
-    record {
-      few = subst (λ n. n ≤ 1048576) count (few_names decls (omega (arith, few, decls_few decls)));
-      few_sources = omega (arith, few, decls_few decls, few_lines names decls);
-      parts = nodes_few names 1048576 decls few;
-      nodes = subst (λ n. AllByRecursion (λ node. AreBelow n (leads_to node)) (flat_map (node_of names) decls)) count (nodes_below names decls unknown);
-      sources = subst (λ n. AllByRecursion (IsLineBelow n) (flat_map (source_of names) decls)) count (lines_below names decls unknown);
-    }
+constraints_few : (d : Decl) → length (constraints_of d) ≤ words_in d
+constraints_few (Atomic node constraints) = omega (arith, total_each constraints)
+constraints_few (Signature name ins outs) = omega arith
+constraints_few (Flow name patterns members) = omega arith
+constraints_few (Source name target) = omega arith
+constraints_few (Typedef name function) = omega arith
+constraints_few (Handler node codes handler) = omega arith
+constraints_few (Session source function) = omega arith
+
+all_constraints_few : (decls : List Decl) → length (flat_map constraints_of decls) ≤ words_of decls
+all_constraints_few [] = omega arith
+all_constraints_few (d ∷ decls) = omega (arith, constraints_few d, all_constraints_few decls, length-append (constraints_of d) (flat_map constraints_of decls))
+
+-- nor more classes
+pub few_classes_of : (decls : List Decl) → length (classes_of decls) ≤ words_of decls
+few_classes_of decls = omega (arith, few_classes (flat_map constraints_of decls), all_constraints_few decls)
+
+abbrev parts : List Case → ℕ
+parts cases = length cases + length (flat_map (λ case. case.members) cases)
+
+case_parts : (names types : List (List ℕ)) (name : List ℕ) (d : Decl) (cases : List Case) → parts (cons_option (case_of names types name d) cases) ≤ words_in d + parts cases
+case_parts names types name (Flow called patterns members) cases = one (bytes_eq called.text name)
+  where
+    case : Case
+    case = record { patterns = patterns_of types patterns; members = map (number_of names) members }
+
+    one : (b : Bool) → parts (cons_option (if b then Some case else None) cases) ≤ words_in (Flow called patterns members) + parts cases
+    one true = omega (arith, total_each members, length-map members (number_of names), length-append (map (number_of names) members) (flat_map (λ case. case.members) cases))
+    one false = omega arith
+case_parts names types name (Signature called ins outs) cases = omega arith
+case_parts names types name (Source called target) cases = omega arith
+case_parts names types name (Typedef called function) cases = omega arith
+case_parts names types name (Handler node codes handler) cases = omega arith
+case_parts names types name (Atomic node constraints) cases = omega arith
+case_parts names types name (Session source function) cases = omega arith
+
+cases_parts : (names types : List (List ℕ)) (name : List ℕ) (decls : List Decl) → parts (filter_map (case_of names types name) decls) ≤ words_of decls
+cases_parts names types name [] = omega arith
+cases_parts names types name (d ∷ decls) = omega (arith, case_parts names types name d (filter_map (case_of names types name) decls), cases_parts names types name decls)
+
+body_parts : (names types : List (List ℕ)) (name : List ℕ) (decls : List Decl) (b : Bool) → parts_of (if b then Concrete (library_name name) else Abstract (filter_map (case_of names types name) decls)) ≤ words_of decls
+body_parts names types name decls true = omega arith
+body_parts names types name decls false = cases_parts names types name decls
+
+-- ---- the program
+
+pub numbered : (meaning : LibraryMeaning) (decls : List Decl) → words_of decls ≤ COUNT_LIMIT → first_fault (rows meaning decls) ≡ None → IsNumbered (program_of decls)
+numbered meaning decls few none = record {
+  few = omega (arith, count, few_names decls, few);
+  few_classes = omega (arith, few_classes_of decls, few);
+  few_sources = omega (arith, few_filtered (source_of names decls) decls, decls_few decls, few);
+  few_predicates = omega (arith, few_texts function_of decls, few);
+  parts = all_map (λ node. parts_of node.body ≤ COUNT_LIMIT) (node_of names types classes decls) (λ name. omega (arith, few, body_parts names types name decls (list_any (is_signed name) decls))) names;
+  canonical = canonical classes (classes_in_order (flat_map constraints_of decls));
+  nodes = subst (λ n. AllByRecursion (λ node. AreBelow n (leads_to node)) (map (node_of names types classes decls) names)) (sym count) (all_map (λ node. AreBelow (length names) (leads_to node)) (node_of names types classes decls) (node_below names types classes decls no.known_nodes) names);
+  classes = all_map (λ node. AreOnClasses (length classes) node.declared) (node_of names types classes decls) (λ name. holds_below (λ class. mode_on class (flat_map (constraints_on name) decls)) (length classes) 0 classes (omega arith)) names;
+  patterns = subst (λ n. AllByRecursion (λ node. ArePatternsBelow n node.body) (map (node_of names types classes decls) names)) (as_many decls) (all_map (λ node. ArePatternsBelow (length types) node.body) (node_of names types classes decls) (λ name. body_patterns names types name decls (knows_patterns meaning types decls no.known_predicates) (list_any (is_signed name) decls)) names);
+  sources = subst (λ n. AllByRecursion (IsLineBelow n) (filter_map (source_of names decls) decls)) (sym count) (lines_below names decls decls no.known_nodes);
+}
+  where
+    names : List (List ℕ)
+    names = names_of decls
+
+    types : List (List ℕ)
+    types = texts_of defined decls
+
+    classes : List Class
+    classes = classes_of decls
+
+    no : AreSound meaning decls
+    no = sound meaning decls none
+
+    count : length (map (node_of (names_of decls) (texts_of defined decls) (classes_of decls) decls) (names_of decls)) ≡ length (names_of decls)
+    count = length-map (names_of decls) (node_of (names_of decls) (texts_of defined decls) (classes_of decls) decls)

@@ -1,3 +1,4 @@
 pub mod Rows
 pub mod Resolving
 pub mod Building
+pub mod steps

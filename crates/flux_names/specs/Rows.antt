@@ -1,6 +1,6 @@
--- The faults 5 to 9 and 12 to 14: for each its row, the words at which it stands.
-use Rattle.std.specs.Prelude.{ℕ, ◌&&◌, not, nat_lt, Bool, true, false, if◌then◌else◌, List, [], ◌∷◌, ◌++◌, length, Option, Some, None}
-use Rattle.std.specs.List.{list_any, flat_map}
+-- The faults of names, 5 to 14 and 28: for each its row, the words at which it stands.
+use Rattle.std.specs.Prelude.{ℕ, ◌==◌, nat_le, ◌&&◌, ◌||◌, not, map, Bool, true, false, if◌then◌else◌, List, [], ◌∷◌, ◌++◌, drop, Option, Some, None}
+use Rattle.std.specs.List.{list_any, list_all, filter, filter_map, flat_map}
 use Rattle.std.specs.Option.{is_none}
 use Rattle.std.specs.Str.{bytes_eq}
 use Rattle.flux_values.specs.declared.values.Kind.{Kind}
@@ -8,48 +8,122 @@ use Rattle.flux_values.specs.declared.values.Kind.TheVariants as kinds
 use Rattle.flux_values.specs.declared.meanings.Sig.{Sig}
 use Rattle.flux_values.specs.declared.meanings.Role.{Role}
 use Rattle.flux_values.specs.declared.meanings.Role.TheVariants as roles
-use Rattle.flux_faults.specs.declared.faults.FaultKind.TheVariants.{TwiceNamed, UnknownNode, UnknownType, NotInLibrary, UnlikeLibrary, NotASource, SourceMisused, TooMany}
+use Rattle.flux_values.specs.Identifiers.{is_digit}
+use Rattle.flux_values.specs.Meanings.{LibraryMeaning}
+use Rattle.flux_faults.specs.declared.faults.FaultKind.TheVariants.{TwiceNamed, UnknownNode, UnknownType, NotInLibrary, UnlikeLibrary, UnknownPredicate, UnknownSession, NotASource, SourceMisused, TooMany, BadCode}
 use Rattle.flux_syntax.specs.declared.declarations.Word.{Word}
 use Rattle.flux_syntax.specs.declared.declarations.Param.{Param}
+use Rattle.flux_syntax.specs.declared.declarations.Constraint.{Constraint}
 use Rattle.flux_syntax.specs.declared.declarations.Decl.{Decl}
-use Rattle.flux_syntax.specs.declared.declarations.Decl.TheVariants.{Signature}
-use Rattle.flux_syntax.specs.Words.{naming, sourced, inner, and_name, names_of, listed, spelling}
-use Rattle.flux_syntax.specs.ProgramOfText.{library_name}
+use Rattle.flux_syntax.specs.declared.declarations.Decl.TheVariants.{Signature, Flow, Source, Typedef, Handler, Atomic, Session}
+use Rattle.flux_syntax.specs.Words.{naming, sourced, defined, names_of, first_words, texts_of, known, listed, spelling}
+use Rattle.flux_syntax.specs.ProgramOfText.{library_name, decimal_value, class_of, constraints_of, is_on}
 use Rattle.flux_syntax.specs.Least.{Row}
+use Rattle.flux_names.specs.declared.rows.TheConstants.{NODE_LIMIT, CLASS_LIMIT, CODE_LIMIT}
 
-abbrev pub same : Bool → Bool → Bool
-same true b = b
-same false b = not b
+-- ---- words of declarations
 
--- whether a name is among names
-abbrev pub known : List (List ℕ) → List ℕ → Bool
-known names name = list_any (bytes_eq name) names
+-- the node of a `handle` line without codes
+abbrev pub handled : Decl → Option Word
+handled (Handler node [] handler) = Some node
+handled other = None
 
--- a word, where it is among the names, or isn't
-abbrev pub among : Bool → List (List ℕ) → Word → List Word
-among wanted names word = if same wanted (known names word.text) then word ∷ [] else []
+-- the source of a `session` line
+abbrev pub sessioned : Decl → Option Word
+sessioned (Session source function) = Some source
+sessioned other = None
 
-abbrev pub all_among : Bool → List (List ℕ) → List Word → List Word
-all_among wanted names [] = []
-all_among wanted names (word ∷ words) = among wanted names word ++ all_among wanted names words
+-- where no source may stand: the target of a source line, the members of a flow, both names of a `handle` line,
+-- and the node of an `atomic` line
+abbrev pub inner_names : Decl → List Word
+inner_names (Source name target) = target ∷ []
+inner_names (Flow name patterns members) = members
+inner_names (Handler node codes handler) = node ∷ handler ∷ []
+inner_names (Atomic node constraints) = node ∷ []
+inner_names other = []
 
--- the word that a declaration has of a sort, where its text was that of an earlier one
-abbrev pub again : List (List ℕ) → Option Word → List Word
-again names None = []
-again names (Some word) = among true names word
+-- every name of a node in a line that doesn't name a node itself, and a flow's members
+abbrev pub used_names : Decl → List Word
+used_names decl = listed (sourced decl) ++ (listed (sessioned decl) ++ inner_names decl)
 
-abbrev pub twice_after : (Decl → Option Word) → List (List ℕ) → List Decl → List Word
-twice_after sort names [] = []
-twice_after sort names (decl ∷ decls) = again names (sort decl) ++ twice_after sort (and_name names (sort decl)) decls
+-- ---- words that are or aren't among names
 
--- the words that name a node where there are 4,096 already
-abbrev pub beyond : List (List ℕ) → Option Word → List Word
-beyond names None = []
-beyond names (Some word) = if nat_lt (length names) 4096 then [] else among false names word
+abbrev pub among : List (List ℕ) → List Word → List Word
+among names words = filter (λ word. known names word.text) words
 
-abbrev pub beyond_after : List (List ℕ) → List Decl → List Word
-beyond_after names [] = []
-beyond_after names (decl ∷ decls) = beyond names (naming decl) ++ beyond_after (and_name names (naming decl)) decls
+abbrev pub not_among : List (List ℕ) → List Word → List Word
+not_among names words = filter (λ word. not (known names word.text)) words
+
+abbrev pub word_if : Bool → Word → List Word
+word_if wanted word = if wanted then word ∷ [] else []
+
+abbrev pub listed_if : Bool → Option Word → List Word
+listed_if wanted word = if wanted then listed word else []
+
+-- ---- 5: a signature or flow has the name of an earlier signature or flow, unless both are flows with pattern lists;
+-- or there is a second `typedef` of a name, `source` of a node, `handle` without codes of a node, or `session` of a
+-- source
+
+abbrev pub is_patterned : Decl → Bool
+is_patterned (Flow name (Some patterns) members) = true
+is_patterned other = false
+
+abbrev pub have_one_name : Option Word → Option Word → Bool
+have_one_name (Some name) (Some other) = bytes_eq name.text other.text
+have_one_name name other = false
+
+-- a line has the name that an earlier line of its sort has, and they aren't both flows with pattern lists
+abbrev pub repeats : (Decl → Option Word) → Decl → Decl → Bool
+repeats sort decl earlier =
+    have_one_name (sort decl) (sort earlier) && not (is_patterned decl && is_patterned earlier)
+
+-- the names of the lines that repeat one before
+abbrev pub repeated_after : (Decl → Option Word) → List Decl → List Decl → List Word
+repeated_after sort before [] = []
+repeated_after sort before (decl ∷ decls) =
+    listed_if (list_any (repeats sort decl) before) (sort decl)
+    ++ repeated_after sort (before ++ decl ∷ []) decls
+
+abbrev pub repeated : List Decl → (Decl → Option Word) → List Word
+repeated decls sort = repeated_after sort [] decls
+
+abbrev pub twice_named : List Decl → List Word
+twice_named decls =
+    flat_map (repeated decls) (naming ∷ defined ∷ sourced ∷ handled ∷ sessioned ∷ [])
+
+-- ---- 6: a name in a `source` line, a flow's members, a `handle` or an `atomic` line, or the source of a `session`
+-- line has neither signature nor flow
+
+abbrev pub unknown_nodes : List Decl → List Word
+unknown_nodes decls = flat_map (λ decl. not_among (names_of decls) (used_names decl)) decls
+
+-- ---- 7: the library has no kind for a parameter's type
+
+abbrev pub unknown_type : LibraryMeaning → Param → List Word
+unknown_type meaning param = word_if (is_none (meaning.kind (spelling param))) param.ty
+
+abbrev pub unknown_types_in : LibraryMeaning → Decl → List Word
+unknown_types_in meaning (Signature name ins outs) =
+    flat_map (unknown_type meaning) ins ++ flat_map (unknown_type meaning) outs
+unknown_types_in meaning other = []
+
+abbrev pub unknown_types : LibraryMeaning → List Decl → List Word
+unknown_types meaning decls = flat_map (unknown_types_in meaning) decls
+
+-- ---- 8: a signature's library name isn't in the library
+
+-- the library's node of a name
+abbrev pub library_node : LibraryMeaning → List ℕ → Option Sig
+library_node meaning name = meaning.node (library_name name)
+
+abbrev pub not_in : LibraryMeaning → Decl → List Word
+not_in meaning (Signature name ins outs) = word_if (is_none (library_node meaning name.text)) name
+not_in meaning other = []
+
+abbrev pub not_in_library : LibraryMeaning → List Decl → List Word
+not_in_library meaning decls = flat_map (not_in meaning) decls
+
+-- ---- 9: a signature's kinds differ in number or order from the library's
 
 abbrev pub same_kind : Kind → Kind → Bool
 same_kind kinds.Int kinds.Int = true
@@ -62,6 +136,59 @@ abbrev pub is_kind : Option Kind → Kind → Bool
 is_kind None kind = false
 is_kind (Some own) kind = same_kind own kind
 
+-- parameters of these kinds, in number and order
+abbrev pub have_kinds : LibraryMeaning → List Param → List Kind → Bool
+have_kinds meaning [] [] = true
+have_kinds meaning (param ∷ params) (kind ∷ kinds) =
+    is_kind (meaning.kind (spelling param)) kind && have_kinds meaning params kinds
+have_kinds meaning params kinds = false
+
+-- parameters are like a library node, if there is one
+abbrev pub are_like : LibraryMeaning → Option Sig → List Param → List Param → Bool
+are_like meaning None ins outs = true
+are_like meaning (Some node) ins outs =
+    have_kinds meaning ins node.ins && have_kinds meaning outs node.outs
+
+abbrev pub unlike : LibraryMeaning → Decl → List Word
+unlike meaning (Signature name ins outs) =
+    word_if (not (are_like meaning (library_node meaning name.text) ins outs)) name
+unlike meaning other = []
+
+abbrev pub unlike_library : LibraryMeaning → List Decl → List Word
+unlike_library meaning decls = flat_map (unlike meaning) decls
+
+-- ---- 10: a `typedef`'s function isn't in the library, or a pattern isn't a `typedef` name
+
+-- the patterns of a flow that aren't `_`
+abbrev pub pattern_words : Decl → List Word
+pattern_words (Flow name (Some patterns) members) = filter_map (λ pattern. pattern) patterns
+pattern_words other = []
+
+abbrev pub unknown_function : LibraryMeaning → Decl → List Word
+unknown_function meaning (Typedef name function) =
+    word_if (is_none (meaning.predicate function.text)) function
+unknown_function meaning other = []
+
+abbrev pub unknown_predicates_in : LibraryMeaning → List (List ℕ) → Decl → List Word
+unknown_predicates_in meaning types decl =
+    unknown_function meaning decl ++ not_among types (pattern_words decl)
+
+abbrev pub unknown_predicates : LibraryMeaning → List Decl → List Word
+unknown_predicates meaning decls = flat_map (unknown_predicates_in meaning (texts_of defined decls)) decls
+
+-- ---- 11: a session function isn't in the library
+
+abbrev pub unknown_session : LibraryMeaning → Decl → List Word
+unknown_session meaning (Session source function) =
+    word_if (is_none (meaning.session function.text)) function
+unknown_session meaning other = []
+
+abbrev pub unknown_sessions : LibraryMeaning → List Decl → List Word
+unknown_sessions meaning decls = flat_map (unknown_session meaning) decls
+
+-- ---- 12: the node of `source` isn't a concrete node with a source role, or `session` names a node without a
+-- `source` line
+
 abbrev pub is_source_role : Role → Bool
 is_source_role roles.Plain = false
 is_source_role roles.Source = true
@@ -72,86 +199,104 @@ abbrev pub is_source : Option Sig → Bool
 is_source None = false
 is_source (Some node) = is_source_role node.role
 
--- a library as far as names go: the kinds of types, and the nodes
-abbrev pub Kinds : Type 0
-Kinds = List ℕ → Option Kind
+-- the name of a signature whose library node has a source role
+abbrev pub source_node : LibraryMeaning → Decl → Option Word
+source_node meaning (Signature name ins outs) =
+    if is_source (library_node meaning name.text) then Some name else None
+source_node meaning other = None
 
-abbrev pub Nodes : Type 0
-Nodes = List ℕ → Option Sig
+-- the names of the concrete nodes with a source role
+abbrev pub source_nodes : LibraryMeaning → List Decl → List (List ℕ)
+source_nodes meaning decls = texts_of (source_node meaning) decls
 
--- parameters of these kinds, in number and order
-abbrev pub have_kinds : Kinds → List Param → List Kind → Bool
-have_kinds kind [] [] = true
-have_kinds kind (param ∷ params) (k ∷ ks) = is_kind (kind (spelling param)) k && have_kinds kind params ks
-have_kinds kind params ks = false
+abbrev pub not_sources_in : List (List ℕ) → List (List ℕ) → Decl → List Word
+not_sources_in sources lines decl =
+    not_among sources (listed (sourced decl)) ++ not_among lines (listed (sessioned decl))
 
--- a signature is like its library node, if there is one
-abbrev pub is_like : Kinds → Option Sig → List Param → List Param → Bool
-is_like kind None ins outs = true
-is_like kind (Some node) ins outs = have_kinds kind ins node.ins && have_kinds kind outs node.outs
+abbrev pub not_sources : LibraryMeaning → List Decl → List Word
+not_sources meaning decls =
+    flat_map (not_sources_in (source_nodes meaning decls) (texts_of sourced decls)) decls
 
--- the names of signatures whose library node is a source
-abbrev pub source_name : Nodes → Decl → Option Word
-source_name node (Signature name ins outs) = if is_source (node (library_name name.text)) then Some name else None
-source_name node other = None
+-- ---- 13: a concrete node with a source role is a member, a target, a name in `handle`, or has `atomic`
 
-abbrev pub source_names_after : Nodes → List (List ℕ) → List Decl → List (List ℕ)
-source_names_after node names [] = names
-source_names_after node names (decl ∷ decls) = source_names_after node (and_name names (source_name node decl)) decls
+abbrev pub misused_sources : LibraryMeaning → List Decl → List Word
+misused_sources meaning decls = flat_map (λ decl. among (source_nodes meaning decls) (inner_names decl)) decls
 
-abbrev pub source_names : Nodes → List Decl → List (List ℕ)
-source_names node decls = source_names_after node [] decls
+-- ---- 14: there are more than 4,096 nodes or 256 classes
 
--- 5: a signature or flow has the name of an earlier one, or a source line that of an earlier one
-abbrev pub twice_named : List Decl → List Word
-twice_named decls = twice_after naming [] decls ++ twice_after sourced [] decls
+-- the words of the constraints whose class no constraint before has
+abbrev pub class_words_after : List Constraint → List Constraint → List Word
+class_words_after before [] = []
+class_words_after before (constraint ∷ constraints) =
+    word_if (not (list_any (is_on (class_of constraint)) before)) constraint.name
+    ++ class_words_after (before ++ constraint ∷ []) constraints
 
--- 6: a name in a source line or in a flow's members has neither signature nor flow
-abbrev pub unknown_nodes : List (List ℕ) → List Decl → List Word
-unknown_nodes names decls = flat_map (λ d. all_among false names (listed (sourced d) ++ inner d)) decls
+abbrev pub class_words : List Decl → List Word
+class_words decls = class_words_after [] (flat_map constraints_of decls)
 
--- 7: the library has no kind for a parameter's type
-abbrev pub unknown_type : Kinds → Param → List Word
-unknown_type kind param = if is_none (kind (spelling param)) then param.ty ∷ [] else []
-
-abbrev pub unknown_in : Kinds → Decl → List Word
-unknown_in kind (Signature name ins outs) = flat_map (unknown_type kind) ins ++ flat_map (unknown_type kind) outs
-unknown_in kind other = []
-
-abbrev pub unknown_types : Kinds → List Decl → List Word
-unknown_types kind decls = flat_map (unknown_in kind) decls
-
--- 8: a signature's library name isn't in the library
-abbrev pub not_in : Nodes → Decl → List Word
-not_in node (Signature name ins outs) = if is_none (node (library_name name.text)) then name ∷ [] else []
-not_in node other = []
-
-abbrev pub not_in_library : Nodes → List Decl → List Word
-not_in_library node decls = flat_map (not_in node) decls
-
--- 9: a signature's kinds differ in number or order from the library's
-abbrev pub unlike : Kinds → Nodes → Decl → List Word
-unlike kind node (Signature name ins outs) = if is_like kind (node (library_name name.text)) ins outs then [] else name ∷ []
-unlike kind node other = []
-
-abbrev pub unlike_library : Kinds → Nodes → List Decl → List Word
-unlike_library kind node decls = flat_map (unlike kind node) decls
-
--- 12: the node of a source line isn't a concrete node with a source role
-abbrev pub not_sources : Nodes → List Decl → List Word
-not_sources node decls = flat_map (λ d. all_among false (source_names node decls) (listed (sourced d))) decls
-
--- 13: a concrete node with a source role is a member or a target
-abbrev pub misused_sources : Nodes → List Decl → List Word
-misused_sources node decls = flat_map (λ d. all_among true (source_names node decls) (inner d)) decls
-
--- 14: a node beyond the 4,096th
+-- the words that name a new node beyond the 4,096th, and those of new classes beyond the 256th
 abbrev pub too_many : List Decl → List Word
-too_many decls = beyond_after [] decls
+too_many decls = drop NODE_LIMIT (first_words decls) ++ drop CLASS_LIMIT (class_words decls)
 
--- ---- all rows
+-- ---- 28: a number in a `handle` line isn't 1 to 256 in decimal without leading zeros, or stood before it in a `handle`
+-- line of the same node
 
-abbrev pub rows : Kinds → Nodes → List Decl → List Row
-rows kind node decls =
-    (TwiceNamed, twice_named decls) ∷ (UnknownNode, unknown_nodes (names_of decls) decls) ∷ (UnknownType, unknown_types kind decls) ∷ (NotInLibrary, not_in_library node decls)
-    ∷ (UnlikeLibrary, unlike_library kind node decls) ∷ (NotASource, not_sources node decls) ∷ (SourceMisused, misused_sources node decls) ∷ (TooMany, too_many decls) ∷ []
+abbrev pub begins_with_zero : List ℕ → Bool
+begins_with_zero [] = false
+begins_with_zero (digit ∷ digits) = digit == 48
+
+-- from 1 to 256 in decimal without leading zeros
+abbrev pub is_code : List ℕ → Bool
+is_code digits = list_all is_digit digits && not (begins_with_zero digits)
+    && nat_le 1 (decimal_value digits) && nat_le (decimal_value digits) CODE_LIMIT
+
+-- the code that digits spell, if they spell one
+abbrev pub code_of : List ℕ → Option ℕ
+code_of digits = if is_code digits then Some (decimal_value digits) else None
+
+-- a number of a `handle` line, and the line's node
+pub record CodeOn : Type 0 where
+  pub node : Word
+  pub number : Word
+
+abbrev pub codes_in : Decl → List CodeOn
+codes_in (Handler node codes handler) = map (λ code. record { node = node; number = code }) codes
+codes_in other = []
+
+-- whether two numbers are one code of one node
+abbrev pub is_same_code : Option ℕ → Option ℕ → Bool
+is_same_code (Some code) (Some other) = code == other
+is_same_code code other = false
+
+abbrev pub is_taken_by : CodeOn → CodeOn → Bool
+is_taken_by code before =
+    bytes_eq code.node.text before.node.text && is_same_code (code_of code.number.text) (code_of before.number.text)
+
+abbrev pub is_bad_code : List CodeOn → CodeOn → Bool
+is_bad_code before code = is_none (code_of code.number.text) || list_any (is_taken_by code) before
+
+-- the numbers that are no code, or stood before
+abbrev pub bad_codes_after : List CodeOn → List CodeOn → List Word
+bad_codes_after before [] = []
+bad_codes_after before (code ∷ codes) =
+    word_if (is_bad_code before code) code.number ++ bad_codes_after (before ++ code ∷ []) codes
+
+abbrev pub bad_codes : List Decl → List Word
+bad_codes decls = bad_codes_after [] (flat_map codes_in decls)
+
+-- ---- all rows, in the order in which they are looked for
+
+abbrev pub rows : LibraryMeaning → List Decl → List Row
+rows meaning decls =
+    (TwiceNamed, twice_named decls)
+    ∷ (UnknownNode, unknown_nodes decls)
+    ∷ (UnknownType, unknown_types meaning decls)
+    ∷ (NotInLibrary, not_in_library meaning decls)
+    ∷ (UnlikeLibrary, unlike_library meaning decls)
+    ∷ (UnknownPredicate, unknown_predicates meaning decls)
+    ∷ (UnknownSession, unknown_sessions meaning decls)
+    ∷ (NotASource, not_sources meaning decls)
+    ∷ (SourceMisused, misused_sources meaning decls)
+    ∷ (TooMany, too_many decls)
+    ∷ (BadCode, bad_codes decls)
+    ∷ []

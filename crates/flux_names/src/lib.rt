@@ -1,17 +1,27 @@
 //! From declarations to a numbered program.
 //!
-//! `resolve` gives the program of a text's declarations, with the places of its names, or the least fault of names. For
-//! now it knows signatures, flows without patterns and source lines; `first_unbuilt` finds the first other form.
+//! `resolve` takes any list of declarations. It gives their program, made of all lines of each node, with the places of
+//! its names in the text, or the least fault of names.
 #![tactic(auto)]
 
 mod building;
+mod classes;
+mod codes;
+mod lines;
+mod modes;
+mod naming;
+mod nodes;
+mod places;
 mod programs;
+mod repeats;
 mod resolving;
 mod rows;
+mod signatures;
+mod sorts;
 mod tables;
-#[cfg(test)]
-mod tests;
+mod uses;
 
-pub use building::first_unbuilt;
+pub use building::{first_constrained, first_patterned, first_unbuilt};
 pub use flux_model::{Named, Sites};
 pub use resolving::resolve;
+pub use rows::{CLASS_LIMIT, CODE_LIMIT, NODE_LIMIT};

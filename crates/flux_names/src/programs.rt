@@ -1,175 +1,256 @@
-//! The program of declarations.
+//! The program of declarations, and where its names stand.
 
-ghost use Rattle.std.specs.Prelude.{◌≡◌, ◌≤◌, ◌++◌, ◌∷◌, [], IfOk, OnOk, map, length, option_copied};
-ghost use Rattle.std.specs.List.{flat_map};
-ghost use Rattle.flux_syntax.specs.ProgramOfText.{library_name};
-ghost use Rattle.flux_syntax.specs.Words.{listed};
-ghost use Rattle.flux_syntax.specs.ProgramOfText.{number_of, node_with, node_of, source_of, places, targeted, sites_of, program_with};
+ghost use Rattle.std.specs.Prelude.{◌≡◌, ◌≤◌, ◌++◌, [], IfOk, OnOk, length, map, drop, slice_index_or};
+ghost use Rattle.std.specs.List.{filter_map, flat_map};
+ghost use Rattle.std.specs.List.Sorted.{IsStrictlySortedBy};
+ghost use Rattle.flux_model.specs.Modes.{class_cmp};
+ghost use Rattle.flux_model.specs.declared.programs.TheConstants.{COUNT_LIMIT};
+ghost use Rattle.flux_syntax.specs.Counted.{words_of};
+ghost use Rattle.flux_syntax.specs.Words.{names_of, first_words, defined, sourced, texts_of};
+ghost use Rattle.flux_syntax.specs.ProgramOfText.{classes_of, named_of, program_of, sites_of, places};
+ghost use Rattle.flux_names.specs.Rows.{class_words, repeated, used_names, not_among, unknown_nodes, bad_codes};
+ghost use Rattle.flux_names.specs.steps.Sorts.{names_by, word_of};
+ghost use Rattle.flux_names.specs.steps.Picks.{words_now};
+ghost use Rattle.flux_names.specs.steps.Nodes.{lines_now, lines_of, nodes_from, unknown_in, sources_in, predicates_in, handler_sites_in, handler_sites_from};
 
-use crate::rows::{library_name, naming, sourced};
+use crate::classes::ClassTable;
+use crate::lines::Lines;
+use crate::naming::NodeTable;
+use crate::nodes::{Tables, node_of, number_of, session_of};
+use crate::sorts::Sort;
 use crate::tables::Names;
-use flux_model::{Body, Case, Node, NodeNo, Program, Sites, SourceLine};
+use flux_model::{Named, Node, Program, Sites, SourceLine};
 use flux_syntax::{Decl, Word};
-use flux_values::{List, Memory, TextBytes, TextFault};
+use flux_values::{List, Memory, TextBytes};
 use std::alloc::Global;
 
-fn copy_name(alloc: Global, name: &[u8]) -> Result<TextBytes, Memory>
-    requires { length name.now ≤ 65536 }
-    ensures { IfOk result (λ copied. copied ≡ name.now) }
-{
-    match TextBytes::copy(alloc, name) {
-        Ok(copied) => Ok(copied),
-        Err(TextFault::TooLong) => unreachable!(),
-        Err(TextFault::Memory) => Err(Memory),
+/// What declarations name.
+#[derive(Drop)]
+pub struct Symbols<'a> {
+    pub nodes: NodeTable<'a>,
+    pub classes: ClassTable<'a>,
+    /// The names of `typedef` lines.
+    pub types: Names<'a>,
+    /// The nodes of `source` lines.
+    pub sources: Names<'a>,
+}
+
+impl<'a> Symbols<'a> {
+    pub fn of(alloc: Global, decls: &'a [Decl]) -> Result<Symbols<'a>, Memory>
+        ensures names { IfOk result (λ symbols. symbols.nodes.names ≡ names_of decls.now) }
+        ensures words { IfOk result (λ symbols. symbols.nodes.words ≡ first_words decls.now) }
+        ensures classes { IfOk result (λ symbols. symbols.classes.classes ≡ classes_of decls.now) }
+        ensures class_words { IfOk result (λ symbols. symbols.classes.words ≡ class_words decls.now) }
+        ensures types { IfOk result (λ symbols. symbols.types ≡ names_by defined decls.now) }
+        ensures sources { IfOk result (λ symbols. symbols.sources ≡ names_by sourced decls.now) }
+    {
+        Ok(Symbols {
+            nodes: NodeTable::of(alloc, decls)?,
+            classes: ClassTable::of(alloc, decls)?,
+            types: Sort::Defined.names(alloc, decls)?,
+            sources: Sort::Sourced.names(alloc, decls)?,
+        })
     }
 }
 
-/// A name's number: its place among the names.
-fn number_of(names: &Names, word: &Word) -> NodeNo
-    requires { length names.now ≤ 1048576 }
-    ensures { result ≡ number_of names.now word.now }
+/// The nodes of words, each with the lines of the next number.
+fn nodes_of(
+    alloc: Global,
+    tables: &Tables,
+    words: &[&Word],
+    lines: &Lines,
+) -> Result<List<Node>, Memory>
+    requires names { length tables.now.names.now ≤ COUNT_LIMIT }
+    requires types { length tables.now.types.now ≤ COUNT_LIMIT }
+    requires order { IsStrictlySortedBy class_cmp tables.now.classes.now }
+    requires few { length tables.now.classes.now ≤ COUNT_LIMIT }
+    requires each { length words.now ≡ length lines.now }
+    ensures { IfOk result (λ nodes. nodes ≡ nodes_from tables.now.names.now tables.now.types.now tables.now.classes.now lines.now 0 (words_now words.now)) }
 {
-    NodeNo(names.place(word.text.as_bytes()) as u32)
-}
-
-fn numbers_of(alloc: Global, names: &Names, words: &[Word]) -> Result<List<NodeNo>, Memory>
-    requires { length names.now ≤ 1048576 }
-    ensures { IfOk result (λ numbers. numbers ≡ map (number_of names.now) words.now) }
-{
-    let mut numbers = List::new(alloc);
+    let mut nodes = List::new(alloc);
     for word in words {
-        if numbers.push(number_of(names, word)).is_err() {
-            return Err(Memory);
-        }
+        let own = lines.of(nodes.len());
+        nodes.add(node_of(alloc, tables, word, own)?)?;
     }
-    Ok(numbers)
+    Ok(nodes)
 }
 
-fn node_with(alloc: Global, name: &Word, body: Body) -> Result<Node, Memory>
-    ensures { IfOk result (λ node. node ≡ node_with name.now body) }
-{
-    Ok(Node {
-        name: name.text.again(alloc)?,
-        body,
-        on_fail: None,
-        declared: List::new(alloc),
-    })
-}
-
-fn one_case(alloc: Global, members: List<NodeNo>) -> Result<List<Case>, Memory>
-    ensures { IfOk result (λ cases. cases ≡ record { patterns = []; members = members } ∷ []) }
-{
-    let mut cases = List::new(alloc);
-    let case = Case {
-        patterns: List::new(alloc),
-        members,
-    };
-    match cases.push(case) {
-        Ok(()) => Ok(cases),
-        Err(_) => Err(Memory),
-    }
-}
-
-fn push_node(
+fn add_source(
     alloc: Global,
     names: &Names,
+    lines: &Lines,
     decl: &Decl,
-    nodes: &mut List<Node>,
+    sources: &mut List<SourceLine>,
 ) -> Result<(), Memory>
-    requires { length names.now ≤ 1048576 }
-    ensures { OnOk result (nodes.new ≡ nodes.old ++ node_of names.now decl.now) }
+    requires few { length names.now ≤ COUNT_LIMIT }
+    requires each { length lines.now ≡ length names.now }
+    requires known { not_among names.now (used_names decl.now) ≡ [] }
+    ensures { OnOk result (sources.new ≡ sources.old ++ sources_in names.now lines.now decl.now) }
 {
-    let node = match decl {
-        Decl::Signature { name, .. } => {
-            let library = copy_name(alloc, library_name(name.text.as_bytes()))?;
-            node_with(alloc, name, Body::Concrete(library))?
+    match decl {
+        Decl::Source { name, target } => {
+            let node = number_of(names, name);
+            sources.add(SourceLine {
+                node,
+                target: number_of(names, target),
+                session: session_of(alloc, lines.of(node.0 as usize))?,
+            })
         }
-        Decl::Flow { name, members, .. } => {
-            let members = numbers_of(alloc, names, members.as_slice())?;
-            node_with(alloc, name, Body::Abstract(one_case(alloc, members)?))?
-        }
-        _ => return Ok(()),
-    };
-    match nodes.push(node) {
-        Ok(()) => Ok(()),
-        Err(_) => Err(Memory),
+        _ => Ok(()),
     }
 }
 
-fn push_source(names: &Names, decl: &Decl, sources: &mut List<SourceLine>) -> Result<(), Memory>
-    requires { length names.now ≤ 1048576 }
-    ensures { OnOk result (sources.new ≡ sources.old ++ source_of names.now decl.now) }
+fn sources_of(
+    alloc: Global,
+    names: &Names,
+    lines: &Lines,
+    decls: &[Decl],
+) -> Result<List<SourceLine>, Memory>
+    requires few { length names.now ≤ COUNT_LIMIT }
+    requires each { length lines.now ≡ length names.now }
+    requires known { unknown_in names.now decls.now ≡ [] }
+    ensures { IfOk result (λ sources. sources ≡ flat_map (sources_in names.now lines.now) decls.now) }
 {
-    let line = match decl {
-        Decl::Source { name, target } => SourceLine {
-            node: number_of(names, name),
-            target: number_of(names, target),
-            session: None,
-        },
-        _ => return Ok(()),
-    };
-    match sources.push(line) {
-        Ok(()) => Ok(()),
-        Err(_) => Err(Memory),
-    }
-}
-
-/// The program of declarations, whose nodes have these names.
-pub fn program_of(alloc: Global, names: &Names, decls: &[Decl]) -> Result<Program, Memory>
-    requires { length names.now ≤ 1048576 }
-    ensures { IfOk result (λ program. program ≡ program_with names.now decls.now) }
-{
-    let mut nodes = List::new(alloc);
     let mut sources = List::new(alloc);
     for decl in decls {
-        push_node(alloc, names, decl, &mut nodes)?;
-        push_source(names, decl, &mut sources)?;
+        add_source(alloc, names, lines, decl, &mut sources)?;
     }
+    Ok(sources)
+}
+
+fn add_predicate(alloc: Global, decl: &Decl, predicates: &mut List<TextBytes>) -> Result<(), Memory>
+    ensures { OnOk result (predicates.new ≡ predicates.old ++ predicates_in decl.now) }
+{
+    match decl {
+        Decl::Typedef { function, .. } => predicates.add(function.text.again(alloc)?),
+        _ => Ok(()),
+    }
+}
+
+fn predicates_of(alloc: Global, decls: &[Decl]) -> Result<List<TextBytes>, Memory>
+    ensures { IfOk result (λ predicates. predicates ≡ flat_map predicates_in decls.now) }
+{
+    let mut predicates = List::new(alloc);
+    for decl in decls {
+        add_predicate(alloc, decl, &mut predicates)?;
+    }
+    Ok(predicates)
+}
+
+/// The program of declarations without faults of names.
+fn program_of(
+    alloc: Global,
+    symbols: &Symbols,
+    lines: &Lines,
+    decls: &[Decl],
+) -> Result<Program, Memory>
+    requires names { symbols.now.nodes.names ≡ names_of decls.now }
+    requires words { symbols.now.nodes.words ≡ first_words decls.now }
+    requires classes { symbols.now.classes.classes ≡ classes_of decls.now }
+    requires types { symbols.now.types ≡ names_by defined decls.now }
+    requires lines { lines.now ≡ map (lines_of decls.now) (names_of decls.now) }
+    requires few { words_of decls.now ≤ COUNT_LIMIT }
+    requires once { repeated decls.now defined ≡ [] }
+    requires known { unknown_nodes decls.now ≡ [] }
+    requires codes { bad_codes decls.now ≡ [] }
+    ensures { IfOk result (λ program. program ≡ program_of decls.now) }
+{
+    let classes = symbols.classes.classes.copied(alloc)?;
+    let tables = Tables {
+        names: &symbols.nodes.names,
+        types: &symbols.types,
+        classes: classes.as_slice(),
+    };
+    let nodes = nodes_of(alloc, &tables, symbols.nodes.words.as_slice(), lines)?;
     Ok(Program {
-        classes: List::new(alloc),
         nodes,
-        sources,
-        predicates: List::new(alloc),
+        sources: sources_of(alloc, &symbols.nodes.names, lines, decls)?,
+        predicates: predicates_of(alloc, decls)?,
+        classes,
     })
 }
 
-fn push_place(sites: &mut List<u32>, word: Option<&Word>) -> Result<(), Memory>
-    ensures { OnOk result (sites.new ≡ sites.old ++ places (listed (option_copied word.entry))) }
+// ---- places
+
+fn places_of(alloc: Global, words: &[&Word]) -> Result<List<u32>, Memory>
+    ensures { IfOk result (λ sites. sites ≡ places (words_now words.now)) }
 {
-    match word {
-        Some(word) => match sites.push(word.at) {
-            Ok(()) => Ok(()),
-            Err(_) => Err(Memory),
-        },
-        None => Ok(()),
+    let mut sites = List::new(alloc);
+    for word in words {
+        sites.add(word.at)?;
     }
+    Ok(sites)
 }
 
-fn targeted(decl: &Decl) -> Option<&Word>
-    ensures { option_copied result ≡ targeted decl.now }
+/// The places of the words of one sort.
+fn places_by(alloc: Global, sort: Sort, decls: &[Decl]) -> Result<List<u32>, Memory>
+    ensures { IfOk result (λ sites. sites ≡ places (filter_map (word_of sort) decls.now)) }
 {
-    match decl {
-        Decl::Source { target, .. } => Some(target),
-        _ => None,
+    let mut sites = List::new(alloc);
+    for decl in decls {
+        if let Some(word) = sort.word(decl) {
+            sites.add(word.at)?;
+        }
     }
+    Ok(sites)
 }
 
-/// Where the names of the program stand.
-pub fn sites_of(alloc: Global, decls: &[Decl]) -> Result<Sites, Memory>
+fn add_handlers(lines: &[&Decl], handlers: &mut List<u32>) -> Result<(), Memory>
+    ensures { OnOk result (handlers.new ≡ handlers.old ++ flat_map handler_sites_in (lines_now lines.now)) }
+{
+    for line in lines {
+        if let Decl::Handler { handler, .. } = *line {
+            handlers.add(handler.at)?;
+        }
+    }
+    Ok(())
+}
+
+fn handlers_of(alloc: Global, lines: &Lines, count: usize) -> Result<List<u32>, Memory>
+    requires { count ≡ length lines.now }
+    ensures { IfOk result (λ handlers. handlers ≡ handler_sites_from lines.now count) }
+{
+    let mut handlers = List::new(alloc);
+    for number in 0..count {
+        add_handlers(lines.of(number), &mut handlers)?;
+    }
+    Ok(handlers)
+}
+
+fn sites_of(
+    alloc: Global,
+    nodes: &NodeTable,
+    lines: &Lines,
+    decls: &[Decl],
+) -> Result<Sites, Memory>
+    requires words { nodes.now.words ≡ first_words decls.now }
+    requires names { nodes.now.names ≡ names_of decls.now }
+    requires lines { lines.now ≡ map (lines_of decls.now) (names_of decls.now) }
     ensures { IfOk result (λ sites. sites ≡ sites_of decls.now) }
 {
-    let mut nodes = List::new(alloc);
-    let mut targets = List::new(alloc);
-    let mut sources = List::new(alloc);
-    for decl in decls {
-        push_place(&mut nodes, naming(decl))?;
-        push_place(&mut targets, targeted(decl))?;
-        push_place(&mut sources, sourced(decl))?;
-    }
     Ok(Sites {
-        nodes,
-        targets,
-        sources,
-        handlers: List::new(alloc),
+        nodes: places_of(alloc, nodes.words.as_slice())?,
+        targets: places_by(alloc, Sort::Targeted, decls)?,
+        sources: places_by(alloc, Sort::Sourced, decls)?,
+        handlers: handlers_of(alloc, lines, nodes.names.len())?,
+    })
+}
+
+/// The program of declarations without faults of names, and where its names stand.
+pub fn named_of(alloc: Global, symbols: &Symbols, decls: &[Decl]) -> Result<Named, Memory>
+    requires names { symbols.now.nodes.names ≡ names_of decls.now }
+    requires words { symbols.now.nodes.words ≡ first_words decls.now }
+    requires classes { symbols.now.classes.classes ≡ classes_of decls.now }
+    requires types { symbols.now.types ≡ names_by defined decls.now }
+    requires few { words_of decls.now ≤ COUNT_LIMIT }
+    requires once { repeated decls.now defined ≡ [] }
+    requires known { unknown_nodes decls.now ≡ [] }
+    requires codes { bad_codes decls.now ≡ [] }
+    ensures { IfOk result (λ named. named ≡ named_of decls.now) }
+{
+    let lines = Lines::gathered(alloc, &symbols.nodes.names, decls)?;
+    Ok(Named {
+        program: program_of(alloc, symbols, &lines, decls)?,
+        sites: sites_of(alloc, &symbols.nodes, &lines, decls)?,
     })
 }

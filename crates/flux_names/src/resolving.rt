@@ -1,109 +1,109 @@
 //! Declarations to a program, or the least fault.
 
-ghost use Rattle.std.specs.Prelude.{◌≡◌, ◌≤◌, IfOk, IfErr, length};
+ghost use Rattle.std.specs.Prelude.{◌≡◌, ◌≤◌, None, IfOk, IfErr};
+ghost use Rattle.flux_model.specs.declared.programs.TheConstants.{COUNT_LIMIT};
 ghost use Rattle.flux_syntax.specs.Counted.{words_of};
-ghost use Rattle.flux_syntax.specs.Words.{names_of};
-ghost use Rattle.flux_syntax.specs.Least.{fault_or, first_fault};
-ghost use Rattle.flux_names.specs.Rows.{rows};
-ghost use Rattle.flux_syntax.specs.ProgramOfText.{named_of};
-ghost use Rattle.flux_syntax.specs.Least.{IsLeastFault};
-ghost use Rattle.flux_names.specs.Resolving.{IsNamed, last_fault, library_fault};
+ghost use Rattle.flux_syntax.specs.Words.{names_of, first_words, defined, sourced};
+ghost use Rattle.flux_syntax.specs.Least.{soonest, first_fault, IsLeastFault};
+ghost use Rattle.flux_names.specs.Rows.{class_words, rows};
+ghost use Rattle.flux_names.specs.Resolving.{IsResolved};
+ghost use Rattle.flux_names.specs.steps.Sorts.{names_by};
+ghost use Rattle.flux_names.specs.steps.Faults.{first_standing, too_many_of};
 
-use crate::programs::{program_of, sites_of};
-use crate::rows::{
-    misused_sources, names_of, not_in_library, not_sources, source_names, too_many, twice_named,
-    unknown_nodes, unknown_types, unlike_library,
-};
-use crate::tables::Names;
+use crate::codes::bad_code;
+use crate::places::{Place, with_words_behind};
+use crate::programs::{Symbols, named_of};
+use crate::repeats::twice_named;
+use crate::rows::{CLASS_LIMIT, Known, NODE_LIMIT, Row, least};
+use crate::signatures::source_nodes;
 use flux_faults::{CheckFault, FaultKind};
 use flux_library::Library;
 use flux_model::Named;
-use flux_syntax::{Decl, fault_at, fault_or};
+use flux_syntax::{Decl, fault_at};
 use flux_values::{List, Memory};
 use std::alloc::Global;
 
-/// A fault and its place.
-type Fault = Option<(FaultKind, u32)>;
-
-/// The rows on sources and on the number of nodes.
-fn last_fault<L: Library>(alloc: Global, decls: &[Decl], library: &L) -> Result<Fault, Memory>
-    ensures { IfOk result (λ fault. fault ≡ last_fault (L.sig_of library.now) decls.now) }
+/// The first of the rows that stands, with its place.
+fn first_standing(rows: &[(FaultKind, Place)]) -> Option<(FaultKind, u32)>
+    ensures { result ≡ first_standing rows.now }
 {
-    let sources = source_names(alloc, library, decls)?;
-    let many = fault_or(FaultKind::TooMany, too_many(alloc, decls)?, None);
-    let misused = fault_or(
-        FaultKind::SourceMisused,
-        misused_sources(&sources, decls),
-        many,
-    );
-    Ok(fault_or(FaultKind::NotASource, not_sources(&sources, decls), misused))
+    for (kind, place) in rows {
+        if let Some(at) = place {
+            return Some((*kind, *at));
+        }
+    }
+    None
 }
 
-/// The rows on signatures and the library, and where none stands another fault.
-fn library_fault<L: Library>(
-    alloc: Global,
-    decls: &[Decl],
-    library: &L,
-    other: Fault,
-) -> Result<Fault, Memory>
-    ensures { IfOk result (λ fault. fault ≡ library_fault (L.kind_of library.now) (L.sig_of library.now) decls.now other) }
+/// The least place of a node or class beyond the limits.
+fn too_many(symbols: &Symbols) -> Place
+    ensures { result ≡ soonest None (too_many_of symbols.now.nodes.words symbols.now.classes.words) }
 {
-    let unlike = unlike_library(alloc, library, decls)?;
-    let other = fault_or(FaultKind::UnlikeLibrary, unlike, other);
-    let missing = not_in_library(alloc, library, decls)?;
-    let other = fault_or(FaultKind::NotInLibrary, missing, other);
-    let unknown = unknown_types(alloc, library, decls)?;
-    Ok(fault_or(FaultKind::UnknownType, unknown, other))
+    let place = with_words_behind(None, symbols.nodes.words.as_slice(), NODE_LIMIT);
+    with_words_behind(place, symbols.classes.words.as_slice(), CLASS_LIMIT)
 }
 
 /// The least row that stands, at its least place.
 fn find_fault<L: Library>(
     alloc: Global,
-    names: &Names,
+    symbols: &Symbols,
     decls: &[Decl],
     library: &L,
-) -> Result<Fault, Memory>
-    requires { names.now ≡ names_of decls.now }
-    ensures { IfOk result (λ fault. fault ≡ first_fault (rows (L.kind_of library.now) (L.sig_of library.now) decls.now)) }
+) -> Result<Option<(FaultKind, u32)>, Memory>
+    requires names { symbols.now.nodes.names ≡ names_of decls.now }
+    requires words { symbols.now.nodes.words ≡ first_words decls.now }
+    requires class_words { symbols.now.classes.words ≡ class_words decls.now }
+    requires types { symbols.now.types ≡ names_by defined decls.now }
+    requires sources { symbols.now.sources ≡ names_by sourced decls.now }
+    ensures { IfOk result (λ fault. fault ≡ first_fault (rows (L.meaning library.now) decls.now)) }
 {
-    let last = last_fault(alloc, decls, library)?;
-    let other = library_fault(alloc, decls, library, last)?;
-    let other = fault_or(FaultKind::UnknownNode, unknown_nodes(names, decls), other);
-    Ok(fault_or(FaultKind::TwiceNamed, twice_named(alloc, decls)?, other))
+    let sources = source_nodes(alloc, library, decls)?;
+    let known = Known {
+        nodes: &symbols.nodes.names,
+        types: &symbols.types,
+        sources: &sources,
+        lines: &symbols.sources,
+    };
+    let twice_named = twice_named(alloc, decls)?;
+    let unknown_node = least(alloc, library, &known, Row::UnknownNode, decls)?;
+    let unknown_type = least(alloc, library, &known, Row::UnknownType, decls)?;
+    let not_in_library = least(alloc, library, &known, Row::NotInLibrary, decls)?;
+    let unlike_library = least(alloc, library, &known, Row::UnlikeLibrary, decls)?;
+    let unknown_predicate = least(alloc, library, &known, Row::UnknownPredicate, decls)?;
+    let unknown_session = least(alloc, library, &known, Row::UnknownSession, decls)?;
+    let not_a_source = least(alloc, library, &known, Row::NotASource, decls)?;
+    let source_misused = least(alloc, library, &known, Row::SourceMisused, decls)?;
+    let bad_code = bad_code(alloc, decls)?;
+    Ok(first_standing(&[
+        (FaultKind::TwiceNamed, twice_named),
+        (FaultKind::UnknownNode, unknown_node),
+        (FaultKind::UnknownType, unknown_type),
+        (FaultKind::NotInLibrary, not_in_library),
+        (FaultKind::UnlikeLibrary, unlike_library),
+        (FaultKind::UnknownPredicate, unknown_predicate),
+        (FaultKind::UnknownSession, unknown_session),
+        (FaultKind::NotASource, not_a_source),
+        (FaultKind::SourceMisused, source_misused),
+        (FaultKind::TooMany, too_many(symbols)),
+        (FaultKind::BadCode, bad_code),
+    ]))
 }
 
-fn named_of(alloc: Global, names: &Names, decls: &[Decl]) -> Result<Named, Memory>
-    requires own { names.now ≡ names_of decls.now }
-    requires few { length names.now ≤ 1048576 }
-    ensures { IfOk result (λ named. named ≡ named_of decls.now) }
-{
-    Ok(Named {
-        program: program_of(alloc, names, decls)?,
-        sites: sites_of(alloc, decls)?,
-    })
-}
-
-/// The program of declarations, or the least of faults 5 to 9 and 12 to 14. Forms that aren't built yet are passed over.
+/// The program of declarations with the places of its names, or the least of the faults 5 to 14; where none of these
+/// stands, fault 28. The place of a fault is that of a word of the declarations, and it has no path.
 pub fn resolve<L: Library>(
     alloc: Global,
     decls: &List<Decl>,
     library: &L,
 ) -> Result<Named, CheckFault>
-    requires { words_of decls.now ≤ 1048576 }
-    ensures named { IfOk result (IsNamed (L.kind_of library.now) (L.sig_of library.now) decls.now) }
-    ensures fault { IfErr result (IsLeastFault (first_fault (rows (L.kind_of library.now) (L.sig_of library.now) decls.now))) }
+    requires { words_of decls.now ≤ COUNT_LIMIT }
+    ensures named { IfOk result (IsResolved (L.meaning library.now) decls.now) }
+    ensures fault { IfErr result (IsLeastFault (first_fault (rows (L.meaning library.now) decls.now))) }
 {
     let decls = decls.as_slice();
-    let names = match names_of(alloc, decls) {
-        Ok(names) => names,
-        Err(_) => return Err(CheckFault::Memory),
-    };
-    match find_fault(alloc, &names, decls, library) {
-        Ok(None) => match named_of(alloc, &names, decls) {
-            Ok(named) => Ok(named),
-            Err(_) => Err(CheckFault::Memory),
-        },
-        Ok(Some((kind, at))) => Err(fault_at(alloc, kind, at)),
-        Err(_) => Err(CheckFault::Memory),
+    let symbols = Symbols::of(alloc, decls)?;
+    match find_fault(alloc, &symbols, decls, library)? {
+        Some((kind, at)) => Err(fault_at(alloc, kind, at)),
+        None => Ok(named_of(alloc, &symbols, decls)?),
     }
 }

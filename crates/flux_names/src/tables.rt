@@ -1,11 +1,14 @@
 //! Symbol tables: distinct names, each at its place.
 
-ghost use Rattle.std.specs.Prelude.{◌≡◌, ◌≤◌, [], OnOk, length};
-ghost use Rattle.std.specs.List.{list_any, position_or_len};
+ghost use Rattle.std.specs.Prelude.{◌≡◌, ◌≤◌, ◌++◌, ◌∷◌, [], IfOk, OnOk, length, option_copied};
+ghost use Rattle.std.specs.List.{position_or_len};
 ghost use Rattle.std.specs.Str.{bytes_eq};
 ghost use Rattle.flux_syntax.specs.Names.{with_name};
+ghost use Rattle.flux_syntax.specs.Words.{known, and_name};
+ghost use Rattle.flux_names.specs.steps.Picks.{words_now};
 
-use flux_values::Memory;
+use flux_syntax::Word;
+use flux_values::{Memory, TextBytes, TextFault};
 use indexmap::IndexSet;
 use std::alloc::Global;
 use std::marker::Model;
@@ -35,17 +38,25 @@ impl<'a> Names<'a> {
 
     /// Adds a name at the end, where it isn't there yet.
     pub fn add(&mut self, name: &'a [u8]) -> Result<(), Memory>
-        ensures added { OnOk result (self.new ≡ with_name self.old name.now) }
+        ensures { OnOk result (self.new ≡ with_name self.old name.now) }
     {
-        match self.set.insert_full(name) {
-            Ok(_) => Ok(()),
-            Err(_) => Err(Memory),
+        self.set.insert(name)?;
+        Ok(())
+    }
+
+    /// Adds the name of a word, if there is one.
+    pub fn add_word(&mut self, word: Option<&'a Word>) -> Result<(), Memory>
+        ensures { OnOk result (self.new ≡ and_name self.old (option_copied word.entry)) }
+    {
+        match word {
+            Some(word) => self.add(word.text.as_bytes()),
+            None => Ok(()),
         }
     }
 
     /// Whether a name is there.
     pub fn has(&self, name: &[u8]) -> bool
-        ensures { result ≡ list_any (bytes_eq name.now) self.now }
+        ensures { result ≡ known self.now name.now }
     {
         self.set.contains(name)
     }
@@ -55,15 +66,62 @@ impl<'a> Names<'a> {
         ensures place { result ≡ position_or_len (bytes_eq name.now) self.now }
         ensures within { result ≤ length self.now }
     {
-        match self.set.get_index_of(name) {
-            Some(place) => place,
-            None => self.set.len(),
-        }
+        self.set.get_index_of(name).unwrap_or(self.set.len())
     }
 
     pub fn len(&self) -> usize
         ensures { result ≡ length self.now }
     {
         self.set.len()
+    }
+}
+
+/// Words of declarations, in order.
+#[derive(Drop)]
+pub struct Words<'a> {
+    words: Vec<&'a Word>,
+}
+
+impl<'a> Model for Words<'a> {
+    ghost use Rattle.std.specs.Prelude.{List, map};
+    ghost use Rattle.flux_syntax.specs.declared.declarations.Word.{Word};
+
+    ghost Value = { List Word };
+
+    ghost view = { λ w. map (λ word. word.now) w.words.items };
+}
+
+impl<'a> Words<'a> {
+    pub fn new(alloc: Global) -> Words<'a>
+        ensures { result ≡ [] }
+    {
+        Words {
+            words: Vec::new(alloc),
+        }
+    }
+
+    /// Adds a word at the end.
+    pub fn add(&mut self, word: &'a Word) -> Result<(), Memory>
+        ensures { OnOk result (self.new ≡ self.old ++ word.now ∷ []) }
+    {
+        Ok(self.words.push(word)?)
+    }
+
+    pub fn as_slice(&self) -> &[&'a Word]
+        ensures { words_now result.now ≡ self.now }
+    {
+        self.words.as_slice()
+    }
+}
+
+/// A name once more. No word has more than 65,536 bytes.
+pub fn copied_name(alloc: Global, name: &[u8]) -> Result<TextBytes, Memory>
+    requires { length name.now ≤ 65536 }
+    ensures { IfOk result (λ copied. copied ≡ name.now) }
+{
+    match TextBytes::copy(alloc, name) {
+        Ok(copied) => Ok(copied),
+        Err(TextFault::TooLong) => unreachable!(),
+        Err(TextFault::Memory) => Err(Memory),
     }
 }

@@ -15,3 +15,4 @@ pub mod Formats
 pub mod Soonest
 pub mod Standing
 pub mod NumberedNames
+pub mod RowLemmas

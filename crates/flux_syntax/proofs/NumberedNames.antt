@@ -93,3 +93,13 @@ known_at (n ∷ names) wanted e = one (bytes_eq wanted n) refl e (known_at names
     one false i e more =
         let place = position_or_len (bytes_eq wanted) names in
         ap (slice_get (n ∷ names)) (let same : 1 + place ≡ suc place = omega arith in same) ∙ more e
+
+-- what has a place among names is known
+pub known_within : (names : List (List ℕ)) (wanted : List ℕ) → position_or_len (bytes_eq wanted) names < length names → known names wanted ≡ true
+known_within [] wanted below = absurd (omega (arith, below))
+known_within (n ∷ names) wanted below = one (bytes_eq wanted n) below (known_within names wanted)
+  where
+    one : (t : Bool) → cond (not t) (1 + position_or_len (bytes_eq wanted) names) 0 < suc (length names) → (position_or_len (bytes_eq wanted) names < length names → known names wanted ≡ true)
+        → (t || known names wanted) ≡ true
+    one true below more = refl
+    one false below more = more (omega (arith, below))

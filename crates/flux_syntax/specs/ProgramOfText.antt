@@ -148,7 +148,7 @@ hold_on class (Some mode) = Some (record { class = record { 0 = class }; mode = 
 abbrev pub declared_by : List Class → List ℕ → List Decl → List Hold
 declared_by classes node decls =
     filter_map (λ numbered. hold_on numbered.0 (mode_on numbered.1 (flat_map (constraints_on node) decls)))
-      (enumerate_from 0 classes)
+    (enumerate_from 0 classes)
 
 -- ---- sources
 
@@ -162,10 +162,10 @@ session_of source (decl ∷ decls) = session_of source decls
 -- a source line starts flows at its target
 abbrev pub source_of : List (List ℕ) → List Decl → Decl → Option SourceLine
 source_of names decls (Source name target) = Some (record {
-    node = number_of names name;
-    target = number_of names target;
-    session = session_of name.text decls;
-  })
+  node = number_of names name;
+  target = number_of names target;
+  session = session_of name.text decls;
+})
 source_of names decls other = None
 
 -- ---- the program

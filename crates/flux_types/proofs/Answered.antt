@@ -56,9 +56,9 @@ module _ (meaning : LibraryMeaning) (decls : List Decl) where
       let own_lines = same_lines ∙ ap (λ (n : Named). n.program.sources) is in
       let own_sites = same_sites ∙ ap (λ (n : Named). n.sites.targets) is in
       let least_session : sessions ≡ soonest None (flat_map (unlike_source meaning.session (sigs_of meaning decls)) decls) =
-          s ∙ ap (λ (w : WordSigs). fold (session_passed meaning w) None decls) (words_same names sigs sigs same_names are refl) ∙ sessions_pass meaning (sigs_of meaning decls) None decls in
+      s ∙ ap (λ (w : WordSigs). fold (session_passed meaning w) None decls) (words_same names sigs sigs same_names are refl) ∙ sessions_pass meaning (sigs_of meaning decls) None decls in
       let least_target : targets ≡ soonest None (flat_map (unlike_target (sigs_of meaning decls)) decls) =
-          t ∙ (rw (own_lines, own_sites, sigs_same meaning.kind decls sigs are) refl) ∙ targets_pass (names_of decls) (sig_of meaning.kind decls) decls decls None in
+      t ∙ (rw (own_lines, own_sites, sigs_same meaning.kind decls sigs are) refl) ∙ targets_pass (names_of decls) (sig_of meaning.kind decls) decls decls None in
       f ∙ (rw (i, least_session, least_target) refl)
 
   -- the filled table is that of the program

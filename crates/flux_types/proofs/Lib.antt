@@ -5,3 +5,5 @@ pub mod Written
 pub mod Passes
 pub mod Told
 pub mod Answered
+pub mod SpelledTypes
+pub mod SoundTypes

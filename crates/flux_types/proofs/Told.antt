@@ -68,7 +68,7 @@ module _ (meaning : LibraryMeaning) (wanted : List ℕ) where
   abbrev Tells : List Decl → Type 0
   Tells decls = (names : List (List ℕ)) (kinds : List (Option Kind)) → length names ≡ length kinds
       → let table = fold (with_typedef meaning) (record { names = names; kinds = kinds }) decls in
-        kind_in table.names table.kinds wanted ≡ or_line (known names wanted) (first_kind names kinds wanted) (told decls)
+      kind_in table.names table.kinds wanted ≡ or_line (known names wanted) (first_kind names kinds wanted) (told decls)
 
   unknown_kind : (names : List (List ℕ)) (kinds : List (Option Kind)) → first_kind names kinds wanted ≡ or_line (known names wanted) (first_kind names kinds wanted) None
   unknown_kind [] kinds = refl
@@ -115,7 +115,7 @@ module _ (meaning : LibraryMeaning) (wanted : List ℕ) where
 
       one : (t : Bool) → known names name.text ≡ t → Tells decls
           → let table = fold (with_typedef meaning) (if t then record { names = names; kinds = kinds } else record { names = names ++ name.text ∷ []; kinds = kinds ++ kind ∷ [] }) decls in
-            kind_in table.names table.kinds wanted ≡ or_line (known names wanted) (first_kind names kinds wanted) (taken_by meaning (if bytes_eq wanted name.text then Some function.text else function_named wanted decls))
+          kind_in table.names table.kinds wanted ≡ or_line (known names wanted) (first_kind names kinds wanted) (taken_by meaning (if bytes_eq wanted name.text then Some function.text else function_named wanted decls))
       one true is all =
           all names kinds same ∙ there (known names wanted) (bytes_eq wanted name.text) refl refl is
           ∙ ap (or_line (known names wanted) (first_kind names kinds wanted)) (sym (line (bytes_eq wanted name.text)))
@@ -133,5 +133,5 @@ module _ (meaning : LibraryMeaning) (wanted : List ℕ) where
 -- the table of all `typedef` lines
 pub predicates_told : (meaning : LibraryMeaning) (decls : List Decl)
     → let table = fold (with_typedef meaning) (record { names = []; kinds = [] }) decls in
-      kind_in table.names table.kinds ≡ predicates_of meaning decls
+    kind_in table.names table.kinds ≡ predicates_of meaning decls
 predicates_told meaning decls = λ i wanted. tells meaning wanted decls [] [] refl i

@@ -100,7 +100,8 @@ is_like_node sigs own (first ∷ members) =
     same_types from.ins own.ins && same_types to.outs own.outs
 
 abbrev pub unlike_node_in : WordSigs → Decl → List Word
-unlike_node_in sigs (Flow name patterns members) = unless (is_like_node sigs (sigs name) members) name
+unlike_node_in sigs (Flow name patterns members) =
+    unless (is_like_node sigs (sigs name) members) name
 unlike_node_in sigs other = []
 
 -- the library's function behind the name of a predicate: that of its `typedef` line

@@ -45,7 +45,9 @@ nothing = record { ins = []; outs = [] }
 abbrev pub written : Kinds → List (List ℕ) → List Decl → ℕ → NodeSig
 written kind names [] number = nothing
 written kind names (Signature name ins outs ∷ decls) number =
-    if place_of names name == number then line_sig kind ins outs else written kind names decls number
+    if place_of names name == number
+    then line_sig kind ins outs
+    else written kind names decls number
 written kind names (decl ∷ decls) number = written kind names decls number
 
 -- ---- cases

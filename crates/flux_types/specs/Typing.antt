@@ -8,6 +8,7 @@ use Rattle.flux_types.specs.Signatures.{AreSigs}
 use Rattle.flux_types.specs.Rows.{sig_rows}
 
 -- none of the rows 16 to 20 stands, and these are the signatures of the declarations' nodes
-pub record AreTyped (meaning : LibraryMeaning) (decls : List Decl) (sigs : List NodeSig) : Type 0 where
+pub record AreTyped (meaning : LibraryMeaning) (decls : List Decl) (sigs : List NodeSig)
+    : Type 0 where
   pub sound : first_fault (sig_rows meaning decls) ≡ None
   pub are : AreSigs meaning.kind decls sigs

@@ -142,7 +142,8 @@ fn unlike_inputs(
     place: Place,
 ) -> Place
     ensures { result ≡ soonest place
-        (unlike_inputs (kind_in predicates.now.names predicates.now.kinds) patterns.now inputs.now) }
+        (unlike_inputs (kind_in predicates.now.names predicates.now.kinds)
+        patterns.now inputs.now) }
 {
     let mut place = place;
     let mut rest = patterns;
@@ -165,7 +166,8 @@ fn unlike_patterns(
     place: Place,
 ) -> Place
     ensures { result ≡ soonest place
-        (unlike_patterns (kind_in predicates.now.names predicates.now.kinds) patterns.now inputs.now) }
+        (unlike_patterns (kind_in predicates.now.names predicates.now.kinds)
+        patterns.now inputs.now) }
 {
     match patterns {
         Some(patterns) => unlike_inputs(predicates, patterns.as_slice(), inputs, place),
@@ -188,7 +190,12 @@ impl FlowPlaces {
             (word_sig signed.now.names (sig_at signed.now.sigs.now))
             (kind_in predicates.now.names predicates.now.kinds) self decl.now }
     {
-        let Decl::Flow { name, patterns, members } = decl else {
+        let Decl::Flow {
+            name,
+            patterns,
+            members,
+        } = decl
+        else {
             return self;
         };
         let ins = signed.ins(name);

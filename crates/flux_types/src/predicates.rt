@@ -48,8 +48,8 @@ impl<'a> Predicates<'a> {
         library: &L,
         decls: &'a [Decl],
     ) -> Result<Predicates<'a>, Memory>
-        ensures { IfOk result (λ table. table
-            ≡ fold (with_typedef (L.meaning library.now)) (record { names = []; kinds = [] }) decls.now) }
+        ensures { IfOk result (λ table. table ≡ fold (with_typedef (L.meaning library.now))
+            (record { names = []; kinds = [] }) decls.now) }
     {
         let mut table = Predicates {
             names: Names::new(alloc),

@@ -193,7 +193,7 @@ pub fn fill<L: Library>(
 ) -> Result<List<NodeSig>, Memory>
     ensures { IfOk result (λ sigs. sigs ≡ fold (put_node nodes.now)
         (put_lines (L.meaning library.now).kind names.now decls.now
-            (replicate (length names.now) nothing)) order.now) }
+        (replicate (length names.now) nothing)) order.now) }
 {
     let mut sigs = lines(alloc, library, names, decls)?;
     for number in order {

@@ -38,7 +38,7 @@ fn flows<L: Library>(
     requires sigs { AreSigs (L.meaning library.now).kind decls.now sigs.now }
     ensures { IfOk result (λ fault. fault ≡ first_fault
         (flow_rows (sigs_of (L.meaning library.now) decls.now)
-            (predicates_of (L.meaning library.now) decls.now) decls.now)) }
+        (predicates_of (L.meaning library.now) decls.now) decls.now)) }
 {
     let predicates = Predicates::of(alloc, library, decls)?;
     let signed = Signed { names, sigs };
@@ -81,10 +81,10 @@ pub fn sigs<L: Library>(
     ensures fault { IfErr result
         (IsLeastFault (first_fault (sig_rows (L.meaning library.now) decls.now))) }
 {
-    match typed(alloc, decls.as_slice(), named, order, library) {
-        Ok((nodes, None)) => Ok(Sigs { nodes }),
-        Ok((_, Some((kind, at)))) => Err(fault_at(alloc, kind, at)),
-        Err(Memory) => Err(CheckFault::Memory),
+    let (nodes, fault) = typed(alloc, decls.as_slice(), named, order, library)?;
+    match fault {
+        Some((kind, at)) => Err(fault_at(alloc, kind, at)),
+        None => Ok(Sigs { nodes }),
     }
 }
 
@@ -110,8 +110,8 @@ fn sources<L: Library>(
     Ok(fault_or(FaultKind::SourceTypes, targets, fault))
 }
 
-/// The least of the faults 22 and 23: a source gives what its target or its session function doesn't
-/// take. The program and the signatures are those of the declarations.
+/// The least of the faults 22 and 23: a source gives what its target or its session function
+/// doesn't take. The program and the signatures are those of the declarations.
 pub fn source_types<L: Library>(
     alloc: Global,
     decls: &List<Decl>,
@@ -126,9 +126,14 @@ pub fn source_types<L: Library>(
     ensures fault { IfErr result
         (IsLeastFault (first_fault (source_rows (L.meaning library.now) decls.now))) }
 {
-    match sources(alloc, decls.as_slice(), named, sigs.nodes.as_slice(), library) {
-        Ok(None) => Ok(()),
-        Ok(Some((kind, at))) => Err(fault_at(alloc, kind, at)),
-        Err(Memory) => Err(CheckFault::Memory),
+    match sources(
+        alloc,
+        decls.as_slice(),
+        named,
+        sigs.nodes.as_slice(),
+        library,
+    )? {
+        Some((kind, at)) => Err(fault_at(alloc, kind, at)),
+        None => Ok(()),
     }
 }

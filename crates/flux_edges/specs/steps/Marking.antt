@@ -1,4 +1,5 @@
--- Steps of the code: places that are gone along, and nodes that are marked. No public clause cites it.
+-- Steps of the code: places that are gone along, and nodes that are marked. No public clause
+-- cites it.
 use Rattle.std.specs.Prelude.{ℕ, Bool, false, List, [], ◌∷◌, Option, Some, None, slice_set}
 use Rattle.std.specs.List.{slice_get}
 use Rattle.std.specs.Option.{unwrap_or}

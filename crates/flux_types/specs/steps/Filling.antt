@@ -21,7 +21,8 @@ put_line kind names other sigs = sigs
 -- from the last line to the first
 abbrev pub put_lines : Kinds → List (List ℕ) → List Decl → List NodeSig → List NodeSig
 put_lines kind names [] sigs = sigs
-put_lines kind names (decl ∷ decls) sigs = put_line kind names decl (put_lines kind names decls sigs)
+put_lines kind names (decl ∷ decls) sigs =
+    put_line kind names decl (put_lines kind names decls sigs)
 
 -- what an abstract node's cases have, put into its place
 abbrev pub put_body : List NodeSig → ℕ → Body → List NodeSig

@@ -58,13 +58,14 @@ flow_passed sigs predicates places decl = record {
 abbrev pub flow_fault : FlowPlaces → Option (FaultKind × ℕ)
 flow_fault places =
     fault_or JoinTypes places.joins (fault_or CaseCount places.counts
-      (fault_or CaseTypes places.ends (fault_or PredicateType places.predicates None)))
+    (fault_or CaseTypes places.ends (fault_or PredicateType places.predicates None)))
 
 -- the least place at which a source's outputs differ from its target's inputs, line after line
 abbrev pub target_places : (ℕ → NodeSig) → Option ℕ → List SourceLine → List ℕ → Option ℕ
 target_places sigs place (line ∷ lines) (at ∷ sites) =
     let from = sigs line.node.0 in let to = sigs line.target.0 in
-    target_places sigs (if same_types from.outs to.ins then place else Some (sooner place at)) lines sites
+    target_places sigs
+    (if same_types from.outs to.ins then place else Some (sooner place at)) lines sites
 target_places sigs place lines sites = place
 
 abbrev pub session_passed : LibraryMeaning → WordSigs → Option ℕ → Decl → Option ℕ

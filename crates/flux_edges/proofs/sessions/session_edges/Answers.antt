@@ -14,7 +14,7 @@ place_is : (c : goal.After-drop-marks-inside) → c.lines_along-place.result ≡
 place_is c =
     let p = c.args.named.now.program in let sites = c.args.named.now.sites in
     c.lines_along-place.ensures ∙ (rw (c.as_slice.ensures, c.as_slice-lines.ensures, c.as_slice-2.ensures) refl)
-    ∙ ap (λ (needs : ℕ → Bool). lines_along needs None p.sources sites.sources) c.in-Ok.ensures.0
+    ∙ ap (λ (needs : ℕ → Bool). lines_along needs None p.sources sites.sources) c.in_ok-marks.ensures.0
     ∙ lines_least _ None p.sources sites.sources
 
 on_ok : {A B : Type 0} (result : Result (Unit {0}) CheckFault) → (A → B) → OnOk result A → OnOk result B
@@ -30,4 +30,4 @@ returns-clause-fault c = subst (λ (place : Option ℕ). IfErr c.fault.result (I
 pub returns-clause-served : goal.returns-clause-served
 returns-clause-served c =
     let p = c.args.named.now.program in let sites = c.args.named.now.sites in
-    on_ok c.fault.result (λ none. all_served p c.in-Ok.ensures.1 p.sources sites.sources c.requires.sites none) (returns-clause-fits c)
+    on_ok c.fault.result (λ none. all_served p c.in_ok-marks.ensures.1 p.sources sites.sources c.requires.sites none) (returns-clause-fits c)

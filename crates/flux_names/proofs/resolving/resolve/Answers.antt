@@ -1,20 +1,43 @@
-use Rattle.std.proofs.Common.{arith, sym, ap, subst, ◌∙◌}
-use Rattle.flux_syntax.specs.Least.{first_fault}
-use Rattle.flux_names.specs.Rows.{rows}
+use Rattle.std.proofs.Common.{◌≡◌, ◌∙◌, None, Some, List, ap, sym, subst}
+use Rattle.std.proofs.lemmas.Result.{err_from_is_err_and}
+use Rattle.flux_model.specs.Numbered.{IsNumbered}
+use Rattle.flux_syntax.specs.declared.declarations.Decl.{Decl}
+use Rattle.flux_syntax.specs.Least.{first_fault, IsLeastFault}
 use Rattle.flux_syntax.specs.ProgramOfText.{named_of}
-use Rattle.flux_model.specs.Leading.{IsNumbered}
-use Rattle.flux_names.proofs.Few.{few_names}
+use Rattle.flux_names.specs.Rows.{rows}
+use Rattle.flux_names.proofs.Sound.{AreSound, sound, StandOnce, stand_once}
 use Rattle.flux_names.proofs.Numbers.{numbered}
-use Rattle.flux_syntax.proofs.Counts.{decls_few}
 use Rattle.flux_names.proofs.resolving.resolve.Goals as goal
 
-pub named_of-requires-clause-few : goal.named_of-requires-clause-few
-named_of-requires-clause-few g c = rw (c.in-Ok.ensures, c.as_slice-decls.ensures) (few_names c.args.decls.now (omega (arith, c.requires, decls_few c.args.decls.now)))
+pub named_of-requires-clause-once : goal.named_of-requires-clause-once
+named_of-requires-clause-once g c =
+    let decls = c.as_slice-decls.result.now in
+    (stand_once decls (sound (g.L.Meaning.meaning c.args.library.now) decls (sym c.in_ok-kind.ensures ∙ c.in-None.is)).once).types
 
-pub returns-in-Ok-named_of-clause-named : goal.returns-in-Ok-named_of-clause-named
-returns-in-Ok-named_of-clause-named g c =
-    let kind = g.L.Meaning.kind_of c.args.library.now in
-    let node = g.L.Meaning.sig_of c.args.library.now in
-    let sound = ap (λ ds. first_fault (rows kind node ds)) (sym c.as_slice-decls.ensures) ∙ sym c.in-Ok-None.ensures ∙ c.in-Ok-None.field-0-is in
-    let is = c.in-Ok-named_of.ensures ∙ ap named_of c.as_slice-decls.ensures in
-    record { sound = sound; is = is; numbered = subst (λ named. IsNumbered named.program) (sym is) (numbered kind node c.args.decls.now c.requires sound) }
+pub named_of-requires-clause-known : goal.named_of-requires-clause-known
+named_of-requires-clause-known g c =
+    (sound (g.L.Meaning.meaning c.args.library.now) c.as_slice-decls.result.now (sym c.in_ok-kind.ensures ∙ c.in-None.is)).known_nodes
+
+pub named_of-requires-clause-codes : goal.named_of-requires-clause-codes
+named_of-requires-clause-codes g c =
+    (sound (g.L.Meaning.meaning c.args.library.now) c.as_slice-decls.result.now (sym c.in_ok-kind.ensures ∙ c.in-None.is)).codes
+
+pub returns-in-Some-clause-fault : goal.returns-in-Some-clause-fault
+returns-in-Some-clause-fault g c =
+    let meaning = g.L.Meaning.meaning c.args.library.now in
+    let found = ap (λ (ds : List Decl). first_fault (rows meaning ds)) (sym c.as_slice-decls.ensures) ∙ sym c.in_ok-kind.ensures ∙ c.in-Some.is in
+    subst (λ f. IsLeastFault f c.fault_at.result) (sym found) c.fault_at.ensures
+
+pub returns-in_err-named_of-in-None-clause-fault : goal.returns-in_err-named_of-in-None-clause-fault
+returns-in_err-named_of-in-None-clause-fault g c =
+    let exit = c.from_residual-in_err-named_of-in-None in
+    let p = err_from_is_err_and exit.result exit.ensures.1 in
+    rw (p.1, p.2) tt
+
+pub returns-clause-named : goal.returns-clause-named
+returns-clause-named g c =
+    let meaning = g.L.Meaning.meaning c.args.library.now in
+    let decls = c.args.decls.now in
+    let none : first_fault (rows meaning decls) ≡ None = ap (λ (ds : List Decl). first_fault (rows meaning ds)) (sym c.as_slice-decls.ensures) ∙ sym c.in_ok-kind.ensures ∙ c.in-None.is in
+    let is = c.in_ok-named_of-in-None.ensures ∙ ap named_of c.as_slice-decls.ensures in
+    record { sound = none; is = is; numbered = subst (λ named. IsNumbered named.program) (sym is) (numbered meaning decls c.requires none) }

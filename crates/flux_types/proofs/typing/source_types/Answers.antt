@@ -16,12 +16,11 @@ sources-requires-clause-sigs g c = λ κs lives. let kind = (g.L.Meaning.meaning
     subst (λ (l : List Decl). AreSigs kind l c.as_slice-2.result.now) (sym c.as_slice.ensures)
     (subst (λ (sigs : List NodeSig). AreSigs kind c.args.decls.now sigs) (sym c.as_slice-2.ensures) c.requires.sigs)
 
-pub returns-in-Ok-None-clause-fits : goal.returns-in-Ok-None-clause-fits
-returns-in-Ok-None-clause-fits g c =
-    sym (sym c.in-Ok-None.field-0-is ∙ c.in-Ok-None.ensures ∙ ap (λ (l : List Decl). first_fault (source_rows (g.L.Meaning.meaning c.args.library.now) l)) c.as_slice.ensures)
+pub returns-in-None-clause-fits : goal.returns-in-None-clause-fits
+returns-in-None-clause-fits g c =
+    sym (sym c.in-None.is ∙ c.in_ok-kind.ensures ∙ ap (λ (l : List Decl). first_fault (source_rows (g.L.Meaning.meaning c.args.library.now) l)) c.as_slice.ensures)
 
-pub returns-in-Ok-Some-clause-fault : goal.returns-in-Ok-Some-clause-fault
-returns-in-Ok-Some-clause-fault g c =
-    let w = c.in-Ok-Some in
-    least_is (source_rows (g.L.Meaning.meaning c.args.library.now)) c.as_slice.result.now c.args.decls.now w.field-0 w.kind w.at c.fault_at.result
-    c.as_slice.ensures c.in-Ok-Some.ensures w.field-0-is c.fault_at.ensures
+pub returns-in-Some-clause-fault : goal.returns-in-Some-clause-fault
+returns-in-Some-clause-fault g c =
+    least_is (source_rows (g.L.Meaning.meaning c.args.library.now)) c.as_slice.result.now c.args.decls.now c.in_ok-kind.field-0 c.in-Some.kind c.in-Some.at c.fault_at.result
+    c.as_slice.ensures c.in_ok-kind.ensures c.in-Some.is c.fault_at.ensures

@@ -1,0 +1,54 @@
+//! Names of lines by what they are there for.
+
+ghost use Rattle.std.specs.Prelude.{◌≡◌, option_copied, IfOk};
+ghost use Rattle.flux_names.specs.steps.Sorts.{word_of, names_by};
+
+use crate::tables::Names;
+use flux_syntax::{Decl, Word};
+use flux_values::Memory;
+use std::alloc::Global;
+
+/// What a line says of a name.
+#[derive(Clone, Copy)]
+pub enum Sort {
+    /// It is a signature or a flow.
+    Naming,
+    /// It is a `typedef`.
+    Defined,
+    /// It is a `source` line.
+    Sourced,
+    /// It is the target of a `source` line.
+    Targeted,
+    /// It is a `handle` line without codes.
+    Handled,
+    /// It is a `session` line.
+    Sessioned,
+}
+
+impl Sort {
+    /// The name that a line says it of.
+    pub fn word(self, decl: &Decl) -> Option<&Word>
+        ensures { option_copied result ≡ word_of self decl.now }
+    {
+        match (self, decl) {
+            (Sort::Naming, Decl::Signature { name, .. } | Decl::Flow { name, .. }) => Some(name),
+            (Sort::Defined, Decl::Typedef { name, .. }) => Some(name),
+            (Sort::Sourced, Decl::Source { name, .. }) => Some(name),
+            (Sort::Targeted, Decl::Source { target, .. }) => Some(target),
+            (Sort::Handled, Decl::Handler { node, codes, .. }) if codes.is_empty() => Some(node),
+            (Sort::Sessioned, Decl::Session { source, .. }) => Some(source),
+            _ => None,
+        }
+    }
+
+    /// The distinct names of this sort, in order of the text.
+    pub fn names<'a>(self, alloc: Global, decls: &'a [Decl]) -> Result<Names<'a>, Memory>
+        ensures { IfOk result (λ names. names ≡ names_by (word_of self) decls.now) }
+    {
+        let mut names = Names::new(alloc);
+        for decl in decls {
+            names.add_word(self.word(decl))?;
+        }
+        Ok(names)
+    }
+}
