@@ -1,22 +1,21 @@
 -- What is printed and said is the answer, and it is the one that is due.
-use Rattle.std.proofs.Common.{◌≡◌, ◌≤◌, ℕ, ◌⊎◌, inl, inr, List, [], Option, Some, None, IfSome, refl, sym, subst, ◌∙◌, arith}
+use Rattle.std.proofs.Common.{◌≡◌, ◌≤◌, ℕ, ◌⊎◌, inl, inr, List, [], Some, None, IfSome, refl, sym, subst, ◌∙◌, arith}
 use Rattle.flux_values.specs.Meanings.{LibraryMeaning}
-use Rattle.flux_outside.specs.Causes.{Rose}
 use Rattle.flux_driver.specs.declared.statuses.Status.{Status}
 use Rattle.flux_driver.specs.declared.statuses.Status.TheVariants as statuses
 use Rattle.flux_driver.specs.declared.refusals.Refusal.{Refusal}
 use Rattle.flux_driver.specs.declared.refusals.Refusal.TheVariants as refusals
-use Rattle.flux_driver.specs.Worlds.{Files, Stream, Seen, Wrote, Broke, WroteOrBroke}
+use Rattle.flux_driver.specs.Worlds.{Files, Stream, Wrote, WroteOrBroke}
 use Rattle.flux_driver.specs.Commands.{Command, Asks, AsksNothing}
 use Rattle.flux_driver.specs.Printed.{IsPrinted}
 use Rattle.flux_driver.specs.Causes.{write_line}
 use Rattle.flux_driver.specs.Answers.{Happened, IsDue, IsAnswer, OrMemory}
-use Rattle.flux_driver.specs.Top.{HaveAsked, HasAnswered, RoseFor, AreLater, Decides, IsComplete, HasDone}
+use Rattle.flux_driver.specs.Top.{HaveAsked, HasAnswered, RoseFor, Decides, IsComplete, HasDone}
 use Rattle.flux_driver.specs.steps.Refusals.{status_of, line_of, CountsRefusal}
 use Rattle.flux_driver.specs.steps.Preparing.{IsFirm}
 use Rattle.flux_driver.specs.steps.Telling.{IsTold, IsPut}
 use Rattle.flux_driver.proofs.Writes.{wrote_none}
-use Rattle.flux_driver.proofs.Once.{Told, due_once}
+use Rattle.flux_driver.proofs.Once.{due_once}
 
 -- ---- statuses of refusals
 

@@ -14,7 +14,7 @@ use Rattle.flux_values.specs.declared.meanings.Role.TheVariants.{Plain}
 use Rattle.flux_values.specs.Values.{kind_of}
 use Rattle.flux_values.specs.Reading.{IsValue}
 use Rattle.flux_values.specs.Meanings.{LibraryMeaning}
-use Rattle.flux_library.specs.Libraries.{Fits, IsCallable, IsResultOf, IsLawfulNode, IsLawful}
+use Rattle.flux_library.specs.Libraries.{Fits, IsResultOf, IsLawfulNode, IsLawful}
 use Rattle.flux_model.specs.declared.programs.Program.{Program}
 use Rattle.flux_model.specs.declared.programs.NodeNo.{NodeNo}
 use Rattle.flux_model.specs.declared.programs.Node.{Node}
@@ -38,9 +38,8 @@ use Rattle.flux_model.specs.Soundness.{IsBodyLike, IsPlain, IsPlainBody, IsProte
 use Rattle.flux_model.specs.Items.{AreValues, IsItemFor}
 use Rattle.flux_model.specs.Locks.{declared_on, declared, no_locks}
 use Rattle.flux_model.specs.Setup.{Setup, item_of}
-use Rattle.flux_model.specs.Keys.{Cells}
-use Rattle.flux_model.specs.Walk.{Given, Ended, finished, Walked, Walking, done, then, ended_by, ended_with, members_walk, body_walk, leaving, enclosed, handled, walk}
-use Rattle.flux_model.specs.Flows.{given_for, target_walk, flow_walk, with_end, flow_events}
+use Rattle.flux_model.specs.Walk.{Given, Ended, Walked, Walking, done, then, ended_by, members_walk, body_walk, leaving, enclosed, handled, walk}
+use Rattle.flux_model.specs.Flows.{given_for, flow_walk, with_end, flow_events}
 use Rattle.flux_driver.specs.declared.running.Task.{Task}
 use Rattle.flux_driver.specs.declared.running.Task.TheVariants.{Visit, Leave}
 use Rattle.flux_driver.specs.declared.running.Progress.{Progress}
@@ -48,7 +47,7 @@ use Rattle.flux_driver.specs.steps.Tasks.{outcome_of, values_of, visits_back, ca
 use Rattle.flux_driver.specs.Headline.{setup_of}
 use Rattle.flux_driver.specs.steps.Running.{AreUnpatterned, IsSimple, CanRun}
 use Rattle.flux_driver.specs.steps.Flows.{IsRight, IsFlow}
-use Rattle.flux_driver.proofs.Thens.{IsBareEnd, IsBare, before, then_end, then_assoc, then_same, before_before}
+use Rattle.flux_driver.proofs.Thens.{IsBareEnd, before, then_end, then_assoc, then_same, before_before}
 use Rattle.flux_driver.proofs.Quiet.{AreQuietWalks, quiet_enclosed, quiet_walks}
 use Rattle.flux_driver.proofs.Tasks.{do_task, do_all, tasks_size, size_both, size_members, do_last, leave_members, Typed, typed_last, typed_push, typed_members, ArePlain, plain_both, plain_split, plain_members}
 use Rattle.flux_graph.proofs.Depths.{through-rule}

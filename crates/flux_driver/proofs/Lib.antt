@@ -11,7 +11,6 @@ pub mod Turns
 pub mod Walks
 pub mod ItemLines
 pub mod Sourced
-pub mod Stub
 pub mod Once
 pub mod Answered
 pub mod Simple

@@ -1,6 +1,6 @@
 -- The sources of sound declarations have names of their own, without a blank.
-use Rattle.std.proofs.Common.{◌≡◌, ◌==◌, ◌+◌, ◌++◌, ◌||◌, ℕ, zero, suc, Bool, true, false, not, ◌&&◌, List, [], ◌∷◌, map, Option, Some, None, refl, sym, ap, subst, ◌∙◌, arith}
-use Rattle.std.specs.List.{slice_get, flat_map, filter, filter_map, AllByRecursion, list_all, list_any, position_or_len}
+use Rattle.std.proofs.Common.{◌≡◌, ◌==◌, ◌+◌, ◌++◌, ◌||◌, ℕ, zero, suc, Bool, true, false, ◌&&◌, List, [], ◌∷◌, map, Option, Some, None, refl, sym, ap, subst, ◌∙◌, arith}
+use Rattle.std.specs.List.{slice_get, flat_map, filter_map, AllByRecursion, list_all, list_any}
 use Rattle.std.specs.Option.{option_map}
 use Rattle.std.specs.Str.{bytes_eq}
 use Rattle.std.proofs.lemmas.Bool.Decides.{nat_tests}
@@ -18,13 +18,13 @@ use Rattle.flux_syntax.specs.declared.declarations.Word.{Word}
 use Rattle.flux_syntax.specs.declared.declarations.Decl.{Decl}
 use Rattle.flux_syntax.specs.declared.declarations.Decl.TheVariants.{Signature, Flow, Source, Typedef, Handler, Atomic, Session}
 use Rattle.flux_syntax.specs.Declares.{Declares}
-use Rattle.flux_syntax.specs.Words.{sourced, naming, defined, names_of, texts_of, known, listed}
+use Rattle.flux_syntax.specs.Words.{sourced, naming, defined, names_of, texts_of, known}
 use Rattle.flux_syntax.specs.ProgramOfText.{place_of, source_of, node_of, classes_of, program_of}
-use Rattle.flux_syntax.specs.Least.{Row, sooner, soonest, fault_or, first_fault}
+use Rattle.flux_syntax.specs.Least.{sooner, soonest, fault_or, first_fault}
 use Rattle.flux_syntax.proofs.Printed.{word_of_name}
 use Rattle.flux_syntax.proofs.Standing.{IsName, AllStandIn, all_stand}
-use Rattle.flux_names.specs.Rows.{inner_names, sessioned, used_names, handled, not_among, listed_if, is_patterned, have_one_name, repeats, repeated_after, repeated, twice_named, unknown_nodes, rows}
-use Rattle.flux_driver.specs.steps.ItemLines.{IsNamed, AreNamedSources}
+use Rattle.flux_names.specs.Rows.{sessioned, used_names, handled, not_among, listed_if, repeats, repeated_after, repeated, twice_named, unknown_nodes, rows}
+use Rattle.flux_driver.specs.steps.ItemLines.{AreNamedSources}
 
 -- ---- names have no blank
 

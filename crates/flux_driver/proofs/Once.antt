@@ -9,7 +9,7 @@ use Rattle.flux_syntax.specs.Declares.{Declares}
 use Rattle.flux_syntax.proofs.Texts.{one_list, no_decls}
 use Rattle.flux_names.specs.Building.{first_patterned}
 use Rattle.flux_check.specs.Judgement.{IsTextFault}
-use Rattle.flux_driver.proofs.Stub.{not_both}
+use Rattle.flux_check.proofs.Exclusive.{not_both}
 use Rattle.flux_driver.specs.declared.files.TheConstants.{PROGRAM_FILE_LIMIT, ITEMS_FILE_LIMIT}
 use Rattle.flux_driver.specs.declared.statuses.Status.{Status}
 use Rattle.flux_driver.specs.declared.statuses.Status.TheVariants as statuses

@@ -3,7 +3,6 @@ use Rattle.std.proofs.Common.{◌≡◌, ℕ, inl, inr, List, [], ◌∷◌, ◌
 use Rattle.std.specs.List.{AllByRecursion}
 use Rattle.std.specs.Result.{IsErrAnd}
 use Rattle.flux_values.specs.Meanings.{LibraryMeaning}
-use Rattle.flux_outside.specs.Causes.{Rose}
 use Rattle.flux_outside.specs.declared.stores.File.TheVariants.{Found}
 use Rattle.flux_faults.specs.declared.faults.StaticFault.{StaticFault}
 use Rattle.flux_syntax.specs.declared.declarations.Decl.{Decl}
@@ -22,10 +21,9 @@ use Rattle.flux_check.specs.Judgement.{IsTextFault, IsSoundText, IsChecked}
 use Rattle.flux_driver.specs.declared.files.TheConstants.{PROGRAM_FILE_LIMIT, ITEMS_FILE_LIMIT}
 use Rattle.flux_driver.specs.declared.refusals.Refusal.{Refusal}
 use Rattle.flux_driver.specs.declared.refusals.Refusal.TheVariants as refusals
-use Rattle.flux_driver.specs.declared.statuses.Status.TheVariants as statuses
 use Rattle.flux_driver.specs.Worlds.{Files, Gives, IsLost}
-use Rattle.flux_driver.specs.Commands.{Command, check, format, run, help, ReadsProgram}
-use Rattle.flux_driver.specs.Inputs.{HasDecls, HasProgram, CanBeRun, HasItems, kinds_in}
+use Rattle.flux_driver.specs.Commands.{Command, check, format, run, ReadsProgram}
+use Rattle.flux_driver.specs.Inputs.{HasProgram, CanBeRun, HasItems, kinds_in}
 use Rattle.flux_driver.specs.Items.{AreItemsOf, IsItemFault}
 use Rattle.flux_driver.specs.Headline.{IsTrueRun}
 use Rattle.flux_driver.specs.Printed.{IsPrinted}

@@ -1,5 +1,5 @@
 -- What is told of a refusal.
-use Rattle.std.proofs.Common.{◌≡◌, List, ℕ, inl, refl, sym, subst}
+use Rattle.std.proofs.Common.{◌≡◌, inl, refl, sym, subst}
 use Rattle.flux_driver.specs.declared.statuses.Status.TheVariants as statuses
 use Rattle.flux_driver.specs.declared.refusals.Refusal.{Refusal}
 use Rattle.flux_driver.specs.declared.refusals.Refusal.TheVariants.{Read}

@@ -1,6 +1,6 @@
 -- Each turn of a flow keeps what it is, and leaves less to be done.
 use Rattle.std.proofs.Common.{◌≡◌, ◌<◌, ◌≤◌, ◌+◌, ℕ, suc, List, [], ◌∷◌, ◌++◌, length, take, get_or, Option, Some, None, refl, sym, ap, subst, ◌∙◌, arith, append_assoc}
-use Rattle.std.specs.List.{slice_get, AllByRecursion}
+use Rattle.std.specs.List.{slice_get}
 use Rattle.std.proofs.lemmas.Option.{slice_get-get_or}
 use Rattle.std.proofs.Math.Seq.{take-length}
 use Rattle.std.proofs.lemmas.List.{append-nil, take_more, length-take}
@@ -18,7 +18,7 @@ use Rattle.flux_model.specs.Sizes.{size_of}
 use Rattle.flux_model.specs.Serial.{entries_of}
 use Rattle.flux_model.specs.Items.{IsItemFor}
 use Rattle.flux_model.specs.Locks.{no_locks}
-use Rattle.flux_model.specs.Setup.{Setup, item_of}
+use Rattle.flux_model.specs.Setup.{Setup}
 use Rattle.flux_driver.specs.declared.running.Task.{Task}
 use Rattle.flux_driver.specs.declared.running.Task.TheVariants.{Visit, Leave}
 use Rattle.flux_driver.specs.declared.running.Progress.{Progress}

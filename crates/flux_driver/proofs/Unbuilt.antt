@@ -1,6 +1,5 @@
 -- Texts with forms that aren't run yet.
-use Rattle.std.proofs.Common.{◌≡◌, ◌≤◌, ◌<◌, ℕ, List, [], ◌∷◌, length, Option, Some, None, refl, sym, ap, ◌∙◌, arith}
-use Rattle.flux_faults.specs.declared.faults.StaticFault.{StaticFault}
+use Rattle.std.proofs.Common.{◌≡◌, ◌≤◌, ◌<◌, ℕ, List, [], ◌∷◌, length, Some, None, refl, ap, ◌∙◌, arith}
 use Rattle.flux_faults.specs.declared.faults.FaultKind.TheVariants.{NotBuilt}
 use Rattle.flux_faults.specs.declared.places.TheConstants.{PLACE_LIMIT}
 use Rattle.flux_syntax.specs.declared.declarations.Decl.{Decl}

@@ -1,8 +1,7 @@
 -- A list of values, read one after the other.
-use Rattle.std.proofs.Common.{◌≡◌, ℕ, zero, suc, ◌+◌, ◌<◌, ◌≤◌, List, [], ◌∷◌, ◌++◌, length, map, take, drop, get_or, Option, Some, None, Result, Ok, Err, false, refl, sym, ap, ◌∙◌, arith, append_assoc, codes}
+use Rattle.std.proofs.Common.{◌≡◌, ℕ, zero, suc, ◌+◌, ◌<◌, ◌≤◌, List, [], ◌∷◌, ◌++◌, length, map, take, drop, get_or, Option, Some, None, refl, sym, ap, ◌∙◌, arith, append_assoc, codes}
 use Rattle.std.specs.Prelude.{OnOk, is_err}
 use Rattle.std.specs.List.{AllByRecursion}
-use Rattle.std.proofs.lemmas.Bool.{true≢false}
 use Rattle.std.proofs.lemmas.List.{append-nil, length-append, length-map, length-take, length-drop, append_cancel_left, take_all, take_more, take-append-drop, take_at, drop_at, map-append, drop_more}
 use Rattle.flux_values.specs.declared.values.Kind.{Kind}
 use Rattle.flux_values.specs.declared.values.Value.{Value}

@@ -1,9 +1,7 @@
 -- The walk of a node that a program without cycles has is the rule's, of the walks of what it leads to.
-use Rattle.std.proofs.Common.{◌≡◌, ℕ, ◌+◌, Bool, true, false, inl, inr, List, [], ◌∷◌, ◌++◌, map, Option, Some, None, refl, sym, ap, subst}
+use Rattle.std.proofs.Common.{◌≡◌, ℕ, ◌+◌, Bool, true, false, inl, inr, List, [], ◌∷◌, ◌++◌, Option, Some, None, refl, sym, ap, subst}
 use Rattle.std.specs.List.{slice_get, flat_map, find}
-use Rattle.std.specs.Option.{option_or, option_map}
 use Rattle.flux_values.specs.declared.values.Value.{Value}
-use Rattle.flux_values.specs.declared.answers.Answer.{Answer}
 use Rattle.flux_model.specs.declared.programs.NodeNo.{NodeNo}
 use Rattle.flux_model.specs.declared.programs.Node.{Node}
 use Rattle.flux_model.specs.declared.programs.Case.{Case}
@@ -13,12 +11,12 @@ use Rattle.flux_model.specs.declared.programs.Body.TheVariants.{Concrete, Abstra
 use Rattle.flux_model.specs.declared.journals.Outcome.{Outcome}
 use Rattle.flux_model.specs.declared.journals.Outcome.TheVariants.{Good, Over, Bad}
 use Rattle.flux_model.specs.declared.journals.Event.TheVariants as events
-use Rattle.flux_model.specs.Leading.{members_of, handlers_of, leads_to}
+use Rattle.flux_model.specs.Leading.{members_of, handlers_of}
 use Rattle.flux_model.specs.Children.{IsIn}
 use Rattle.flux_model.specs.Nested.{LooksDown}
 use Rattle.flux_model.specs.Ordering.{IsOrder}
 use Rattle.flux_model.specs.Matching.{names_code, has_no_codes, handler_for, first_case}
-use Rattle.flux_model.specs.Walk.{Given, Ended, Walked, Walking, lost, then, go_on, members_walk, case_walk, body_walk, enclosed, over, handler_walk, handled, walk_by, walk}
+use Rattle.flux_model.specs.Walk.{Given, Ended, Walking, lost, then, go_on, members_walk, case_walk, body_walk, enclosed, over, handler_walk, handled, walk_by, walk}
 use Rattle.flux_graph.proofs.Depths.{through-rule}
 
 pub in_front : (x : ℕ) (a b : List NodeNo) → IsIn x a → IsIn x (a ++ b)

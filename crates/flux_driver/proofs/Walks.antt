@@ -1,10 +1,9 @@
 -- The flows that are run are a legal journal, and a whole one.
-use Rattle.std.proofs.Common.{◌≡◌, ℕ, zero, suc, ◌+◌, ◌<◌, ◌≤◌, true, eqb, inl, inr, List, [], ◌∷◌, ◌++◌, length, Option, Some, None, refl, sym, ap, subst, ◌∙◌, arith}
-use Rattle.std.specs.List.{AllByRecursion, slice_get, flat_map, Contains}
+use Rattle.std.proofs.Common.{◌≡◌, ℕ, zero, suc, ◌+◌, ◌<◌, ◌≤◌, true, eqb, inl, inr, List, [], ◌∷◌, ◌++◌, length, refl, sym, ap, subst, ◌∙◌, arith}
+use Rattle.std.specs.List.{AllByRecursion, flat_map, Contains}
 use Rattle.std.proofs.lemmas.Bool.{ne_eqb}
 use Rattle.std.proofs.lemmas.Bool.Decides.{nat_tests}
 use Rattle.std.proofs.lemmas.List.{append-nil}
-use Rattle.flux_values.specs.declared.answers.Mode.{Mode}
 use Rattle.flux_values.specs.Meanings.{LibraryMeaning}
 use Rattle.flux_model.specs.declared.programs.Program.{Program}
 use Rattle.flux_model.specs.declared.programs.ClassNo.{ClassNo}
@@ -14,16 +13,14 @@ use Rattle.flux_model.specs.declared.journals.Event.{Event}
 use Rattle.flux_model.specs.declared.journals.Event.TheVariants.{Take, Wait, Enter, Choose, Call, Exit, Drop, End}
 use Rattle.flux_model.specs.declared.journals.FlowNo.{FlowNo}
 use Rattle.flux_model.specs.declared.journals.Item.{Item}
-use Rattle.flux_model.specs.Locks.{declared, AreLocksOf, AreLocks, IsLocked, HasClass, no_locks}
+use Rattle.flux_model.specs.Locks.{declared, AreLocks, IsLocked, no_locks}
 use Rattle.flux_model.specs.Setup.{Setup}
 use Rattle.flux_model.specs.CellsAfter.{cells_after}
 use Rattle.flux_model.specs.Exclusion.{Excludes}
 use Rattle.flux_model.specs.Waits.{WaitsFor, WaitsAreRight, IsFreeOfCycles}
-use Rattle.flux_model.specs.Flows.{flow_events, IsFinished}
 use Rattle.flux_model.specs.Serial.{entries_of, AreWalks}
 use Rattle.flux_model.specs.Events.{unless_wait, answer_in, events_by, own_events, own_answers, FollowsWalk, IsWholePath}
 use Rattle.flux_model.specs.Answers.{AreAnswersRight}
-use Rattle.flux_model.specs.Legal.{IsLegal, IsWhole}
 use Rattle.flux_driver.specs.Headline.{setup_of, IsTrueRun}
 use Rattle.flux_driver.specs.steps.Running.{CanRun}
 use Rattle.flux_driver.specs.steps.Flows.{IsRight, IsFlow, HaveRun}

@@ -1,12 +1,11 @@
 -- The items text: printed items of the sources, each on a line.
-use Rattle.std.specs.Prelude.{◌≡◌, ◌==◌, false, ℕ, Some, ◌+◌, ◌<◌, ◌≤◌, ◌⊎◌, List, ◌++◌, length, codes}
-use Rattle.std.specs.List.{AllByRecursion, flat_map, slice_get}
+use Rattle.std.specs.Prelude.{◌≡◌, ℕ, ◌+◌, ◌<◌, ◌≤◌, ◌⊎◌, List, ◌++◌, length, codes}
+use Rattle.std.specs.List.{AllByRecursion, flat_map}
 use Rattle.flux_model.specs.declared.programs.Program.{Program}
-use Rattle.flux_model.specs.declared.programs.SourceLine.{SourceLine}
 use Rattle.flux_model.specs.declared.journals.Item.{Item}
 use Rattle.flux_model.specs.Kinds.{NodeKinds}
 use Rattle.flux_model.specs.Items.{IsItemFor}
-use Rattle.flux_model.specs.Texts.{printed_item, source_name}
+use Rattle.flux_model.specs.Texts.{printed_item}
 use Rattle.flux_driver.specs.declared.items.TheConstants.{ITEM_LIMIT}
 
 -- a printed item, ended by LF

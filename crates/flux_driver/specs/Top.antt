@@ -5,7 +5,7 @@ use Rattle.flux_outside.specs.Causes.{Rose}
 use Rattle.flux_syntax.specs.declared.declarations.Decl.{Decl}
 use Rattle.flux_driver.specs.declared.statuses.Status.{Status}
 use Rattle.flux_driver.specs.declared.statuses.Status.TheVariants as statuses
-use Rattle.flux_driver.specs.Worlds.{Files, Stream, Seen, Wrote, Broke, WroteOrBroke}
+use Rattle.flux_driver.specs.Worlds.{Files, Seen, Wrote, Broke, WroteOrBroke}
 use Rattle.flux_driver.specs.Commands.{Command, check, format, run, help, Asks, AsksNothing}
 use Rattle.flux_driver.specs.Inputs.{CanBeRun}
 use Rattle.flux_driver.specs.Answers.{IsDue, IsAnswer, OrMemory}

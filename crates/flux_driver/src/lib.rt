@@ -14,6 +14,8 @@ mod refusals;
 mod running;
 mod statuses;
 mod telling;
+#[cfg(test)]
+mod tests;
 mod texts;
 mod words;
 mod writing;

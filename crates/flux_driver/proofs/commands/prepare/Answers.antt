@@ -1,5 +1,5 @@
 use Rattle.flux_driver.specs.Commands.{run}
-use Rattle.flux_driver.specs.steps.Preparing.{asked, prepared_status}
+use Rattle.flux_driver.specs.steps.Preparing.{prepared_status}
 use Rattle.flux_driver.proofs.Once.{firm_any}
 use Rattle.flux_driver.proofs.commands.prepare.Goals as goal
 

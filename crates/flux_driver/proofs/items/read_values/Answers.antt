@@ -1,4 +1,4 @@
-use Rattle.std.proofs.Common.{sym, refl}
+use Rattle.std.proofs.Common.{refl}
 use Rattle.std.proofs.lemmas.List.{take_rest}
 use Rattle.flux_values.specs.declared.values.Kind.TheVariants.{Int}
 use Rattle.flux_driver.proofs.ValueLists.{turn_found, turn_none, over_closed}
