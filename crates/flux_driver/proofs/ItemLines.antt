@@ -6,12 +6,14 @@ use Rattle.std.proofs.lemmas.Grind.{flat_map-append}
 use Rattle.flux_values.specs.declared.values.Kind.{Kind}
 use Rattle.flux_values.specs.declared.values.Value.{Value}
 use Rattle.flux_model.specs.declared.programs.Program.{Program}
-use Rattle.flux_model.specs.Soundness.{NodeKinds}
+use Rattle.flux_model.specs.Kinds.{NodeKinds}
 use Rattle.flux_model.specs.declared.journals.Item.{Item}
 use Rattle.flux_model.specs.Texts.{printed_values, printed_item}
 use Rattle.flux_driver.specs.declared.items.ItemsRead.{ItemsRead}
 use Rattle.flux_driver.specs.declared.items.ItemsRead.TheVariants.{Items}
-use Rattle.flux_driver.specs.Items.{IsItemFor, item_line, AreItemsOf, IsItemFault, BeginsNoItem, line_of, IsLine, closed, IsClosed, IsItemLine}
+use Rattle.flux_model.specs.Items.{IsItemFor}
+use Rattle.flux_driver.specs.Items.{item_line, AreItemsOf, IsItemFault, BeginsNoItem}
+use Rattle.flux_driver.specs.steps.ItemLines.{line_of, IsLine, closed, IsClosed, IsItemLine}
 use Rattle.flux_driver.proofs.Steps.{some_is}
 use Rattle.flux_driver.proofs.ValueLists.{listed}
 

@@ -1,18 +1,25 @@
 -- Words and files decide one status.
-use Rattle.std.proofs.Common.{◌≡◌, ℕ, inl, inr, ◌⊎◌, List, Option, Some, refl, sym, subst, ◌∙◌}
+use Rattle.std.proofs.Common.{◌≡◌, ℕ, inl, inr, ◌⊎◌, List, Option, Some, None, IfSome, refl, sym, ap, subst, ◌∙◌}
+use Rattle.flux_values.specs.Meanings.{LibraryMeaning}
 use Rattle.flux_outside.specs.declared.stores.File.{File}
 use Rattle.flux_outside.specs.declared.stores.File.TheVariants.{Found, Missing, Longer}
 use Rattle.flux_faults.specs.declared.faults.StaticFault.{StaticFault}
 use Rattle.flux_syntax.specs.declared.declarations.Decl.{Decl}
 use Rattle.flux_syntax.specs.Declares.{Declares}
 use Rattle.flux_syntax.proofs.Texts.{one_list, no_decls}
-use Rattle.flux_library.specs.Basics.{basic_kind, basic_sig}
+use Rattle.flux_names.specs.Building.{first_patterned}
 use Rattle.flux_check.specs.Judgement.{IsTextFault}
 use Rattle.flux_check.proofs.Exclusive.{not_both}
+use Rattle.flux_driver.specs.declared.files.TheConstants.{PROGRAM_FILE_LIMIT, ITEMS_FILE_LIMIT}
 use Rattle.flux_driver.specs.declared.statuses.Status.{Status}
 use Rattle.flux_driver.specs.declared.statuses.Status.TheVariants as statuses
-use Rattle.flux_driver.specs.Commands.{Command, check, run, format, Asks, program_file, Files, Gives, IsLost, HasDecls, HasProgram, HasItems, IsPrinted, IsStaticOf, IsStatic, IsItems, AreItemsLost, IsMissing, Decided, IsDue}
-use Rattle.flux_driver.specs.Steps.{IsFirm}
+use Rattle.flux_driver.specs.Worlds.{Files, Gives, IsLost}
+use Rattle.flux_driver.specs.Commands.{Command, check, format, run, help, Asks, ReadsProgram}
+use Rattle.flux_driver.specs.Inputs.{HasDecls, HasProgram, CanBeRun, HasItems}
+use Rattle.flux_driver.specs.Printed.{IsPrinted}
+use Rattle.flux_driver.specs.Causes.{IsNotRun, IsStaticOf, IsStatic, IsItems, AreItemsLost, IsMissing}
+use Rattle.flux_driver.specs.Answers.{Decided, IsDue}
+use Rattle.flux_driver.specs.steps.Preparing.{IsFirm}
 
 -- ---- one text, one list of declarations, one program
 
@@ -30,120 +37,176 @@ not_lost files name max text x (inl y) = let e = found_is files name max (Found 
 not_lost files name max text x (inr y) = let e = found_is files name max (Found text) Longer x y in absurd cc
 
 pub decls_is : (files : Told) (file : List ℕ) (a b : List Decl) → HasDecls (Some files) file a → HasDecls (Some files) file b → a ≡ b
-decls_is files file a b x y = one_list x.text a b x.declared (subst (Declares b) (text_is files file 2097152 y.text x.text y.gives x.gives) y.declared)
+decls_is files file a b x y = one_list x.text a b x.declared (subst (Declares b) (text_is files file PROGRAM_FILE_LIMIT y.text x.text y.gives x.gives) y.declared)
 
 -- ---- what excludes what
 
-no_static_decls : (files : Told) (file line : List ℕ) (decls : List Decl) → HasDecls (Some files) file decls → IsStatic (format file) (Some files) line → ⊥
-no_static_decls files file line decls h s =
-    no_decls (let f = s.fault in f.kind) (let f = s.fault in f.at) s.text decls s.stands.0 (subst (Declares decls) (text_is files file 2097152 h.text s.text h.gives s.gives) h.declared)
+module _ (meaning : LibraryMeaning) (files : Told) where
+  -- the text that has a fault is the one that stands under the command's name
+  gives_here : (file other text : List ℕ) → other ≡ file → Gives (Some files) other PROGRAM_FILE_LIMIT (Found text) → Gives (Some files) file PROGRAM_FILE_LIMIT (Found text)
+  gives_here file other text same gives = subst (λ (name : List ℕ). Gives (Some files) name PROGRAM_FILE_LIMIT (Found text)) same gives
 
--- a sound program has no fault
-not_faulty : (files : Told) (file text : List ℕ) (fault : StaticFault) (decls : List Decl) → HasProgram (Some files) file decls → Gives (Some files) file 2097152 (Found text) → IsTextFault basic_kind basic_sig text fault → ⊥
-not_faulty files file text fault decls h gives stands =
-    let has = h.has in
-    not_both basic_kind basic_sig text fault (record { decls = decls; declared = subst (Declares decls) (text_is files file 2097152 has.text text has.gives gives) has.declared; sound = h.sound }) stands
+  declared_here : (file text : List ℕ) (decls : List Decl) → HasDecls (Some files) file decls → Gives (Some files) file PROGRAM_FILE_LIMIT (Found text) → Declares decls text
+  declared_here file text decls h gives = subst (Declares decls) (text_is files file PROGRAM_FILE_LIMIT h.text text h.gives gives) h.declared
 
-printed_static : (command : Command) (files : Told) (text line : List ℕ) → IsPrinted command (Some files) text → IsStatic command (Some files) line → ⊥
-printed_static (check file) files text line (decls, h, is) s = not_faulty files file s.text s.fault decls h s.gives s.stands
-printed_static (run file items) files text line p s = let has = p.has in not_faulty files file s.text s.fault has.decls has.source s.gives s.stands
-printed_static (format file) files text line (decls, h, is) s = no_static_decls files file line decls h s
+  -- a sound program has no fault
+  not_faulty : (file text : List ℕ) (fault : StaticFault) (decls : List Decl) → HasProgram meaning (Some files) file decls → Gives (Some files) file PROGRAM_FILE_LIMIT (Found text) → IsTextFault meaning text fault → ⊥
+  not_faulty file text fault decls h gives stands =
+      not_both meaning text fault (record { decls = decls; declared = declared_here file text decls h.has gives; sound = h.sound }) stands
 
-items_static : (command : Command) (files : Told) (said line : List ℕ) → IsItems command (Some files) said → IsStatic command (Some files) line → ⊥
-items_static (check file) files said line i s = i
-items_static (run file items) files said line i s = let has = i.has in not_faulty files file s.text s.fault has.decls has.source s.gives s.stands
-items_static (format file) files said line i s = i
+  not_unbuilt : (file text : List ℕ) (fault : StaticFault) (decls : List Decl) → CanBeRun meaning (Some files) file decls → Gives (Some files) file PROGRAM_FILE_LIMIT (Found text) → IsNotRun meaning text fault → ⊥
+  not_unbuilt file text fault decls h gives n =
+      let program = h.program in
+      let form = n.form in
+      let same : form.decls ≡ decls = one_list text form.decls decls form.declared (declared_here file text decls program.has gives) in
+      let none = sym h.built ∙ sym (ap first_patterned same) ∙ form.first in absurd cc
 
-file_there : (files : Told) (file : List ℕ) (decls : List Decl) → HasDecls (Some files) file decls → IsLost (Some files) file 2097152 → ⊥
-file_there files file decls h lost = not_lost files file 2097152 h.text h.gives lost
+  not_static : (file text : List ℕ) (fault : StaticFault) (decls : List Decl) → CanBeRun meaning (Some files) file decls → Gives (Some files) file PROGRAM_FILE_LIMIT (Found text) → IsTextFault meaning text fault ⊎ IsNotRun meaning text fault → ⊥
+  not_static file text fault decls h gives (inl stands) = not_faulty file text fault decls h.program gives stands
+  not_static file text fault decls h gives (inr stands) = not_unbuilt file text fault decls h gives stands
 
-items_there : (files : Told) (file items line : List ℕ) → HasItems (Some files) file items → IsMissing (run file items) (Some files) line → ⊥
-items_there files file items line h m = one m.lost
-  where
-    one : ((m.name ≡ file) × IsLost (Some files) file 2097152) ⊎ AreItemsLost (run file items) (Some files) m.name → ⊥
-    one (inl (name, lost)) = let source = h.source in file_there files file h.decls source.has lost
-    one (inr (name, lost, decls, source)) = not_lost files items 16777216 h.text h.gives lost
+  printed_static : (command : Command) (text line : List ℕ) → IsPrinted meaning command (Some files) text → IsStatic meaning command (Some files) line → ⊥
+  printed_static (check file) text line (decls, h, is) s = not_faulty file s.text s.fault decls h (gives_here file s.file s.text s.reads s.gives) s.stands
+  printed_static (format file) text line (decls, h, is) s =
+      let fault = s.fault in no_decls fault.kind fault.at s.text decls s.stands.0 (declared_here file s.text decls h (gives_here file s.file s.text s.reads s.gives))
+  printed_static (run file items) text line p s = let has = p.has in not_static file s.text s.fault has.decls has.source (gives_here file s.file s.text s.reads s.gives) s.stands
+  printed_static help text line p s = s.stands
 
-printed_missing : (command : Command) (files : Told) (text line : List ℕ) → IsPrinted command (Some files) text → IsMissing command (Some files) line → ⊥
-printed_missing (check file) files text line (decls, h, is) m = one m.lost
-  where
-    one : ((m.name ≡ file) × IsLost (Some files) file 2097152) ⊎ AreItemsLost (check file) (Some files) m.name → ⊥
-    one (inl (name, lost)) = file_there files file decls h.has lost
-    one (inr none) = none
-printed_missing (run file items) files text line p m = items_there files file items line p.has m
-printed_missing (format file) files text line (decls, h, is) m = one m.lost
-  where
-    one : ((m.name ≡ file) × IsLost (Some files) file 2097152) ⊎ AreItemsLost (format file) (Some files) m.name → ⊥
-    one (inl (name, lost)) = file_there files file decls h lost
-    one (inr none) = none
+  items_static : (command : Command) (said line : List ℕ) → IsItems meaning command (Some files) said → IsStatic meaning command (Some files) line → ⊥
+  items_static (check file) said line i s = i
+  items_static (format file) said line i s = i
+  items_static (run file items) said line i s = let has = i.has in not_static file s.text s.fault has.decls has.source (gives_here file s.file s.text s.reads s.gives) s.stands
+  items_static help said line i s = i
 
-items_missing : (command : Command) (files : Told) (said line : List ℕ) → IsItems command (Some files) said → IsMissing command (Some files) line → ⊥
-items_missing (check file) files said line i m = i
-items_missing (run file items) files said line i m = items_there files file items line i.has m
-items_missing (format file) files said line i m = i
+  -- a file that was found isn't lost
+  file_there : (file name text : List ℕ) → Gives (Some files) file PROGRAM_FILE_LIMIT (Found text) → name ≡ file → IsLost (Some files) name PROGRAM_FILE_LIMIT → ⊥
+  file_there file name text gives same lost = not_lost files file PROGRAM_FILE_LIMIT text gives (subst (λ (n : List ℕ). IsLost (Some files) n PROGRAM_FILE_LIMIT) same lost)
 
-static_missing : (command : Command) (files : Told) (said line : List ℕ) → IsStatic command (Some files) said → IsMissing command (Some files) line → ⊥
-static_missing command files said line s m = one command s.gives s.stands m.lost
-  where
-    one : (command : Command) → Gives (Some files) (program_file command) 2097152 (Found s.text) → IsStaticOf command s.text s.fault → ((m.name ≡ program_file command) × IsLost (Some files) (program_file command) 2097152) ⊎ AreItemsLost command (Some files) m.name → ⊥
-    one command gives stands (inl (name, lost)) = not_lost files (program_file command) 2097152 s.text gives lost
-    one (check file) gives stands (inr none) = none
-    one (run file items) gives stands (inr (name, lost, decls, source)) = not_faulty files file s.text s.fault decls source gives stands
-    one (format file) gives stands (inr none) = none
+  items_there : (file items line : List ℕ) → HasItems meaning (Some files) file items → IsMissing meaning (run file items) (Some files) line → ⊥
+  items_there file items line h m = one m.lost
+    where
+      one : ((m.name ≡ file) × IsLost (Some files) m.name PROGRAM_FILE_LIMIT) ⊎ AreItemsLost meaning (run file items) (Some files) m.name → ⊥
+      one (inl (same, lost)) = let source = h.source in let program = source.program in let has = program.has in file_there file m.name has.text has.gives same lost
+      one (inr (same, lost, decls, source)) = not_lost files items ITEMS_FILE_LIMIT h.text h.gives lost
+
+  printed_missing : (command : Command) (text line : List ℕ) → IsPrinted meaning command (Some files) text → IsMissing meaning command (Some files) line → ⊥
+  printed_missing (check file) text line (decls, h, is) m = one m.lost
+    where
+      one : ((m.name ≡ file) × IsLost (Some files) m.name PROGRAM_FILE_LIMIT) ⊎ AreItemsLost meaning (check file) (Some files) m.name → ⊥
+      one (inl (same, lost)) = let has = h.has in file_there file m.name has.text has.gives same lost
+      one (inr none) = none
+  printed_missing (format file) text line (decls, h, is) m = one m.lost
+    where
+      one : ((m.name ≡ file) × IsLost (Some files) m.name PROGRAM_FILE_LIMIT) ⊎ AreItemsLost meaning (format file) (Some files) m.name → ⊥
+      one (inl (same, lost)) = file_there file m.name h.text h.gives same lost
+      one (inr none) = none
+  printed_missing (run file items) text line p m = items_there file items line p.has m
+  printed_missing help text line p m = one m.lost
+    where
+      one : (⊥ × IsLost (Some files) m.name PROGRAM_FILE_LIMIT) ⊎ ⊥ → ⊥
+      one (inl (none, lost)) = none
+      one (inr none) = none
+
+  items_missing : (command : Command) (said line : List ℕ) → IsItems meaning command (Some files) said → IsMissing meaning command (Some files) line → ⊥
+  items_missing (check file) said line i m = i
+  items_missing (format file) said line i m = i
+  items_missing (run file items) said line i m = items_there file items line i.has m
+  items_missing help said line i m = i
+
+  -- both names are the program's
+  same_program : (command : Command) (a b : List ℕ) → ReadsProgram command a → ReadsProgram command b → a ≡ b
+  same_program (check file) a b x y = x ∙ sym y
+  same_program (format file) a b x y = x ∙ sym y
+  same_program (run file items) a b x y = x ∙ sym y
+  same_program help a b x y = absurd x
+
+  static_missing : (command : Command) (said line : List ℕ) → IsStatic meaning command (Some files) said → IsMissing meaning command (Some files) line → ⊥
+  static_missing command said line s m = one command s.reads s.stands m.lost
+    where
+      one : (command : Command) → ReadsProgram command s.file → IsStaticOf meaning command s.text s.fault → (ReadsProgram command m.name × IsLost (Some files) m.name PROGRAM_FILE_LIMIT) ⊎ AreItemsLost meaning command (Some files) m.name → ⊥
+      one command reads stands (inl (name, lost)) = file_there s.file m.name s.text s.gives (same_program command m.name s.file name reads) lost
+      one (check file) reads stands (inr none) = none
+      one (format file) reads stands (inr none) = none
+      one (run file items) reads stands (inr (name, lost, decls, source)) = not_static file s.text s.fault decls source (gives_here file s.file s.text reads s.gives) stands
+      one help reads stands (inr none) = none
 
 -- ---- one status
 
-abbrev View : Command → Files → Status → List ℕ → List ℕ → Type 0
-View command told status text line =
-    ((status ≡ statuses.Done) × IsPrinted command told text) ⊎ (((status ≡ statuses.Static) × IsStatic command told line)
-    ⊎ (((status ≡ statuses.Items) × IsItems command told line) ⊎ ((status ≡ statuses.Missing) × IsMissing command told line)))
+abbrev View : LibraryMeaning → Command → Files → Status → List ℕ → List ℕ → Type 0
+View meaning command told status text line =
+    ((status ≡ statuses.Done) × IsPrinted meaning command told text) ⊎ (((status ≡ statuses.Static) × IsStatic meaning command told line)
+    ⊎ (((status ≡ statuses.Items) × IsItems meaning command told line) ⊎ ((status ≡ statuses.Missing) × IsMissing meaning command told line)))
 
-view : (command : Command) (told : Files) (status : Status) (text line : List ℕ) → Decided command told status text line → View command told status text line
-view command told statuses.Done text line d = inl (refl, d.0)
-view command told statuses.Static text line d = inr (inl (refl, d.0))
-view command told statuses.Items text line d = inr (inr (inl (refl, d.0)))
-view command told statuses.Missing text line d = inr (inr (inr (refl, d.0)))
-view command told statuses.Usage text line d = absurd d
-view command told statuses.Read text line d = absurd d
-view command told statuses.Write text line d = absurd d
-view command told statuses.Door text line d = absurd d
-view command told statuses.No text line d = absurd d
-view command told statuses.NotServed text line d = absurd d
-view command told statuses.Memory text line d = absurd d
+view : (meaning : LibraryMeaning) (command : Command) (told : Files) (status : Status) (text line : List ℕ) → Decided meaning command told status text line → View meaning command told status text line
+view meaning command told statuses.Done text line d = inl (refl, d.0)
+view meaning command told statuses.Static text line d = inr (inl (refl, d.0))
+view meaning command told statuses.Items text line d = inr (inr (inl (refl, d.0)))
+view meaning command told statuses.Missing text line d = inr (inr (inr (refl, d.0)))
+view meaning command told statuses.Usage text line d = absurd d
+view meaning command told statuses.Read text line d = absurd d
+view meaning command told statuses.Write text line d = absurd d
+view meaning command told statuses.Door text line d = absurd d
+view meaning command told statuses.No text line d = absurd d
+view meaning command told statuses.NotServed text line d = absurd d
+view meaning command told statuses.Memory text line d = absurd d
 
-same_view : (command : Command) (files : Told) (s r : Status) (t l u m : List ℕ) → IsFirm command (Some files) s → View command (Some files) s t l → View command (Some files) r u m → s ≡ r
-same_view command files s r t l u m firm (inl (a, p)) (inl (b, q)) = a ∙ sym b
-same_view command files s r t l u m firm (inl (a, p)) (inr (inl (b, q))) = absurd (printed_static command files t m p q)
-same_view command files s r t l u m firm (inl (a, p)) (inr (inr (inl (b, q)))) = absurd (subst (IsFirm command (Some files)) a firm m q)
-same_view command files s r t l u m firm (inl (a, p)) (inr (inr (inr (b, q)))) = absurd (printed_missing command files t m p q)
-same_view command files s r t l u m firm (inr (inl (a, p))) (inl (b, q)) = absurd (printed_static command files u l q p)
-same_view command files s r t l u m firm (inr (inl (a, p))) (inr (inl (b, q))) = a ∙ sym b
-same_view command files s r t l u m firm (inr (inl (a, p))) (inr (inr (inl (b, q)))) = absurd (items_static command files m l q p)
-same_view command files s r t l u m firm (inr (inl (a, p))) (inr (inr (inr (b, q)))) = absurd (static_missing command files l m p q)
-same_view command files s r t l u m firm (inr (inr (inl (a, p)))) (inl (b, q)) = absurd (subst (IsFirm command (Some files)) a firm u q)
-same_view command files s r t l u m firm (inr (inr (inl (a, p)))) (inr (inl (b, q))) = absurd (items_static command files l m p q)
-same_view command files s r t l u m firm (inr (inr (inl (a, p)))) (inr (inr (inl (b, q)))) = a ∙ sym b
-same_view command files s r t l u m firm (inr (inr (inl (a, p)))) (inr (inr (inr (b, q)))) = absurd (items_missing command files l m p q)
-same_view command files s r t l u m firm (inr (inr (inr (a, p)))) (inl (b, q)) = absurd (printed_missing command files u l q p)
-same_view command files s r t l u m firm (inr (inr (inr (a, p)))) (inr (inl (b, q))) = absurd (static_missing command files m l q p)
-same_view command files s r t l u m firm (inr (inr (inr (a, p)))) (inr (inr (inl (b, q)))) = absurd (items_missing command files m l q p)
-same_view command files s r t l u m firm (inr (inr (inr (a, p)))) (inr (inr (inr (b, q)))) = a ∙ sym b
+module _ (meaning : LibraryMeaning) (files : Told) (command : Command) where
+  abbrev Views : Status → List ℕ → List ℕ → Type 0
+  Views = View meaning command (Some files)
+
+  same_view : (s r : Status) (t l u m : List ℕ) → IsFirm meaning command (Some files) s → Views s t l → Views r u m → s ≡ r
+  same_view s r t l u m firm (inl (a, p)) (inl (b, q)) = a ∙ sym b
+  same_view s r t l u m firm (inl (a, p)) (inr (inl (b, q))) = absurd (printed_static meaning files command t m p q)
+  same_view s r t l u m firm (inl (a, p)) (inr (inr (inl (b, q)))) = absurd (subst (IsFirm meaning command (Some files)) a firm m q)
+  same_view s r t l u m firm (inl (a, p)) (inr (inr (inr (b, q)))) = absurd (printed_missing meaning files command t m p q)
+  same_view s r t l u m firm (inr (inl (a, p))) (inl (b, q)) = absurd (printed_static meaning files command u l q p)
+  same_view s r t l u m firm (inr (inl (a, p))) (inr (inl (b, q))) = a ∙ sym b
+  same_view s r t l u m firm (inr (inl (a, p))) (inr (inr (inl (b, q)))) = absurd (items_static meaning files command m l q p)
+  same_view s r t l u m firm (inr (inl (a, p))) (inr (inr (inr (b, q)))) = absurd (static_missing meaning files command l m p q)
+  same_view s r t l u m firm (inr (inr (inl (a, p)))) (inl (b, q)) = absurd (subst (IsFirm meaning command (Some files)) a firm u q)
+  same_view s r t l u m firm (inr (inr (inl (a, p)))) (inr (inl (b, q))) = absurd (items_static meaning files command l m p q)
+  same_view s r t l u m firm (inr (inr (inl (a, p)))) (inr (inr (inl (b, q)))) = a ∙ sym b
+  same_view s r t l u m firm (inr (inr (inl (a, p)))) (inr (inr (inr (b, q)))) = absurd (items_missing meaning files command l m p q)
+  same_view s r t l u m firm (inr (inr (inr (a, p)))) (inl (b, q)) = absurd (printed_missing meaning files command u l q p)
+  same_view s r t l u m firm (inr (inr (inr (a, p)))) (inr (inl (b, q))) = absurd (static_missing meaning files command m l q p)
+  same_view s r t l u m firm (inr (inr (inr (a, p)))) (inr (inr (inl (b, q)))) = absurd (items_missing meaning files command m l q p)
+  same_view s r t l u m firm (inr (inr (inr (a, p)))) (inr (inr (inr (b, q)))) = a ∙ sym b
 
 one_command : (words : List (List ℕ)) (a b : Command) → Asks words a → Asks words b → a ≡ b
-one_command words (check file) (check other) (is, name) (same, more) = let e = sym is ∙ same in cc
-one_command words (check file) (run other others) (is, name) (same, more, others_) = let e = sym is ∙ same in absurd cc
-one_command words (check file) (format other) (is, name) (same, more) = let e = sym is ∙ same in absurd cc
-one_command words (run file items) (check other) (is, name, names) (same, more) = let e = sym is ∙ same in absurd cc
-one_command words (run file items) (run other others) (is, name, names) (same, more, others_) = let e = sym is ∙ same in cc
-one_command words (run file items) (format other) (is, name, names) (same, more) = let e = sym is ∙ same in absurd cc
-one_command words (format file) (check other) (is, name) (same, more) = let e = sym is ∙ same in absurd cc
-one_command words (format file) (run other others) (is, names) (same, more, others_) = let e = sym is ∙ same in absurd cc
-one_command words (format file) (format other) (is, name) (same, more) = let e = sym is ∙ same in cc
+one_command words (check file) (check other) x y = let e = sym x.0 ∙ y.0 in cc
+one_command words (check file) (format other) x y = let e = sym x.0 ∙ y.0 in absurd cc
+one_command words (check file) (run other others) x y = let e = sym x.0 ∙ y.0 in absurd cc
+one_command words (check file) help x (inl y) = let e = sym x.0 ∙ y in absurd cc
+one_command words (check file) help x (inr y) = let e = sym x.0 ∙ y in absurd cc
+one_command words (format file) (check other) x y = let e = sym x.0 ∙ y.0 in absurd cc
+one_command words (format file) (format other) x y = let e = sym x.0 ∙ y.0 in cc
+one_command words (format file) (run other others) x y = let e = sym x.0 ∙ y.0 in absurd cc
+one_command words (format file) help x (inl y) = let e = sym x.0 ∙ y in absurd cc
+one_command words (format file) help x (inr y) = let e = sym x.0 ∙ y in absurd cc
+one_command words (run file items) (check other) x y = let e = sym x.0 ∙ y.0 in absurd cc
+one_command words (run file items) (format other) x y = let e = sym x.0 ∙ y.0 in absurd cc
+one_command words (run file items) (run other others) x y = let e = sym x.0 ∙ y.0 in cc
+one_command words (run file items) help x (inl y) = let e = sym x.0 ∙ y in absurd cc
+one_command words (run file items) help x (inr y) = let e = sym x.0 ∙ y in absurd cc
+one_command words help (check other) (inl x) y = let e = sym x ∙ y.0 in absurd cc
+one_command words help (check other) (inr x) y = let e = sym x ∙ y.0 in absurd cc
+one_command words help (format other) (inl x) y = let e = sym x ∙ y.0 in absurd cc
+one_command words help (format other) (inr x) y = let e = sym x ∙ y.0 in absurd cc
+one_command words help (run other others) (inl x) y = let e = sym x ∙ y.0 in absurd cc
+one_command words help (run other others) (inr x) y = let e = sym x ∙ y.0 in absurd cc
+one_command words help help x y = refl
 
-pub due_once : (words : List (List ℕ)) (files : Told) (s r : Status) (t l u m : List ℕ) → ((command : Command) → Asks words command → IsFirm command (Some files) s) → IsDue words (Some files) s t l → IsDue words (Some files) r u m → s ≡ r
-due_once words files s r t l u m firm (inl (none, a, p, o)) (inl (never, b, q, r_)) = a ∙ sym b
-due_once words files s r t l u m firm (inl (none, a, p, o)) (inr (c, asks, d)) = absurd (none c asks)
-due_once words files s r t l u m firm (inr (c, asks, d)) (inl (never, b, q, o)) = absurd (never c asks)
-due_once words files s r t l u m firm (inr (c, asks, d)) (inr (e, asked, f)) =
+pub due_once : (meaning : LibraryMeaning) (words : List (List ℕ)) (files : Told) (s r : Status) (t l u m : List ℕ) → ((command : Command) → Asks words command → IsFirm meaning command (Some files) s)
+    → IsDue meaning words (Some files) s t l → IsDue meaning words (Some files) r u m → s ≡ r
+due_once meaning words files s r t l u m firm (inl a) (inl b) = a.1 ∙ sym b.1
+due_once meaning words files s r t l u m firm (inl a) (inr (c, asks, d)) = absurd (a.0 c asks)
+due_once meaning words files s r t l u m firm (inr (c, asks, d)) (inl b) = absurd (b.0 c asks)
+due_once meaning words files s r t l u m firm (inr (c, asks, d)) (inr (e, asked, f)) =
     let same = one_command words e c asked asks in
-    same_view c files s r t l u m (firm c asks) (view c (Some files) s t l d) (view c (Some files) r u m (subst (λ (x : Command). Decided x (Some files) r u m) same f))
+    same_view meaning files c s r t l u m (firm c asks) (view meaning c (Some files) s t l d) (view meaning c (Some files) r u m (subst (λ (x : Command). Decided meaning x (Some files) r u m) same f))
+
+-- what is firm for the command that was asked for is firm for any
+pub firm_any : (meaning : LibraryMeaning) (words : List (List ℕ)) (own : Command) (told : Files) (status : Status) → Asks words own → IfSome told (λ files. IsFirm meaning own (Some files) status)
+    → IfSome told (λ files. (command : Command) → Asks words command → IsFirm meaning command (Some files) status)
+firm_any meaning words own None status mine firm = tt
+firm_any meaning words own (Some files) status mine firm = λ command asks. subst (λ (c : Command). IsFirm meaning c (Some files) status) (one_command words own command mine asks) firm

@@ -9,9 +9,11 @@ use Rattle.flux_values.specs.declared.failures.Memory.{Memory}
 use Rattle.flux_model.specs.declared.programs.Program.{Program}
 use Rattle.flux_model.specs.declared.programs.SourceLine.{SourceLine}
 use Rattle.flux_model.specs.declared.journals.Item.{Item}
-use Rattle.flux_model.specs.Soundness.{NodeKinds}
+use Rattle.flux_model.specs.Kinds.{NodeKinds}
 use Rattle.flux_model.specs.Texts.{printed_values, source_name}
-use Rattle.flux_driver.specs.Items.{IsItemOf, IsItemFor, item_line, line_of, IsNamed, AreNamedSources}
+use Rattle.flux_model.specs.Items.{IsItemOf, IsItemFor}
+use Rattle.flux_driver.specs.Items.{item_line}
+use Rattle.flux_driver.specs.steps.ItemLines.{line_of, IsNamed, AreNamedSources}
 
 -- ---- looking for a source
 

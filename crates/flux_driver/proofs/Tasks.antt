@@ -5,20 +5,22 @@ use Rattle.std.proofs.lemmas.List.{append-nil}
 use Rattle.flux_values.specs.declared.values.Kind.{Kind}
 use Rattle.flux_values.specs.declared.values.Value.{Value}
 use Rattle.flux_values.specs.declared.answers.Answer.{Answer}
-use Rattle.flux_library.specs.Basics.{basic_sig}
+use Rattle.flux_values.specs.Meanings.{LibraryMeaning}
 use Rattle.flux_model.specs.declared.programs.NodeNo.{NodeNo}
 use Rattle.flux_model.specs.declared.programs.Node.{Node}
 use Rattle.flux_model.specs.declared.journals.Outcome.{Outcome}
 use Rattle.flux_model.specs.declared.journals.Outcome.TheVariants.{Good, Over, Bad}
 use Rattle.flux_model.specs.declared.journals.Event.TheVariants.{Exit}
 use Rattle.flux_model.specs.Sizes.{sizes_of}
-use Rattle.flux_model.specs.Soundness.{NodeKinds, Join, IsPlain}
+use Rattle.flux_model.specs.Kinds.{NodeKinds, Join}
+use Rattle.flux_model.specs.Soundness.{IsPlain}
 use Rattle.flux_model.specs.Children.{IsIn}
 use Rattle.flux_model.specs.Walk.{Ended, Walked, Walking, done, then, while_good, go_on, members_walk}
 use Rattle.flux_driver.specs.declared.running.Task.{Task}
 use Rattle.flux_driver.specs.declared.running.Task.TheVariants.{Visit, Leave}
-use Rattle.flux_driver.specs.Runs.{visits_back}
-use Rattle.flux_driver.proofs.Thens.{then_end, then_assoc}
+use Rattle.flux_driver.specs.steps.Tasks.{visits_back}
+use Rattle.flux_driver.proofs.Thens.{IsBareEnd, IsBare, then_end, then_assoc, then_same}
+use Rattle.flux_driver.proofs.Quiet.{AreQuietWalks, quiet_go_on}
 
 -- ---- their walks
 
@@ -42,10 +44,10 @@ module _ (walks : ℕ → Walking) where
   all_last tasks task = λ i ended. do_last tasks task ended i
 
   -- members one after another
-  no_members : (outcome : Outcome) (values : List Value) (left : List Answer) → while_good (members_walk walks []) outcome values left ≡ done [] (record { outcome = outcome; values = values; left = left })
-  no_members Good values left = refl
-  no_members Over values left = refl
-  no_members (Bad code) values left = refl
+  no_members : (outcome : Outcome) (values : List Value) (left : List Answer) → IsBareEnd outcome values → while_good (members_walk walks []) outcome values left ≡ done [] (record { outcome = outcome; values = values; left = left })
+  no_members Good values left bare = refl
+  no_members Over values left bare = ap (λ (vs : List Value). done [] (record { outcome = Over; values = vs; left = left })) (sym bare)
+  no_members (Bad code) values left bare = ap (λ (vs : List Value). done [] (record { outcome = Bad code; values = vs; left = left })) (sym bare)
 
   some_members : (member : NodeNo) (members : List NodeNo) (outcome : Outcome) (values : List Value) (left : List Answer)
       → while_good (members_walk walks (member ∷ members)) outcome values left ≡ then (while_good (walks member.0) outcome values left) (go_on (members_walk walks members))
@@ -53,21 +55,26 @@ module _ (walks : ℕ → Walking) where
   some_members member members Over values left = refl
   some_members member members (Bad code) values left = refl
 
-  pub do_members : (tasks : List Task) (members : List NodeNo) (ended : Ended) → do_all (tasks ++ visits_back members) ended ≡ then (go_on (members_walk walks members) ended) (do_all tasks)
-  do_members tasks [] ended =
-      ap (λ (ts : List Task). do_all ts ended) (append-nil tasks)
-      ∙ ap (λ (w : Walked). then w (do_all tasks)) (sym (no_members ended.outcome ended.values ended.left))
-  do_members tasks (member ∷ members) ended =
-      ap (λ (ts : List Task). do_all ts ended) (sym (append_assoc tasks (visits_back members) (Visit member ∷ [])))
-      ∙ do_last (tasks ++ visits_back members) (Visit member) ended
-      ∙ ap (then (do_task (Visit member) ended)) (λ i e. do_members tasks members e i)
-      ∙ sym (then_assoc (do_task (Visit member) ended) (go_on (members_walk walks members)) (do_all tasks))
-      ∙ ap (λ (w : Walked). then w (do_all tasks)) (sym (some_members member members ended.outcome ended.values ended.left))
+  module _ (each : AreQuietWalks walks) where
+    bare_go_on : (number : ℕ) (ended : Ended) → IsBare (go_on (walks number) ended)
+    bare_go_on number ended = (quiet_go_on (walks number) (each number) ended.outcome ended.values ended.left).1
 
-  pub leave_members : (tasks : List Task) (node : NodeNo) (members : List NodeNo) (ended : Ended)
-      → do_all ((tasks ++ Leave node ∷ []) ++ visits_back members) ended ≡ then (go_on (members_walk walks members) ended) (λ e. then (do_task (Leave node) e) (do_all tasks))
-  leave_members tasks node members ended =
-      do_members (tasks ++ Leave node ∷ []) members ended ∙ ap (then (go_on (members_walk walks members) ended)) (all_last tasks (Leave node))
+    do_members : (tasks : List Task) (members : List NodeNo) (ended : Ended) → IsBareEnd ended.outcome ended.values → do_all (tasks ++ visits_back members) ended ≡ then (go_on (members_walk walks members) ended) (do_all tasks)
+    do_members tasks [] ended bare =
+        ap (λ (ts : List Task). do_all ts ended) (append-nil tasks)
+        ∙ ap (λ (w : Walked). then w (do_all tasks)) (sym (no_members ended.outcome ended.values ended.left bare))
+    do_members tasks (member ∷ members) ended bare =
+        ap (λ (ts : List Task). do_all ts ended) (sym (append_assoc tasks (visits_back members) (Visit member ∷ [])))
+        ∙ do_last (tasks ++ visits_back members) (Visit member) ended
+        ∙ then_same (do_task (Visit member) ended) (do_all (tasks ++ visits_back members)) (λ e. then (go_on (members_walk walks members) e) (do_all tasks))
+        (bare_go_on member.0 ended) (do_members tasks members)
+        ∙ sym (then_assoc (do_task (Visit member) ended) (go_on (members_walk walks members)) (do_all tasks))
+        ∙ ap (λ (w : Walked). then w (do_all tasks)) (sym (some_members member members ended.outcome ended.values ended.left))
+
+    pub leave_members : (tasks : List Task) (node : NodeNo) (members : List NodeNo) (ended : Ended) → IsBareEnd ended.outcome ended.values
+        → do_all ((tasks ++ Leave node ∷ []) ++ visits_back members) ended ≡ then (go_on (members_walk walks members) ended) (λ e. then (do_task (Leave node) e) (do_all tasks))
+    leave_members tasks node members ended bare =
+        do_members (tasks ++ Leave node ∷ []) members ended bare ∙ ap (then (go_on (members_walk walks members) ended)) (all_last tasks (Leave node))
 
 -- ---- the kinds of values that they want
 
@@ -110,9 +117,9 @@ module _ (kinds : ℕ → NodeKinds) where
 
 -- ---- only plain nodes are visited
 
-module _ (nodes : List Node) where
+module _ (meaning : LibraryMeaning) (nodes : List Node) where
   abbrev pub IsPlainTask : Task → Type 0
-  IsPlainTask (Visit node) = IsPlain basic_sig (slice_get nodes node.0)
+  IsPlainTask (Visit node) = IsPlain meaning (slice_get nodes node.0)
   IsPlainTask (Leave node) = Unit {0}
 
   abbrev pub ArePlain : List Task → Type 0
@@ -126,7 +133,7 @@ module _ (nodes : List Node) where
   plain_split [] b x = (tt, x)
   plain_split (t ∷ a) b x = let both = plain_split a b x.1 in ((x.0, both.0), both.1)
 
-  pub plain_members : (members : List NodeNo) → ((led : ℕ) → IsIn led members → IsPlain basic_sig (slice_get nodes led)) → ArePlain (visits_back members)
+  pub plain_members : (members : List NodeNo) → ((led : ℕ) → IsIn led members → IsPlain meaning (slice_get nodes led)) → ArePlain (visits_back members)
   plain_members [] each = tt
   plain_members (member ∷ members) each =
       plain_both (visits_back members) (Visit member ∷ []) (plain_members members (λ led is. each led (inr is))) (each member.0 (inl refl), tt)

@@ -1,8 +1,7 @@
 -- A list of values, read one after the other.
-use Rattle.std.proofs.Common.{◌≡◌, ℕ, zero, suc, ◌+◌, ◌<◌, ◌≤◌, List, [], ◌∷◌, ◌++◌, length, map, take, drop, get_or, Option, Some, None, Result, Ok, Err, false, refl, sym, ap, ◌∙◌, arith, append_assoc, codes}
+use Rattle.std.proofs.Common.{◌≡◌, ℕ, zero, suc, ◌+◌, ◌<◌, ◌≤◌, List, [], ◌∷◌, ◌++◌, length, map, take, drop, get_or, Option, Some, None, refl, sym, ap, ◌∙◌, arith, append_assoc, codes}
 use Rattle.std.specs.Prelude.{OnOk, is_err}
 use Rattle.std.specs.List.{AllByRecursion}
-use Rattle.std.proofs.lemmas.Bool.{true≢false}
 use Rattle.std.proofs.lemmas.List.{append-nil, length-append, length-map, length-take, length-drop, append_cancel_left, take_all, take_more, take-append-drop, take_at, drop_at, map-append, drop_more}
 use Rattle.flux_values.specs.declared.values.Kind.{Kind}
 use Rattle.flux_values.specs.declared.values.Value.{Value}
@@ -12,7 +11,8 @@ use Rattle.flux_values.specs.Texts.{printed_value}
 use Rattle.flux_values.specs.Reading.{IsValue, EndsBefore}
 use Rattle.flux_model.specs.Texts.{comma_separated}
 use Rattle.flux_driver.proofs.Steps.{some_is}
-use Rattle.flux_driver.specs.Items.{AreValues, IsNext, closed, IsClosed, separator}
+use Rattle.flux_model.specs.Items.{AreValues}
+use Rattle.flux_driver.specs.steps.ItemLines.{IsNext, closed, IsClosed, separator}
 
 -- values with commas between them
 abbrev pub listed : List Value → List ℕ
@@ -108,11 +108,6 @@ next_is kinds text vs at i k d ws rest s lt is are spelled =
     }
 
 -- ---- the reader's turns
-
--- a push that didn't fail
-pub pushed : {X E : Type 0} {P : Type 0} (r : Result X E) → is_err r ≡ false → OnOk r P → P
-pushed (Ok x) e p = p
-pushed (Err x) e p = absurd (true≢false e)
 
 pub taken_on : (at n : ℕ) (text a b : List ℕ) → at ≤ length text → n ≤ length (drop at text) → take at text ≡ a → take n (drop at text) ≡ b → take (at + n) text ≡ a ++ b
 taken_on at n text a b le lo first second =

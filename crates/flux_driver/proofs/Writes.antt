@@ -1,44 +1,62 @@
 -- Bytes written piece by piece.
-use Rattle.std.proofs.Common.{◌≡◌, ℕ, ◌≤◌, List, [], ◌++◌, length, take, drop, Option, Some, None, refl, sym, ap, ◌∙◌, arith, append_assoc, Result, Ok, Err, inl, inr}
+use Rattle.std.proofs.Common.{◌≡◌, ℕ, ◌⊎◌, List, [], ◌++◌, length, take, drop, Option, Some, None, refl, sym, ap, ◌∙◌, append_assoc, Result, Ok, Err, inl, inr}
 use Rattle.std.specs.Prelude.{OnOk, OnErr}
 use Rattle.std.specs.Option.{option_map}
 use Rattle.std.proofs.lemmas.List.{append-nil, take-append-drop, nil_from_length}
 use Rattle.flux_outside.specs.Causes.{Rose}
-use Rattle.flux_driver.specs.Writing.{Gained, GainedPart, GainedOrFailed}
+use Rattle.flux_driver.specs.Worlds.{Stream, Gains, Wrote, Broke}
 
 -- a front of the bytes has been written, and the rest is left
-pub record SoFar (before after : Option (List ℕ)) (count later : ℕ) (bytes rest : List ℕ) : Type 0 where
+pub record SoFar (before after : Stream) (bytes rest : List ℕ) : Type 0 where
   pub done : List ℕ
   pub split : bytes ≡ done ++ rest
-  pub gains : Gained before after done
-  pub steady : later ≡ count
+  pub wrote : Wrote before after done
 
-pub gained_none : (before : Option (List ℕ)) → Gained before before []
-gained_none None = refl
-gained_none (Some written) = ap (λ (l : List ℕ). Some l) (sym (append-nil written))
+gains_none : (before : Stream) → Gains before before []
+gains_none before = one before.written
+  where
+    one : (written : Option (List ℕ)) → written ≡ option_map (λ w. w ++ []) written
+    one None = refl
+    one (Some w) = ap (λ (l : List ℕ). Some l) (sym (append-nil w))
 
-pub so_far_none : (before : Option (List ℕ)) (count : ℕ) (bytes : List ℕ) → SoFar before before count count bytes bytes
-so_far_none before count bytes = record { done = []; split = refl; gains = gained_none before; steady = refl }
+-- a stream that wasn't written to has gained nothing
+pub wrote_none : (before : Stream) → Wrote before before []
+wrote_none before = record { gains = gains_none before; steady = refl }
 
-gained_twice : (before mid after : Option (List ℕ)) (a b : List ℕ) → Gained before mid a → Gained mid after b → Gained before after (a ++ b)
-gained_twice None mid after a b first second = second ∙ ap (option_map (λ (w : List ℕ). w ++ b)) first
-gained_twice (Some written) mid after a b first second = second ∙ ap (option_map (λ (w : List ℕ). w ++ b)) first ∙ ap (λ (l : List ℕ). Some l) (append_assoc written a b)
+pub so_far_none : (before : Stream) (bytes : List ℕ) → SoFar before before bytes bytes
+so_far_none before bytes = record { done = []; split = refl; wrote = wrote_none before }
 
-pub so_far_more : (before mid after : Option (List ℕ)) (count m later : ℕ) (bytes rest : List ℕ) (n : ℕ) → SoFar before mid count m bytes rest → Gained mid after (take n rest) → later ≡ m → SoFar before after count later bytes (drop n rest)
-so_far_more before mid after count m later bytes rest n s more same = record {
+gains_twice : (before mid after : Stream) (a b : List ℕ) → Gains before mid a → Gains mid after b → Gains before after (a ++ b)
+gains_twice before mid after a b first second = one before.written mid.written after.written first second
+  where
+    one : (x y z : Option (List ℕ)) → y ≡ option_map (λ w. w ++ a) x → z ≡ option_map (λ w. w ++ b) y → z ≡ option_map (λ w. w ++ (a ++ b)) x
+    one None y z first second = second ∙ ap (option_map (λ (w : List ℕ). w ++ b)) first
+    one (Some w) y z first second = second ∙ ap (option_map (λ (w : List ℕ). w ++ b)) first ∙ ap (λ (l : List ℕ). Some l) (append_assoc w a b)
+
+pub so_far_more : (before mid after : Stream) (bytes rest : List ℕ) (n : ℕ) → SoFar before mid bytes rest → Gains mid after (take n rest) → after.faults ≡ mid.faults → SoFar before after bytes (drop n rest)
+so_far_more before mid after bytes rest n s more steady = let wrote = s.wrote in record {
   done = s.done ++ take n rest;
   split = s.split ∙ ap (λ (l : List ℕ). s.done ++ l) (sym (take-append-drop n rest)) ∙ sym (append_assoc s.done (take n rest) (drop n rest));
-  gains = gained_twice before mid after s.done (take n rest) s.gains more;
-  steady = same ∙ s.steady;
+  wrote = record { gains = gains_twice before mid after s.done (take n rest) wrote.gains more; steady = steady ∙ wrote.steady };
 }
 
-pub so_far_all : (before after : Option (List ℕ)) (count later : ℕ) (bytes rest : List ℕ) → SoFar before after count later bytes rest → length rest ≡ 0 → Gained before after bytes
-so_far_all before after count later bytes rest s none =
+pub so_far_all : (before after : Stream) (bytes rest : List ℕ) → SoFar before after bytes rest → length rest ≡ 0 → Wrote before after bytes
+so_far_all before after bytes rest s none =
     let all : bytes ≡ s.done = s.split ∙ ap (λ (l : List ℕ). s.done ++ l) (nil_from_length rest none) ∙ append-nil s.done in
-    rw all s.gains
+    rw all s.wrote
 
--- all of the bytes were written, or a front of them and the count rose
-pub all_or_part : {X Y : Type 0} (before after : Option (List ℕ)) (count later : ℕ) (bytes : List ℕ) (result : Result X Y)
-    → OnOk result (Gained before after bytes) → OnErr result (GainedPart before after bytes) → OnErr result (Rose count later) → GainedOrFailed before after count later bytes
-all_or_part before after count later bytes (Ok x) all part rose = inl all
-all_or_part before after count later bytes (Err y) all part rose = inr (part, rose)
+-- the next write failed
+pub so_far_broke : (before mid after : Stream) (bytes rest : List ℕ) → SoFar before mid bytes rest → Gains mid after [] → Rose mid.faults after.faults → Broke before after bytes
+so_far_broke before mid after bytes rest s none rose = let wrote = s.wrote in record {
+  front = s.done;
+  rest = rest;
+  is = s.split;
+  gains = gains_twice before mid after s.done [] wrote.gains none ∙ ap (λ (l : List ℕ). option_map (λ (w : List ℕ). w ++ l) before.written) (append-nil s.done);
+  rose = rw (sym wrote.steady) rose;
+}
+
+-- all of the bytes were written, or a front of them and the stream failed
+pub all_or_part : {X Y : Type 0} (before after : Stream) (bytes : List ℕ) (result : Result X Y)
+    → OnOk result (Wrote before after bytes) → OnErr result (Broke before after bytes) → Wrote before after bytes ⊎ Broke before after bytes
+all_or_part before after bytes (Ok x) all part = inl all
+all_or_part before after bytes (Err y) all part = inr part

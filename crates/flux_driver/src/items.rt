@@ -8,13 +8,18 @@ ghost use Rattle.flux_values.specs.Texts.{printed_value};
 ghost use Rattle.flux_values.specs.Reading.{IsValue, EndsBefore};
 ghost use Rattle.flux_model.specs.declared.journals.Item.{Item};
 ghost use Rattle.flux_model.specs.Texts.{source_name};
-ghost use Rattle.flux_driver.specs.Items.{IsNext, IsClosed, IsLine, AreValues, closed, separator, line_of, item_line, IsItemOf, IsItemFor, IsItemLine, IsItemsRead, AreItemsOf, IsItemFault, IsNamed, AreNamedSources};
-ghost use Rattle.flux_model.specs.Soundness.{kinds_of, kinds_at};
+ghost use Rattle.flux_model.specs.Kinds.{kinds_of, kinds_at};
+ghost use Rattle.flux_model.specs.Items.{AreValues, IsItemOf, IsItemFor};
+ghost use Rattle.flux_driver.specs.Items.{item_line, AreItemsOf, IsItemFault};
+ghost use Rattle.flux_driver.specs.steps.ItemLines.{IsNext, IsClosed, IsLine, closed, separator, line_of, IsItemLine, IsItemsRead, IsNamed, AreNamedSources};
 
 use flux_hoist::Checked;
 use flux_model::{Item, NodeNo, NodeSig, Program, SourceLine, SourceNo, TypeText};
-use flux_values::{Kind, List, Memory, Value, ValueFault, read_value};
+use flux_values::{Kind, List, Memory, Value, ValueFault, read_printed_value};
 use std::alloc::Global;
+
+/// The most items of an items text.
+pub const ITEM_LIMIT: usize = 64;
 
 /// What an items text is.
 #[derive(Debug, Drop)]
@@ -40,13 +45,18 @@ fn read_next(
     text: &[u8],
 ) -> Result<Option<(Value, usize)>, Memory>
     ensures found { IfOk result (λ read. IfSome read (IsNext mark.now kind text.now)) }
-    ensures only { (value : Value) (rest : List ℕ) → IsValue value → kind_of value ≡ kind → EndsBefore value rest → text.now ≡ mark.now ++ (printed_value value ++ rest)
-        → IfOk result (λ read. read ≡ Some (value, length mark.now + length (printed_value value))) }
+    ensures only { (value : Value) (rest : List ℕ) → IsValue value → kind_of value ≡ kind
+        → EndsBefore value rest → text.now ≡ mark.now ++ (printed_value value ++ rest)
+        → IfOk result (λ read. read ≡ Some (
+          value,
+          length mark.now + length
+              (printed_value value),
+        )) }
 {
     let Some(rest) = strip(mark, text) else {
         return Ok(None);
     };
-    match read_value(alloc, rest) {
+    match read_printed_value(alloc, rest) {
         Ok((value, length)) => {
             if value.kind() == kind {
                 Ok(Some((value, mark.len() + length)))
@@ -67,7 +77,8 @@ fn read_values(
     text: &[u8],
 ) -> Result<Option<(List<Value>, usize)>, Memory>
     ensures found { IfOk result (λ read. IfSome read (IsClosed kinds.now text.now)) }
-    ensures only { (values : List Value) (rest : List ℕ) → AreValues kinds.now values → text.now ≡ closed values ++ rest
+    ensures only { (values : List Value) (rest : List ℕ) → AreValues kinds.now values
+        → text.now ≡ closed values ++ rest
         → IfOk result (λ read. read ≡ Some (values, length (closed values))) }
 {
     let mut values = List::new(alloc);
@@ -75,9 +86,7 @@ fn read_values(
     for kind in kinds {
         match read_next(alloc, separator(&values), *kind, &text[at..])? {
             Some((value, length)) => {
-                if values.push(value).is_err() {
-                    return Err(Memory);
-                }
+                values.add(value)?;
                 at += length;
             }
             None => return Ok(None),
@@ -108,7 +117,8 @@ fn read_line(
     text: &[u8],
 ) -> Result<Option<(List<Value>, usize)>, Memory>
     ensures found { IfOk result (λ read. IfSome read (IsLine name.now kinds.now text.now)) }
-    ensures only { (values : List Value) (rest : List ℕ) → AreValues kinds.now values → text.now ≡ line_of name.now values ++ rest
+    ensures only { (values : List Value) (rest : List ℕ) → AreValues kinds.now values
+        → text.now ≡ line_of name.now values ++ rest
         → IfOk result (λ read. read ≡ Some (values, length (line_of name.now values))) }
 {
     let Some(behind) = strip(name, text) else {
@@ -166,12 +176,8 @@ fn kinds_of(alloc: Global, types: &[TypeText]) -> Result<List<Kind>, Memory>
     ensures { IfOk result (λ kinds. kinds ≡ kinds_of types.now) }
 {
     let mut kinds = List::new(alloc);
-    let mut rest = types;
-    while let [ty, others @ ..] = rest {
-        if kinds.push(ty.kind).is_err() {
-            return Err(Memory);
-        }
-        rest = others;
+    for ty in types {
+        kinds.add(ty.kind)?;
     }
     Ok(kinds)
 }
@@ -195,9 +201,17 @@ fn read_item_of(
     text: &[u8],
 ) -> Result<Option<(Item, usize)>, Memory>
     requires { IsNamed checked.now.program name.now place }
-    ensures found { IfOk result (λ read. IfSome read (IsItemLine checked.now.program (kinds_at checked.now.sigs.nodes) text.now)) }
-    ensures only { (values : List Value) (rest : List ℕ) → IsItemOf (kinds_at checked.now.sigs.nodes) (slice_get checked.now.program.sources place) values → text.now ≡ line_of name.now values ++ rest
-        → IfOk result (λ read. read ≡ Some (record { source = record { 0 = place }; values = values }, length (line_of name.now values))) }
+    ensures found { IfOk result (λ read. IfSome read (IsItemLine checked.now.program
+        (kinds_at checked.now.sigs.nodes) text.now)) }
+    ensures only { (values : List Value) (rest : List ℕ)
+        → IsItemOf (kinds_at checked.now.sigs.nodes)
+        (slice_get checked.now.program.sources place) values
+        → text.now ≡ line_of name.now values ++ rest
+        → IfOk result (λ read. read ≡ Some (
+          record { source = record { 0 = place }; values = values },
+          length
+              (line_of name.now values),
+        )) }
 {
     let Some(line) = checked.program.sources.as_slice().get(place) else {
         unreachable!()
@@ -215,8 +229,11 @@ fn read_item_of(
 /// The item whose line begins a text, and how many bytes it is.
 fn read_item(alloc: Global, checked: &Checked, text: &[u8]) -> Result<Option<(Item, usize)>, Memory>
     requires { AreNamedSources checked.now.program }
-    ensures found { IfOk result (λ read. IfSome read (IsItemLine checked.now.program (kinds_at checked.now.sigs.nodes) text.now)) }
-    ensures only { (item : Item) (rest : List ℕ) → IsItemFor checked.now.program (kinds_at checked.now.sigs.nodes) item → text.now ≡ item_line checked.now.program item ++ rest
+    ensures found { IfOk result (λ read. IfSome read (IsItemLine checked.now.program
+        (kinds_at checked.now.sigs.nodes) text.now)) }
+    ensures only { (item : Item) (rest : List ℕ)
+        → IsItemFor checked.now.program (kinds_at checked.now.sigs.nodes) item
+        → text.now ≡ item_line checked.now.program item ++ rest
         → IfOk result (λ read. read ≡ Some (item, length (item_line checked.now.program item))) }
 {
     let name = front_name(text);
@@ -229,21 +246,24 @@ fn read_item(alloc: Global, checked: &Checked, text: &[u8]) -> Result<Option<(It
 /// The items of a text, at most 64, or the first line that is none.
 pub fn read_items(alloc: Global, checked: &Checked, text: &[u8]) -> Result<ItemsRead, Memory>
     requires { AreNamedSources checked.now.program }
-    ensures read { IfOk result (IsItemsRead checked.now.program (kinds_at checked.now.sigs.nodes) text.now) }
-    ensures items { (items : List Item) → AreItemsOf checked.now.program (kinds_at checked.now.sigs.nodes) items text.now → IfOk result (λ read. read ≡ ItemsRead.Items items) }
-    ensures fault { (line : ℕ) → IsItemFault checked.now.program (kinds_at checked.now.sigs.nodes) line text.now → IfOk result (λ read. read ≡ ItemsRead.Fault line) }
+    ensures read { IfOk result (IsItemsRead checked.now.program
+        (kinds_at checked.now.sigs.nodes) text.now) }
+    ensures items { (items : List Item) → AreItemsOf checked.now.program
+        (kinds_at checked.now.sigs.nodes) items text.now
+        → IfOk result (λ read. read ≡ ItemsRead.Items items) }
+    ensures fault { (line : ℕ) → IsItemFault checked.now.program
+        (kinds_at checked.now.sigs.nodes) line text.now
+        → IfOk result (λ read. read ≡ ItemsRead.Fault line) }
 {
     let mut items = List::new(alloc);
     let mut rest = text;
-    for line in 1..65 {
+    for line in 1..ITEM_LIMIT as u64 + 1 {
         if rest.is_empty() {
             return Ok(ItemsRead::Items(items));
         }
         match read_item(alloc, checked, rest)? {
             Some((item, length)) => {
-                if items.push(item).is_err() {
-                    return Err(Memory);
-                }
+                items.add(item)?;
                 rest = &rest[length..];
             }
             None => return Ok(ItemsRead::Fault(line)),
@@ -252,6 +272,6 @@ pub fn read_items(alloc: Global, checked: &Checked, text: &[u8]) -> Result<Items
     if rest.is_empty() {
         Ok(ItemsRead::Items(items))
     } else {
-        Ok(ItemsRead::Fault(65))
+        Ok(ItemsRead::Fault(ITEM_LIMIT as u64 + 1))
     }
 }

@@ -85,7 +85,8 @@ fn append_hold(
     key: Key,
     mode: Mode,
 ) -> Result<(), Memory>
-    ensures { OnOk result (out.new ≡ out.old ++ (word.now ++ printed_key program.now key ++ printed_mode mode)) }
+    ensures { OnOk result (out.new ≡ out.old ++ (word.now ++ printed_key program.now key
+        ++ printed_mode mode)) }
 {
     out.append(word)?;
     append_key(alloc, out, program, key)?;
@@ -182,7 +183,8 @@ fn append_listed(alloc: Global, out: &mut Bytes, values: &[Value]) -> Result<(),
 }
 
 fn append_next(alloc: Global, out: &mut Bytes, first: bool, value: &Value) -> Result<(), Memory>
-    ensures { OnOk result (out.new ≡ out.old ++ ((if first then [] else codes ", ") ++ printed_value value.now)) }
+    ensures { OnOk result (out.new ≡ out.old ++ ((if first then [] else codes ", ")
+        ++ printed_value value.now)) }
 {
     out.append(if first { b"" } else { b", " })?;
     append_value(alloc, out, value)
@@ -211,7 +213,8 @@ fn append_put(alloc: Global, out: &mut Bytes, put: &Put) -> Result<(), Memory>
 }
 
 fn append_change(out: &mut Bytes, word: &[u8], put: &Put) -> Result<(), Memory>
-    ensures { OnOk result (out.new ≡ out.old ++ (word.now ++ put.now.cell ++ codes " " ++ printed_text put.now.name)) }
+    ensures { OnOk result (out.new ≡ out.old ++ (word.now ++ put.now.cell ++ codes " "
+        ++ printed_text put.now.name)) }
 {
     append_pair(out, word, put.cell.as_bytes())?;
     out.append(b" ")?;

@@ -2,7 +2,7 @@
 
 ghost use Rattle.std.specs.Prelude.{◌≡◌, IfOk};
 ghost use Rattle.flux_driver.specs.declared.refusals.Refusal.TheVariants as refusals;
-ghost use Rattle.flux_driver.specs.Refusals.{status_of, line_of};
+ghost use Rattle.flux_driver.specs.steps.Refusals.{status_of, line_of};
 
 use crate::statuses::Status;
 use flux_values::{Bytes, Memory, append_number};

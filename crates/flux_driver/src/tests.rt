@@ -27,8 +27,18 @@ const WALKED: &str =
 const SOURCES: &str =
     "source Tick => Show; source Listen => Echo; source Tick_2 => Show;\nTick () => (int n); Tick_2 () => (int n); Listen () => (int l, text w);\nShow (int n) => (); Echo (int l, text w) => ();\n";
 
+/// A flow with a pattern list, which `check` takes and `run` doesn't yet.
+const PATTERNED: &str =
+    "Tick () => (int n);\nPass (int n) => (int n);\nsource Tick => A;\nA:[_] = Pass;\n";
+
+/// A handler, which `check` takes and `run` doesn't yet.
+const HANDLED: &str =
+    "Tick () => (int n);\nPass (int n) => (int n);\nsource Tick => Pass;\nhandle error Pass => Show;\nShow (int n) => ();\n";
+
 const FORMATTED: &str =
     "Read (int socket, char* line) => (int socket, bool close);\nPage = Read -> Write;\nPage_two:[_, hit] = ;\nsource Listen => Page;\ntypedef hit TestInCache;\nhandle error Read => FourOhFour;\natomic Write:{cache, users?(session)};\nsession Listen => ByConn;\n";
+
+const HELP: &str = "flux check FILE\nflux format FILE\nflux run FILE ITEMS\nflux help or --help\n";
 
 const USAGE: &str = "flux: bad command line, try flux --help\n";
 
@@ -87,20 +97,35 @@ fn check_of(program: &'static str, status: Status, out: &'static str, err: &'sta
     }
 }
 
+/// Words that name no file of the world.
+fn words_alone(
+    words: &'static [&'static str],
+    status: Status,
+    out: &'static str,
+    err: &'static str,
+) -> Case {
+    Case {
+        words,
+        program: "",
+        items: "",
+        status,
+        out,
+        err,
+    }
+}
+
 fn words_of(alloc: Global, words: &[&str]) -> Result<List<Bytes>, Memory> {
     let mut list = List::new(alloc);
     for word in words {
-        if list.push(Bytes::copy(alloc, word.as_bytes())?).is_err() {
-            return Err(Memory);
-        }
+        list.add(Bytes::copy(alloc, word.as_bytes())?)?;
     }
     Ok(list)
 }
 
 fn failing(alloc: Global, call: u64) -> Result<List<u64>, Memory> {
     let mut fails = List::new(alloc);
-    if call > 0 && fails.push(call).is_err() {
-        return Err(Memory);
+    if call > 0 {
+        fails.add(call)?;
     }
     Ok(fails)
 }
@@ -120,9 +145,8 @@ fn store_of(
         body: Bytes::copy(alloc, items)?,
     };
     let mut files = List::new(alloc);
-    if files.push(program).is_err() || files.push(items).is_err() {
-        return Err(Memory);
-    }
+    files.add(program)?;
+    files.add(items)?;
     Ok(MemoryStore::new(files, failing(alloc, fails)?))
 }
 
@@ -244,11 +268,27 @@ fn commands_answer_as_the_table_says(rt: HostRuntime) -> Result<(), Fail> {
             "",
             "4:13: fault 6 UnknownNode\n",
         ),
-        check_of(
-            "A = B;\ntypedef a B;",
+        check_of(PATTERNED, Status::Done, "ok\n", ""),
+        run_of(
+            PATTERNED,
+            "Tick (1)\n",
             Status::Static,
             "",
-            "2:9: fault 0 NotBuilt\n",
+            "4:1: fault 0 NotBuilt\n",
+        ),
+        check_of(HANDLED, Status::Done, "ok\n", ""),
+        run_of(
+            HANDLED,
+            "Tick (1)\n",
+            Status::Static,
+            "",
+            "4:14: fault 0 NotBuilt\n",
+        ),
+        check_of(
+            "A = Pass;\nPass (int a) => (int b);\ntypedef some Function;",
+            Status::Static,
+            "",
+            "3:14: fault 10 UnknownPredicate\n",
         ),
         check_of("A = B $ C;", Status::Static, "", "1:7: fault 2 BadByte\n"),
         run_of(
@@ -312,6 +352,11 @@ fn commands_answer_as_the_table_says(rt: HostRuntime) -> Result<(), Fail> {
             out: "",
             err: USAGE,
         },
+        words_alone(&["help"], Status::Done, HELP, ""),
+        words_alone(&["--help"], Status::Done, HELP, ""),
+        words_alone(&["help", "program"], Status::Usage, "", USAGE),
+        words_alone(&["--help", "--help"], Status::Usage, "", USAGE),
+        words_alone(&["-help"], Status::Usage, "", USAGE),
         Case {
             words: &[],
             program: ECHO,
@@ -701,5 +746,52 @@ fn a_chain_of_4096_nodes_is_run(rt: HostRuntime) -> Result<(), Fail> {
         .filter(|byte| **byte == b'\n')
         .count();
     assert_eq!(rt; lines, 3 * 4_094 + 1);
+    Ok(())
+}
+
+/// `n` and two letters.
+fn cycle_name(number: u8) -> [u8; 3] {
+    [b'n', b'a' + number / 16, b'a' + number % 16]
+}
+
+/// So many flows in a ring, and the line about their cycle.
+fn ring(alloc: Global, flows: u8) -> Result<(Bytes, Bytes), Memory>
+    requires { 0 < flows }
+{
+    let mut text = Bytes::new(alloc);
+    let mut line = Bytes::copy(alloc, b"1:1: fault 15 Cycle ")?;
+    for number in 0..flows {
+        text.append(&cycle_name(number))?;
+        text.append(b"=")?;
+        text.append(&cycle_name((number + 1) % flows))?;
+        text.append(b";")?;
+        line.append(&cycle_name(number))?;
+        line.append(b" -> ")?;
+    }
+    line.append(&cycle_name(0))?;
+    line.append(b"\n")?;
+    Ok((text, line))
+}
+
+#[test]
+fn a_cycle_of_100_nodes_is_told(rt: HostRuntime) -> Result<(), Fail> {
+    let alloc = rt.alloc();
+    let (text, line) = ring(alloc, 100)?;
+    let mut world = world_with(alloc, text.as_bytes(), b"")?;
+    let words = words_of(alloc, &["check", "program"])?;
+    assert_eq!(rt; top(alloc, words.as_slice(), &mut world), Status::Static);
+    assert_eq!(rt; world.err.written(), line.as_bytes());
+    Ok(())
+}
+
+#[test]
+fn a_chain_of_4097_nodes_is_too_many(rt: HostRuntime) -> Result<(), Fail> {
+    let alloc = rt.alloc();
+    let text = chain(alloc, 4_094)?;
+    let mut world = world_with(alloc, text.as_bytes(), b"")?;
+    let words = words_of(alloc, &["check", "program"])?;
+    assert_eq!(rt; top(alloc, words.as_slice(), &mut world), Status::Static);
+    let said = b": fault 14 TooMany\n".as_slice();
+    assert!(rt; world.err.written().ends_with(said));
     Ok(())
 }

@@ -1,25 +1,24 @@
 //! Writing all of some bytes to a sink.
 
-ghost use Rattle.std.specs.Prelude.{◌≡◌, ◌≤◌, OnOk, OnErr};
-ghost use Rattle.flux_driver.specs.Writing.{Gained, GainedPart};
-ghost use Rattle.flux_outside.specs.Causes.{Rose};
+ghost use Rattle.std.specs.Prelude.{◌≤◌, OnOk, OnErr};
+ghost use Rattle.flux_driver.specs.Worlds.{Wrote, Broke};
 
 use flux_outside::{Failed, Sink};
 
 /// Writes all of the bytes, in as many calls as the sink needs.
 pub fn write_all<O: Sink>(out: &mut O, bytes: &[u8]) -> Result<(), Failed>
     ensures later { O.faults out.old ≤ O.faults out.new }
-    ensures written { OnOk result (Gained (O.written out.old) (O.written out.new) bytes.now) }
-    ensures part { OnErr result (GainedPart (O.written out.old) (O.written out.new) bytes.now) }
-    ensures steady { OnOk result (O.faults out.new ≡ O.faults out.old) }
-    ensures cause { OnErr result (Rose (O.faults out.old) (O.faults out.new)) }
+    ensures wrote { OnOk result (Wrote
+        (record { written = O.written out.old; faults = O.faults out.old })
+        (record { written = O.written out.new; faults = O.faults out.new }) bytes.now) }
+    ensures broke { OnErr result (Broke
+        (record { written = O.written out.old; faults = O.faults out.old })
+        (record { written = O.written out.new; faults = O.faults out.new }) bytes.now) }
 {
     let mut rest = bytes;
     while !rest.is_empty() {
-        match out.write(rest) {
-            Ok(count) => rest = &rest[count..],
-            Err(failed) => return Err(failed),
-        }
+        let count = out.write(rest)?;
+        rest = &rest[count..];
     }
     Ok(())
 }

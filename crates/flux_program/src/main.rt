@@ -5,7 +5,8 @@ ghost use Rattle.std.specs.Prelude.{◌≡◌, ◌≢◌, [], drop, map, string_
 ghost use Rattle.std.specs.IoError.{error_kind};
 ghost use Rattle.std.specs.Process.{exit_status};
 ghost use Rattle.flux_driver.specs.Statuses.{code_of};
-ghost use Rattle.flux_driver.specs.Top.{Answers};
+ghost use Rattle.flux_driver.specs.BuiltIn.{built_in};
+ghost use Rattle.flux_driver.specs.Top.{HasDone};
 
 #[cfg(test)]
 mod tests;
@@ -68,9 +69,22 @@ fn answer<S: Store, O: Sink, E: Sink>(
     words: Result<List<Bytes>, Memory>,
     world: &mut World<S, O, E>,
 ) -> Status
-    ensures words { IfOk words (λ given. Answers given (S.files world.old.store) result
-        (O.written world.old.out) (O.written world.new.out) (O.faults world.old.out) (O.faults world.new.out)
-        (E.written world.old.err) (E.written world.new.err) (E.faults world.old.err) (E.faults world.new.err)) }
+    ensures words { IfOk words (λ given. HasDone built_in given
+        (record {
+            files = S.files world.old.store;
+            asked = S.asked world.old.store;
+            faults = S.faults world.old.store;
+            out = record { written = O.written world.old.out; faults = O.faults world.old.out };
+            err = record { written = E.written world.old.err; faults = E.faults world.old.err };
+        })
+        result
+        (record {
+            files = S.files world.new.store;
+            asked = S.asked world.new.store;
+            faults = S.faults world.new.store;
+            out = record { written = O.written world.new.out; faults = O.faults world.new.out };
+            err = record { written = E.written world.new.err; faults = E.faults world.new.err };
+        })) }
     ensures memory { IsErr words → result ≡ Status.Memory }
     ensures nothing { IsErr words → world.new ≡ world.old }
 {

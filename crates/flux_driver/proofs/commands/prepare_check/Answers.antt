@@ -1,16 +1,13 @@
 use Rattle.flux_driver.specs.Commands.{check}
-use Rattle.flux_driver.proofs.Prepared.{unread_program, check_refused, check_firm, memory_firm}
+use Rattle.flux_driver.specs.steps.Refusals.{IsRefused}
+use Rattle.flux_driver.proofs.Passed.{passed}
+use Rattle.flux_driver.proofs.Prepared.{check_refused}
 use Rattle.flux_driver.proofs.commands.prepare_check.Goals as goal
 
-pub returns-in-Err-clause-refused : goal.returns-in-Err-clause-refused
-returns-in-Err-clause-refused g c = unread_program (check c.args.file.now) (g.S.Store.files c.args.store.now) _ _ c.in-Err.refusal c.in-Err.ensures.unread
-
-pub returns-in-Ok-copy-clause-firm : goal.returns-in-Ok-copy-clause-firm
-returns-in-Ok-copy-clause-firm g c = check_firm c.args.file.now (g.S.Store.files c.args.store.now)
-
-pub returns-clause-firm : goal.returns-clause-firm
-returns-clause-firm g c = memory_firm (check c.args.file.now) (g.S.Store.files c.args.store.now)
-
-pub returns-in-Err-check_text-clause-refused : goal.returns-in-Err-check_text-clause-refused
-returns-in-Err-check_text-clause-refused g c =
-    check_refused (check c.args.file.now) (g.S.Store.files c.args.store.now) c.in-Ok.text c.in-Err-check_text.refusal c.in-Ok.ensures.found (λ fault is. is) (rw c.as_bytes.ensures at c.in-Err-check_text.ensures.refused)
+pub returns-in_err-check_text-clause-refused : goal.returns-in_err-check_text-clause-refused
+returns-in_err-check_text-clause-refused g c =
+    let meaning = g.L.Meaning.meaning c.args.library.now in
+    let told = g.S.Store.files c.args.store.now in
+    let refused = rw c.as_bytes.ensures at c.in_err-check_text.ensures.refused in
+    passed (IsRefused meaning (check c.args.file.now) told) c.in_err-check_text.field-0.0 c.from_residual-in_err-check_text.result c.from_residual-in_err-check_text.ensures.1
+    (check_refused meaning told c.args.file.now c.in_ok-text.text c.in_err-check_text.field-0.0 c.in_ok-text.ensures.found refused)

@@ -1,10 +1,13 @@
 use Rattle.flux_driver.specs.Commands.{format}
-use Rattle.flux_driver.proofs.Prepared.{unread_program, read_refused}
+use Rattle.flux_driver.specs.steps.Refusals.{IsRefused}
+use Rattle.flux_driver.proofs.Passed.{passed}
+use Rattle.flux_driver.proofs.Prepared.{format_refused}
 use Rattle.flux_driver.proofs.commands.prepare_format.Goals as goal
 
-pub returns-in-Err-clause-refused : goal.returns-in-Err-clause-refused
-returns-in-Err-clause-refused g c = unread_program (format c.args.file.now) (g.S.Store.files c.args.store.now) _ _ c.in-Err.refusal c.in-Err.ensures.unread
-
-pub returns-in-Err-read_text-clause-refused : goal.returns-in-Err-read_text-clause-refused
-returns-in-Err-read_text-clause-refused g c =
-    read_refused c.args.file.now (g.S.Store.files c.args.store.now) c.in-Ok.text c.in-Err-read_text.refusal c.in-Ok.ensures.found (rw c.as_bytes.ensures at c.in-Err-read_text.ensures.refused)
+pub returns-in_err-decls-clause-refused : goal.returns-in_err-decls-clause-refused
+returns-in_err-decls-clause-refused g c =
+    let meaning = g.L.Meaning.meaning c.args.library.now in
+    let told = g.S.Store.files c.args.store.now in
+    let refused = rw c.as_bytes.ensures at c.in_err-decls.ensures.refused in
+    passed (IsRefused meaning (format c.args.file.now) told) c.in_err-decls.field-0.0 c.from_residual-in_err-decls.result c.from_residual-in_err-decls.ensures.1
+    (format_refused meaning told c.args.file.now c.in_ok-text.text c.in_err-decls.field-0.0 c.in_ok-text.ensures.found refused)

@@ -1,5 +1,5 @@
 use Rattle.std.proofs.Common.{◌<◌, ℕ}
-use Rattle.flux_driver.specs.Items.{IsNamed}
+use Rattle.flux_driver.specs.steps.ItemLines.{IsNamed}
 use Rattle.flux_driver.proofs.items.find_source.Given as goal
 
 -- no source so far has the name

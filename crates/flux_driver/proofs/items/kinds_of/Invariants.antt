@@ -1,9 +1,6 @@
-use Rattle.std.proofs.Common.{◌≡◌, ◌++◌, length}
-use Rattle.flux_model.specs.Soundness.{kinds_of}
+use Rattle.std.proofs.Common.{◌≡◌, take}
+use Rattle.flux_model.specs.Kinds.{kinds_of}
 use Rattle.flux_driver.proofs.items.kinds_of.Given as goal
 
-abbrev pub invariant-loop-rest : goal.invariant-loop-rest
-invariant-loop-rest l = kinds_of l.fn.types ≡ l.kinds ++ kinds_of l.rest
-
-abbrev pub decreases-loop-rest : goal.decreases-loop-rest
-decreases-loop-rest l = length l.rest
+abbrev pub invariant-loop-ty : goal.invariant-loop-ty
+invariant-loop-ty l = l.kinds ≡ kinds_of (take l.ty-index l.types)

@@ -1,6 +1,6 @@
 use Rattle.std.proofs.Common.{subst, sym}
-use Rattle.flux_model.specs.Soundness.{kinds_at}
-use Rattle.flux_driver.specs.Items.{IsNamed}
+use Rattle.flux_model.specs.Kinds.{kinds_at}
+use Rattle.flux_driver.specs.steps.ItemLines.{IsNamed}
 use Rattle.flux_driver.proofs.Sourced.{item_named, item_is, item_read}
 use Rattle.flux_driver.proofs.items.read_item.Goals as goal
 

@@ -1,9 +1,8 @@
-use Rattle.std.proofs.Common.{◌≡◌, ℕ, ◌<◌, false, eqb, sym, ap, arith}
+use Rattle.std.proofs.Common.{◌≡◌, ℕ, ◌<◌, false, eqb, ap, arith}
 use Rattle.std.proofs.lemmas.Bool.Decides.{nat_tests}
 use Rattle.std.proofs.lemmas.List.{take_rest}
-use Rattle.flux_model.specs.Soundness.{kinds_at}
+use Rattle.flux_model.specs.Kinds.{kinds_at}
 use Rattle.flux_driver.specs.declared.items.ItemsRead.TheVariants.{Fault}
-use Rattle.flux_driver.proofs.ValueLists.{pushed}
 use Rattle.flux_driver.proofs.ItemLines.{no_items, line_taken, item_front, only_item, stop_items, stop_fault, limit_items, limit_fault}
 use Rattle.flux_driver.proofs.items.read_items.Goals as goal
 
@@ -30,8 +29,7 @@ loop-line-preserved c =
     let read = rw c.in-Some.is at c.in_ok-item.ensures in
     let p = c.args.checked.now.program in
     let kinds = kinds_at c.args.checked.now.sigs.nodes in
-    let added = pushed c.push.result (sym c.if-is_err.ensures.value) c.push.ensures.added in
-    rw (added, take_rest) (line_taken p kinds c.args.text.now c.loop-line.items c.loop-line.rest.now _ c.loop-line.line c.in-Some.item c.loop-line.invariant read.found.item
+    rw (c.in_ok-add-in-Some.ensures.added, take_rest) (line_taken p kinds c.args.text.now c.loop-line.items c.loop-line.rest.now _ c.loop-line.line c.in-Some.item c.loop-line.invariant read.found.item
     (item_front p kinds c.loop-line.rest.now c.in-Some.item c.in-Some.length read.found)
     (λ w t is e. only_item c.in-Some.item w c.in-Some.length _ (read.only w t is e)))
 

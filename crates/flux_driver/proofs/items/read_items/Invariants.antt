@@ -1,4 +1,4 @@
-use Rattle.flux_model.specs.Soundness.{kinds_at}
+use Rattle.flux_model.specs.Kinds.{kinds_at}
 use Rattle.flux_driver.proofs.ItemLines.{ItemsSoFar}
 use Rattle.flux_driver.proofs.items.read_items.Given as goal
 

@@ -3,7 +3,7 @@ use Rattle.std.proofs.lemmas.List.{take_more}
 use Rattle.std.proofs.lemmas.Bool.{ne_eqb}
 use Rattle.flux_values.specs.declared.values.Value.{Value}
 use Rattle.flux_values.specs.Texts.{printed_value}
-use Rattle.flux_driver.specs.Items.{separator}
+use Rattle.flux_driver.specs.steps.ItemLines.{separator}
 use Rattle.flux_driver.proofs.ValueLists.{listed, listed_push}
 use Rattle.flux_driver.proofs.printing.append_listed.Goals as goal
 

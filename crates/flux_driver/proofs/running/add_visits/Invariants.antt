@@ -1,5 +1,5 @@
 use Rattle.std.proofs.Common.{◌≡◌, ◌≤◌, ◌++◌, drop, length}
-use Rattle.flux_driver.specs.Runs.{visits_back}
+use Rattle.flux_driver.specs.steps.Tasks.{visits_back}
 use Rattle.flux_driver.proofs.running.add_visits.Given as goal
 
 abbrev pub invariant-loop-place : goal.invariant-loop-place

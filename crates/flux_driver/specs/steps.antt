@@ -1,0 +1,7 @@
+pub mod ItemLines
+pub mod Running
+pub mod Flows
+pub mod Tasks
+pub mod Refusals
+pub mod Preparing
+pub mod Telling

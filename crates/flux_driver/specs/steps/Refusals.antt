@@ -1,0 +1,95 @@
+-- Steps of a command: what it refuses, and with which line.
+use Rattle.std.specs.Prelude.{◌≡◌, ℕ, ◌⊎◌, List, [], ⊤, Result, Ok, Err}
+use Rattle.flux_values.specs.Meanings.{LibraryMeaning}
+use Rattle.flux_outside.specs.Causes.{Rose}
+use Rattle.flux_faults.specs.declared.faults.StaticFault.{StaticFault}
+use Rattle.flux_syntax.specs.Unexpected.{IsFaulty}
+use Rattle.flux_check.specs.Judgement.{IsTextFault}
+use Rattle.flux_driver.specs.declared.statuses.Status.{Status}
+use Rattle.flux_driver.specs.declared.statuses.Status.TheVariants as statuses
+use Rattle.flux_driver.specs.declared.refusals.Refusal.{Refusal}
+use Rattle.flux_driver.specs.declared.refusals.Refusal.TheVariants.{Usage, Static, Items, Read, Missing, Memory}
+use Rattle.flux_driver.specs.Worlds.{Files, IsLost}
+use Rattle.flux_driver.specs.Commands.{Command}
+use Rattle.flux_driver.specs.Causes.{usage_line, fault_text, item_fault_line, read_line, lost_line, IsUnbuilt}
+use Rattle.flux_driver.specs.Answers.{Decided, Happened}
+
+-- the status of a refusal
+abbrev pub status_of : Refusal → Status
+status_of Usage = statuses.Usage
+status_of (Static line) = statuses.Static
+status_of (Items place) = statuses.Items
+status_of Read = statuses.Read
+status_of (Missing name) = statuses.Missing
+status_of Memory = statuses.Memory
+
+-- its line
+abbrev pub line_of : Refusal → List ℕ
+line_of Usage = usage_line
+line_of (Static line) = line
+line_of (Items place) = item_fault_line place
+line_of Read = read_line
+line_of (Missing name) = lost_line name.now
+line_of Memory = []
+
+-- ---- files
+
+-- a file was not read: it isn't there or too long, the store failed, or there was no memory
+abbrev pub IsUnread : Files → List ℕ → ℕ → Refusal → Type 0
+IsUnread told name max (Missing lost) = (lost.now ≡ name) × IsLost told name max
+IsUnread told name max Read = ⊤
+IsUnread told name max Memory = ⊤
+IsUnread told name max Usage = ⊥
+IsUnread told name max (Static line) = ⊥
+IsUnread told name max (Items place) = ⊥
+
+-- the count of the files rose where reading failed, and stands as before in every other answer
+abbrev pub CountsRefusal : Refusal → ℕ → ℕ → Type 0
+CountsRefusal Read before after = Rose before after
+CountsRefusal Usage before after = after ≡ before
+CountsRefusal (Static line) before after = after ≡ before
+CountsRefusal (Items place) before after = after ≡ before
+CountsRefusal (Missing name) before after = after ≡ before
+CountsRefusal Memory before after = after ≡ before
+
+abbrev pub Counts : Result (List ℕ) Refusal → ℕ → ℕ → Type 0
+Counts (Ok text) before after = after ≡ before
+Counts (Err refusal) before after = CountsRefusal refusal before after
+
+-- ---- texts
+
+-- a refusal with a line about a text, or there was no memory
+abbrev pub SaysOrMemory : (List ℕ → Type 0) → Refusal → Type 0
+SaysOrMemory Says (Static line) = Says line
+SaysOrMemory Says Memory = ⊤
+SaysOrMemory Says Usage = ⊥
+SaysOrMemory Says (Items place) = ⊥
+SaysOrMemory Says Read = ⊥
+SaysOrMemory Says (Missing name) = ⊥
+
+-- the line of a fault of a text
+pub record IsFaultLine (Stands : StaticFault → Type 0) (text line : List ℕ) : Type 0 where
+  pub fault : StaticFault
+  pub stands : Stands fault
+  pub said : line ≡ fault_text text fault
+
+-- a text was refused: it has one of the faults 1 to 4
+abbrev pub IsTextRefused : List ℕ → Refusal → Type 0
+IsTextRefused text =
+    SaysOrMemory (IsFaultLine (λ fault. IsFaulty fault.kind fault.at text × (fault.path ≡ [])) text)
+
+-- it has any fault
+abbrev pub IsCheckRefused : LibraryMeaning → List ℕ → Refusal → Type 0
+IsCheckRefused meaning text = SaysOrMemory (IsFaultLine (IsTextFault meaning text) text)
+
+-- it has a form that isn't run yet
+abbrev pub IsRunRefused : List ℕ → Refusal → Type 0
+IsRunRefused text = SaysOrMemory (IsFaultLine (IsUnbuilt text) text)
+
+-- ---- commands
+
+-- a command was refused: that is decided, or reading failed, or there was no memory
+abbrev pub IsRefused : LibraryMeaning → Command → Files → Refusal → Type 0
+IsRefused meaning command told refusal =
+    Decided meaning command told (status_of refusal) [] (line_of refusal)
+    ⊎ (Happened meaning command told (status_of refusal) [] (line_of refusal) ⊎ (refusal ≡ Memory))

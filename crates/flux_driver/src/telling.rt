@@ -1,0 +1,59 @@
+//! What is written at the end: the printed text, or the line about a refusal.
+
+ghost use Rattle.std.specs.Prelude.{◌≤◌};
+ghost use Rattle.flux_driver.specs.Worlds.{WroteOrBroke};
+ghost use Rattle.flux_driver.specs.steps.Telling.{IsTold, IsPut};
+
+use crate::refusals::Refusal;
+use crate::statuses::Status;
+use crate::writing::write_all;
+use flux_outside::Sink;
+use std::alloc::Global;
+
+/// Writes a line. A fault of the sink changes nothing else.
+fn say<E: Sink>(err: &mut E, line: &[u8])
+    ensures later { E.faults err.old ≤ E.faults err.new }
+    ensures said { WroteOrBroke (record { written = E.written err.old; faults = E.faults err.old })
+        (record { written = E.written err.new; faults = E.faults err.new }) line.now }
+{
+    let _ = write_all(err, line);
+}
+
+/// Writes the line about a refusal. That reading failed is told without taking memory, so that want of
+/// memory never stands for it.
+pub fn refuse<E: Sink>(alloc: Global, err: &mut E, refusal: Refusal) -> Status
+    ensures later { E.faults err.old ≤ E.faults err.new }
+    ensures told { IsTold refusal.entry result
+        (record { written = E.written err.old; faults = E.faults err.old })
+        (record { written = E.written err.new; faults = E.faults err.new }) }
+{
+    if let Refusal::Read = refusal {
+        say(err, b"flux: read failed\n");
+        return Status::Read;
+    }
+    match refusal.line(alloc) {
+        Ok(line) => {
+            say(err, line.as_bytes());
+            refusal.status()
+        }
+        Err(_) => Status::Memory,
+    }
+}
+
+/// Writes what is to be printed; where that failed, the line about it.
+pub fn print<O: Sink, E: Sink>(out: &mut O, err: &mut E, text: &[u8]) -> Status
+    ensures later { (O.faults out.old ≤ O.faults out.new) × (E.faults err.old ≤ E.faults err.new) }
+    ensures put { IsPut text.now result
+        (record { written = O.written out.old; faults = O.faults out.old })
+        (record { written = O.written out.new; faults = O.faults out.new })
+        (record { written = E.written err.old; faults = E.faults err.old })
+        (record { written = E.written err.new; faults = E.faults err.new }) }
+{
+    match write_all(out, text) {
+        Ok(()) => Status::Done,
+        Err(_) => {
+            say(err, b"flux: write failed\n");
+            Status::Write
+        }
+    }
+}

@@ -1,0 +1,92 @@
+//! Programs' texts, and the lines about their faults.
+
+ghost use Rattle.std.specs.Prelude.{◌≡◌, ◌≤◌, ◌<◌, List, IfOk, IfErr, OnOk, None, length};
+ghost use Rattle.flux_faults.specs.declared.places.TheConstants.{PLACE_LIMIT};
+ghost use Rattle.flux_syntax.specs.declared.declarations.Decl.{Decl};
+ghost use Rattle.flux_syntax.specs.Declares.{Declares};
+ghost use Rattle.flux_names.specs.Building.{first_patterned};
+ghost use Rattle.flux_check.specs.Judgement.{IsChecked};
+ghost use Rattle.flux_driver.specs.Causes.{fault_text};
+ghost use Rattle.flux_driver.specs.steps.Refusals.{SaysOrMemory, IsTextRefused, IsCheckRefused, IsRunRefused};
+
+use crate::refusals::Refusal;
+use flux_check::check;
+use flux_faults::{CheckFault, FaultKind, StaticFault, fault_line};
+use flux_hoist::Checked;
+use flux_library::Library;
+use flux_names::first_patterned;
+use flux_syntax::{Decl, read};
+use flux_values::{Bytes, List, Memory};
+use std::alloc::Global;
+
+fn static_line(alloc: Global, text: &[u8], fault: &StaticFault) -> Result<Bytes, Memory>
+    requires inside { fault.now.at ≤ length text.now }
+    requires room { fault.now.at < PLACE_LIMIT }
+    ensures { IfOk result (λ line. line ≡ fault_text text.now fault.now) }
+{
+    let mut line = fault_line(alloc, text, fault)?;
+    line.append(b"\n")?;
+    Ok(line)
+}
+
+/// The refusal of a text for a fault.
+fn refuse_text<'a>(alloc: Global, text: &[u8], fault: &StaticFault) -> Refusal<'a>
+    requires inside { fault.now.at ≤ length text.now }
+    requires room { fault.now.at < PLACE_LIMIT }
+    ensures { SaysOrMemory (λ line. line ≡ fault_text text.now fault.now) result }
+{
+    match static_line(alloc, text, fault) {
+        Ok(line) => Refusal::Static(line),
+        Err(_) => Refusal::Memory,
+    }
+}
+
+/// The declarations of a text.
+pub fn read_text<'a>(alloc: Global, text: &[u8]) -> Result<List<Decl>, Refusal<'a>>
+    ensures declared { IfOk result (λ decls. Declares decls text.now) }
+    ensures refused { IfErr result (IsTextRefused text.now) }
+{
+    match read(alloc, text) {
+        Ok(decls) => Ok(decls),
+        Err(CheckFault::Static(fault)) => Err(refuse_text(alloc, text, &fault)),
+        Err(CheckFault::Memory) => Err(Refusal::Memory),
+    }
+}
+
+/// The checked program of a text.
+pub fn check_text<'a, L: Library>(
+    alloc: Global,
+    library: &L,
+    text: &[u8],
+) -> Result<Checked, Refusal<'a>>
+    ensures checked { IfOk result (λ checked. IsChecked (L.meaning library.now) text.now
+        checked.program checked.sigs.nodes checked.order.nodes checked.sizes) }
+    ensures refused { IfErr result (IsCheckRefused (L.meaning library.now) text.now) }
+{
+    match check(alloc, text, library) {
+        Ok(checked) => Ok(checked),
+        Err(CheckFault::Static(fault)) => Err(refuse_text(alloc, text, &fault)),
+        Err(CheckFault::Memory) => Err(Refusal::Memory),
+    }
+}
+
+/// Refuses a text with a flow with patterns or a `handle` line: these aren't run yet.
+pub fn expect_built<'a>(alloc: Global, text: &[u8]) -> Result<(), Refusal<'a>>
+    requires { (decls : List Decl) × Declares decls text.now }
+    ensures built { OnOk result ((decls : List Decl) → Declares decls text.now
+        → first_patterned decls ≡ None) }
+    ensures refused { IfErr result (IsRunRefused text.now) }
+{
+    let decls = read_text(alloc, text)?;
+    match first_patterned(&decls) {
+        None => Ok(()),
+        Some(at) => {
+            let fault = StaticFault {
+                kind: FaultKind::NotBuilt,
+                at,
+                path: List::new(alloc),
+            };
+            Err(refuse_text(alloc, text, &fault))
+        }
+    }
+}
