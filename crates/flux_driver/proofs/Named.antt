@@ -189,7 +189,7 @@ texts_new before (Session source function ∷ decls) e =
 
 texts_clean : (text : List ℕ) (decls : List Decl) → AllStandIn text decls → AllByRecursion (λ name. AllByRecursion (λ b. (b == 32) ≡ false) name) (texts_of sourced decls)
 texts_clean text [] all = tt
-texts_clean text (Source name target ∷ decls) all = let own = all.0.0 in (name_clean name.text own.name, texts_clean text decls all.1)
+texts_clean text (Source name target ∷ decls) all = let own = all.0.0.0 in (name_clean name.text own.name, texts_clean text decls all.1)
 texts_clean text (Signature name ins outs ∷ decls) all = texts_clean text decls all.1
 texts_clean text (Flow name patterns members ∷ decls) all = texts_clean text decls all.1
 texts_clean text (Typedef name function ∷ decls) all = texts_clean text decls all.1

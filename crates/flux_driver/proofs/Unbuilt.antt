@@ -17,8 +17,8 @@ use Rattle.flux_driver.specs.steps.Refusals.{SaysOrMemory, IsTextRefused, IsRunR
 
 placed : (text : List ℕ) (decls : List Decl) (at : ℕ) → AllStandIn text decls → first_patterned decls ≡ Some at → at ≤ length text
 placed text [] at all e = absurd cc
-placed text (Flow name (Some patterns) members ∷ decls) at all e = let own = all.0.0 in let same : name.at ≡ at = cc in omega (arith, own.within, same)
-placed text (Handler node codes handler ∷ decls) at all e = let own = all.0.0 in let same : node.at ≡ at = cc in omega (arith, own.within, same)
+placed text (Flow name (Some patterns) members ∷ decls) at all e = let own = all.0.0.0 in let same : name.at ≡ at = cc in omega (arith, own.within, same)
+placed text (Handler node codes handler ∷ decls) at all e = let own = all.0.0.0 in let same : node.at ≡ at = cc in omega (arith, own.within, same)
 placed text (Flow name None members ∷ decls) at all e = placed text decls at all.1 e
 placed text (Signature name ins outs ∷ decls) at all e = placed text decls at all.1 e
 placed text (Source name target ∷ decls) at all e = placed text decls at all.1 e
