@@ -71,19 +71,19 @@ fn answer<S: Store, O: Sink, E: Sink>(
 ) -> Status
     ensures words { IfOk words (λ given. HasDone built_in given
         (record {
-            files = S.files world.old.store;
-            asked = S.asked world.old.store;
-            faults = S.faults world.old.store;
-            out = record { written = O.written world.old.out; faults = O.faults world.old.out };
-            err = record { written = E.written world.old.err; faults = E.faults world.old.err };
+          files = S.files world.old.store;
+          asked = S.asked world.old.store;
+          faults = S.faults world.old.store;
+          out = record { written = O.written world.old.out; faults = O.faults world.old.out };
+          err = record { written = E.written world.old.err; faults = E.faults world.old.err };
         })
         result
         (record {
-            files = S.files world.new.store;
-            asked = S.asked world.new.store;
-            faults = S.faults world.new.store;
-            out = record { written = O.written world.new.out; faults = O.faults world.new.out };
-            err = record { written = E.written world.new.err; faults = E.faults world.new.err };
+          files = S.files world.new.store;
+          asked = S.asked world.new.store;
+          faults = S.faults world.new.store;
+          out = record { written = O.written world.new.out; faults = O.faults world.new.out };
+          err = record { written = E.written world.new.err; faults = E.faults world.new.err };
         })) }
     ensures memory { IsErr words → result ≡ Status.Memory }
     ensures nothing { IsErr words → world.new ≡ world.old }
