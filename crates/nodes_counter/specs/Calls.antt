@@ -7,7 +7,6 @@ use Rattle.flux_values.specs.Cells.{CellMap}
 use Rattle.flux_values.specs.declared.values.Value.{Value}
 use Rattle.flux_values.specs.declared.values.Value.TheVariants.{Int, Bool, Text}
 use Rattle.flux_values.specs.declared.answers.Answer.{Answer}
-use Rattle.flux_values.specs.declared.answers.Put.{Put}
 use Rattle.flux_values.specs.declared.answers.CallResult.TheVariants.{Good, Bad}
 use Rattle.nodes_counter.specs.declared.nodes.Node.{Node}
 use Rattle.nodes_counter.specs.declared.nodes.Node.TheVariants as nodes

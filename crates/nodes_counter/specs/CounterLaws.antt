@@ -1,26 +1,23 @@
 -- The library keeps the laws of a library (an `impl` takes its laws' proofs from here).
-use Rattle.std.proofs.Common.{◌≡◌, ◌≤◌, ◌<◌, ℕ, ℤ, ◌+ℤ◌, pos, negsuc, suc, nat_abs, Bool, true, false, List, [], ◌∷◌, ◌++◌, length, map, codes, take, drop, Option, Some, None, All, IfSome, refl, sym, subst, arith, length-append, ◌&&◌, int_le, rules}
+use Rattle.std.proofs.Common.{◌≡◌, ◌≤◌, ℕ, ℤ, ◌+ℤ◌, pos, negsuc, suc, nat_abs, Bool, true, false, List, [], ◌∷◌, ◌++◌, length, codes, take, drop, Option, Some, None, IfSome, refl, sym, subst, arith, length-append, ◌&&◌, int_le, rules}
 use Rattle.std.specs.List.{AllByRecursion}
 use Rattle.std.specs.Str.{bytes_eq}
 use Rattle.std.specs.Fmt.{signed_decimal}
 use Rattle.std.specs.FinMap.{get}
 use Rattle.std.proofs.lemmas.Fmt.{length-decimal-le}
 use Rattle.std.proofs.lemmas.Bool.Decides.{nat_tests}
-use Rattle.std.proofs.lemmas.Int.{ints}
 use Rattle.std.proofs.lemmas.Slice.Eq.{bytes_eq-Decides}
-use Rattle.flux_values.specs.declared.values.Kind.TheVariants as kinds
 use Rattle.flux_values.specs.declared.values.Value.{Value}
 use Rattle.flux_values.specs.declared.values.Value.TheVariants as values
 use Rattle.flux_values.specs.declared.answers.Mode.TheVariants.{Writer}
-use Rattle.flux_values.specs.Values.{kind_of}
 use Rattle.flux_values.specs.Reading.{IsValue}
 use Rattle.flux_values.specs.Cells.{CellMap}
-use Rattle.flux_library.specs.Libraries.{IsLawfulNode, IsLawfulSig, IsAnswerOf, IsLawful}
+use Rattle.flux_library.specs.Libraries.{IsLawfulNode, IsAnswerOf, IsLawful}
 use Rattle.nodes_counter.specs.declared.nodes.Node.{Node}
 use Rattle.nodes_counter.specs.declared.nodes.Node.TheVariants as nodes
 use Rattle.nodes_counter.specs.Numbers.{fits, int_spelled}
 use Rattle.nodes_counter.specs.Nodes.{node_named, sig_of, sig_named}
-use Rattle.nodes_counter.specs.Calls.{number_or_zero, number_under, the_number, the_text, the_amount, fail_call, added, add_command, command_call, add_call, bump_call, puts, answer_of, answer_named}
+use Rattle.nodes_counter.specs.Calls.{number_or_zero, number_under, the_number, the_text, the_amount, fail_call, added, add_command, command_call, add_call, bump_call, answer_named}
 use Rattle.nodes_counter.specs.Counters.{kind_spelled, counter_meaning}
 use Rattle.nodes_counter.specs.SpellingLaws.{fits_sound, int_sound}
 
