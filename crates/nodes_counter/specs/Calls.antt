@@ -70,6 +70,10 @@ fail_call number =
     if int_le (pos 1) number && int_le number (pos 255) then fails (nat_abs number)
     else ok (Int number ∷ [])
 
+-- `Show` emits the printed number and LF
+abbrev pub show_call : ℤ → Answer
+show_call number = emits (printed_value (Int number) ++ codes "\n")
+
 -- the number in `Command`'s text `add`, one space and a spelling up to the end
 abbrev pub added : List ℕ → Option ℤ
 added text = if bytes_eq (take 4 text) (codes "add ") then int_spelled (drop 4 text) else None
@@ -100,7 +104,7 @@ answer_of nodes.Tick args cells = ok []
 answer_of nodes.Listen args cells = ok []
 answer_of nodes.Pass args cells = ok args
 answer_of nodes.Fail args cells = fail_call (the_number args)
-answer_of nodes.Show args cells = emits (printed_value (Int (the_number args)) ++ codes "\n")
+answer_of nodes.Show args cells = show_call (the_number args)
 answer_of nodes.Echo args cells = emits (the_text args)
 answer_of nodes.Refuse args cells = emits (codes "error\n")
 answer_of nodes.Command args cells = command_call (the_text args)

@@ -1,9 +1,8 @@
 //! What the nodes answer.
 
-ghost use Rattle.std.specs.Prelude.{◌≡◌, ◌≤◌, [], ◌∷◌, ◌++◌, IfOk, pos, ◌+ℤ◌, length, codes, option_copied};
+ghost use Rattle.std.specs.Prelude.{◌≡◌, ◌≤◌, [], ◌∷◌, IfOk, pos, ◌+ℤ◌, length, option_copied};
 ghost use Rattle.flux_values.specs.declared.values.Value.TheVariants.{Int, Text};
 ghost use Rattle.flux_values.specs.declared.texts.TheConstants.{TEXT_LIMIT};
-ghost use Rattle.flux_values.specs.Texts.{printed_value};
 ghost use Rattle.nodes_counter.specs.Calls as calls;
 
 use crate::commands::amount;
@@ -156,7 +155,7 @@ fn fail(alloc: Global, argument: i64) -> Result<Answer, Memory>
 }
 
 fn show(alloc: Global, number: i64) -> Result<Answer, Memory>
-    ensures { IfOk result (λ answer. answer ≡ calls.emits (printed_value (Int number) ++ codes "\n")) }
+    ensures { IfOk result (λ answer. answer ≡ calls.show_call number) }
 {
     let mut line = Bytes::new(alloc);
     append_value(alloc, &mut line, &Value::Int(number))?;
