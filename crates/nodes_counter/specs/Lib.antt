@@ -1,0 +1,6 @@
+pub mod Numbers
+pub mod Nodes
+pub mod Calls
+pub mod Counters
+pub mod SpellingLaws
+pub mod CounterLaws

@@ -1,0 +1,15 @@
+//! The library `Counter`: the basic nodes and those that count in cells.
+//!
+//! Its meaning has one definition for each node, predicate and session function, in words of its
+//! own, and each call gives what they say. It keeps the laws of libraries.
+#![tactic(auto)]
+
+mod calls;
+mod commands;
+mod counter;
+mod nodes;
+#[cfg(test)]
+mod tests;
+
+pub use commands::spelled_int;
+pub use counter::Counter;
