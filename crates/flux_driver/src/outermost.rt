@@ -6,9 +6,10 @@ ghost use Rattle.flux_driver.specs.Top.{HasDone};
 use crate::commands::prepare;
 use crate::statuses::Status;
 use crate::telling::{print, refuse};
-use flux_library::{Basic, Library};
+use flux_library::Library;
 use flux_outside::{Sink, Store};
 use flux_values::Bytes;
+use nodes_counter::Counter;
 use std::alloc::Global;
 
 /// The outside world: the files that are named, the stream that is printed on, and the stream for lines
@@ -78,5 +79,5 @@ pub fn top<S: Store, O: Sink, E: Sink>(
           err = record { written = E.written world.new.err; faults = E.faults world.new.err };
         }) }
 {
-    carry_out(alloc, &Basic, words, world)
+    carry_out(alloc, &Counter, words, world)
 }
