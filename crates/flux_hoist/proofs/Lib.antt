@@ -1,0 +1,4 @@
+pub mod Joins
+pub mod Reached
+pub mod Hoisted
+pub mod Hoists
