@@ -2,3 +2,4 @@ pub mod Joins
 pub mod Reached
 pub mod Hoisted
 pub mod Hoists
+pub mod Orders

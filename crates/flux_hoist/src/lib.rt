@@ -8,6 +8,8 @@
 
 mod checked;
 mod hoisting;
+#[cfg(test)]
+mod tests;
 
 pub use checked::{Checked, SIZE_LIMIT};
 pub use hoisting::{Sets, hoist};
