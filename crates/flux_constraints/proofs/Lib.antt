@@ -1,0 +1,4 @@
+pub mod Rises
+pub mod Joins
+pub mod Uppers
+pub mod Searches

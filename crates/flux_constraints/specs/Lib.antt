@@ -1,0 +1,2 @@
+pub mod ClassSets
+pub mod steps
