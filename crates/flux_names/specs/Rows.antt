@@ -33,8 +33,8 @@ abbrev pub sessioned : Decl → Option Word
 sessioned (Session source function) = Some source
 sessioned other = None
 
--- where no source may stand: the target of a source line, the members of a flow, both names of a `handle` line,
--- and the node of an `atomic` line
+-- where no source may stand: the target of a source line, the members of a flow, both names of a
+-- `handle` line, and the node of an `atomic` line
 abbrev pub inner_names : Decl → List Word
 inner_names (Source name target) = target ∷ []
 inner_names (Flow name patterns members) = members
@@ -60,9 +60,9 @@ word_if wanted word = if wanted then word ∷ [] else []
 abbrev pub listed_if : Bool → Option Word → List Word
 listed_if wanted word = if wanted then listed word else []
 
--- ---- 5: a signature or flow has the name of an earlier signature or flow, unless both are flows with pattern lists;
--- or there is a second `typedef` of a name, `source` of a node, `handle` without codes of a node, or `session` of a
--- source
+-- ---- 5: a signature or flow has the name of an earlier signature or flow, unless both are flows
+-- with pattern lists; or there is a second `typedef` of a name, `source` of a node, `handle` without
+-- codes of a node, or `session` of a source
 
 abbrev pub is_patterned : Decl → Bool
 is_patterned (Flow name (Some patterns) members) = true
@@ -72,7 +72,7 @@ abbrev pub have_one_name : Option Word → Option Word → Bool
 have_one_name (Some name) (Some other) = bytes_eq name.text other.text
 have_one_name name other = false
 
--- a line has the name that an earlier line of its sort has, and they aren't both flows with pattern lists
+-- a line has the name of an earlier one of its sort, and they aren't both flows with pattern lists
 abbrev pub repeats : (Decl → Option Word) → Decl → Decl → Bool
 repeats sort decl earlier =
     have_one_name (sort decl) (sort earlier) && not (is_patterned decl && is_patterned earlier)
@@ -91,8 +91,8 @@ abbrev pub twice_named : List Decl → List Word
 twice_named decls =
     flat_map (repeated decls) (naming ∷ defined ∷ sourced ∷ handled ∷ sessioned ∷ [])
 
--- ---- 6: a name in a `source` line, a flow's members, a `handle` or an `atomic` line, or the source of a `session`
--- line has neither signature nor flow
+-- ---- 6: a name in a `source` line, a flow's members, a `handle` or an `atomic` line, or the source
+-- of a `session` line has neither signature nor flow
 
 abbrev pub unknown_nodes : List Decl → List Word
 unknown_nodes decls = flat_map (λ decl. not_among (names_of decls) (used_names decl)) decls
@@ -174,7 +174,8 @@ unknown_predicates_in meaning types decl =
     unknown_function meaning decl ++ not_among types (pattern_words decl)
 
 abbrev pub unknown_predicates : LibraryMeaning → List Decl → List Word
-unknown_predicates meaning decls = flat_map (unknown_predicates_in meaning (texts_of defined decls)) decls
+unknown_predicates meaning decls =
+    flat_map (unknown_predicates_in meaning (texts_of defined decls)) decls
 
 -- ---- 11: a session function isn't in the library
 
@@ -186,8 +187,8 @@ unknown_session meaning other = []
 abbrev pub unknown_sessions : LibraryMeaning → List Decl → List Word
 unknown_sessions meaning decls = flat_map (unknown_session meaning) decls
 
--- ---- 12: the node of `source` isn't a concrete node with a source role, or `session` names a node without a
--- `source` line
+-- ---- 12: the node of `source` isn't a concrete node with a source role, or `session` names a node
+-- without a `source` line
 
 abbrev pub is_source_role : Role → Bool
 is_source_role roles.Plain = false
@@ -217,10 +218,12 @@ abbrev pub not_sources : LibraryMeaning → List Decl → List Word
 not_sources meaning decls =
     flat_map (not_sources_in (source_nodes meaning decls) (texts_of sourced decls)) decls
 
--- ---- 13: a concrete node with a source role is a member, a target, a name in `handle`, or has `atomic`
+-- ---- 13: a concrete node with a source role is a member, a target, a name in `handle`, or has
+-- `atomic`
 
 abbrev pub misused_sources : LibraryMeaning → List Decl → List Word
-misused_sources meaning decls = flat_map (λ decl. among (source_nodes meaning decls) (inner_names decl)) decls
+misused_sources meaning decls =
+    flat_map (λ decl. among (source_nodes meaning decls) (inner_names decl)) decls
 
 -- ---- 14: there are more than 4,096 nodes or 256 classes
 
@@ -238,8 +241,8 @@ class_words decls = class_words_after [] (flat_map constraints_of decls)
 abbrev pub too_many : List Decl → List Word
 too_many decls = drop NODE_LIMIT (first_words decls) ++ drop CLASS_LIMIT (class_words decls)
 
--- ---- 28: a number in a `handle` line isn't 1 to 256 in decimal without leading zeros, or stood before it in a `handle`
--- line of the same node
+-- ---- 28: a number in a `handle` line isn't 1 to 256 in decimal without leading zeros, or stood
+-- before it in a `handle` line of the same node
 
 abbrev pub begins_with_zero : List ℕ → Bool
 begins_with_zero [] = false
@@ -270,7 +273,8 @@ is_same_code code other = false
 
 abbrev pub is_taken_by : CodeOn → CodeOn → Bool
 is_taken_by code before =
-    bytes_eq code.node.text before.node.text && is_same_code (code_of code.number.text) (code_of before.number.text)
+    bytes_eq code.node.text before.node.text
+    && is_same_code (code_of code.number.text) (code_of before.number.text)
 
 abbrev pub is_bad_code : List CodeOn → CodeOn → Bool
 is_bad_code before code = is_none (code_of code.number.text) || list_any (is_taken_by code) before

@@ -24,7 +24,8 @@ fn unbuilt(decl: &Decl) -> Option<&Word>
     }
 }
 
-/// The place of the first name of the first `typedef`, `handle`, `atomic` or `session` line or flow with patterns.
+/// The place of the first name of the first `typedef`, `handle`, `atomic` or `session` line, or flow
+/// with patterns.
 pub fn first_unbuilt(decls: &List<Decl>) -> Option<u32>
     ensures { result ≡ first_unbuilt decls.now }
 {
@@ -50,7 +51,8 @@ fn constrained<'a, L: Library>(
     decl: &'a Decl,
     library: &L,
 ) -> Result<Option<&'a Word>, Memory>
-    ensures { IfOk result (λ name. option_copied name ≡ constrained (L.meaning library.now) decl.now) }
+    ensures { IfOk result (λ name.
+        option_copied name ≡ constrained (L.meaning library.now) decl.now) }
 {
     match decl {
         Decl::Atomic { node, .. } => Ok(Some(node)),
@@ -62,7 +64,8 @@ fn constrained<'a, L: Library>(
     }
 }
 
-/// The place of the first name of the first `atomic` line or signature whose library node uses a cell.
+/// The place of the first name of the first `atomic` line, or signature whose library node uses a
+/// cell.
 pub fn first_constrained<L: Library>(
     alloc: Global,
     decls: &List<Decl>,

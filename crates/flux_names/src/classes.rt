@@ -49,7 +49,8 @@ impl<'a> Classes<'a> {
 
     /// Adds the class of a constraint at its place, and says whether it is new.
     pub fn add(&mut self, constraint: &'a Constraint) -> Result<bool, Memory>
-        ensures new { IfOk result (λ new. new ≡ not (has_class self.old (class_of constraint.now))) }
+        ensures new { IfOk result (λ new.
+            new ≡ not (has_class self.old (class_of constraint.now))) }
         ensures added { OnOk result (self.new ≡ insert_class (class_of constraint.now) self.old) }
     {
         let key = (constraint.name.text.as_bytes(), constraint.session);
@@ -80,8 +81,12 @@ pub struct ClassTable<'a> {
 
 impl<'a> ClassTable<'a> {
     fn add(&mut self, constraint: &'a Constraint) -> Result<(), Memory>
-        ensures classes { OnOk result (self.new.classes ≡ insert_class (class_of constraint.now) self.old.classes) }
-        ensures words { OnOk result (self.new.words ≡ self.old.words ++ word_if (not (has_class self.old.classes (class_of constraint.now))) constraint.now.name) }
+        ensures classes { OnOk result
+            (self.new.classes ≡ insert_class (class_of constraint.now) self.old.classes) }
+        ensures words { OnOk result
+            (self.new.words ≡
+            self.old.words ++ word_if (not (has_class self.old.classes
+            (class_of constraint.now))) constraint.now.name) }
     {
         if self.classes.add(constraint)? {
             self.words.add(&constraint.name)?;
@@ -90,8 +95,10 @@ impl<'a> ClassTable<'a> {
     }
 
     fn add_all(&mut self, constraints: &'a [Constraint]) -> Result<(), Memory>
-        ensures classes { OnOk result (self.new.classes ≡ classes_after self.old.classes constraints.now) }
-        ensures words { OnOk result (self.new.words ≡ self.old.words ++ words_by self.old.classes constraints.now) }
+        ensures classes { OnOk result
+            (self.new.classes ≡ classes_after self.old.classes constraints.now) }
+        ensures words { OnOk result
+            (self.new.words ≡ self.old.words ++ words_by self.old.classes constraints.now) }
     {
         for constraint in constraints {
             self.add(constraint)?;
@@ -100,8 +107,11 @@ impl<'a> ClassTable<'a> {
     }
 
     fn add_line(&mut self, decl: &'a Decl) -> Result<(), Memory>
-        ensures classes { OnOk result (self.new.classes ≡ classes_after self.old.classes (constraints_of decl.now)) }
-        ensures words { OnOk result (self.new.words ≡ self.old.words ++ words_by self.old.classes (constraints_of decl.now)) }
+        ensures classes { OnOk result
+            (self.new.classes ≡ classes_after self.old.classes (constraints_of decl.now)) }
+        ensures words { OnOk result
+            (self.new.words ≡
+            self.old.words ++ words_by self.old.classes (constraints_of decl.now)) }
     {
         match decl {
             Decl::Atomic { constraints, .. } => self.add_all(constraints.as_slice()),

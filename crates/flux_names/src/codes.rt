@@ -82,10 +82,14 @@ impl<'a> Codes<'a> {
         }
     }
 
-    /// Sees a number of a node. It counts for the place, where it is no code, or the node has it already.
+    /// Sees a number of a node. It counts for the place where it is no code, or one that the node has.
     fn see(&mut self, node: &'a Word, number: &Word, place: Place) -> Result<Place, Memory>
-        ensures place { IfOk result (λ p. p ≡ soonest place (word_if (is_bad_by self.old (record { node = node.now; number = number.now })) number.now)) }
-        ensures codes { OnOk result (self.new ≡ and_code self.old (record { node = node.now; number = number.now })) }
+        ensures place { IfOk result (λ p.
+            p ≡
+            soonest place (word_if (is_bad_by self.old
+            (record { node = node.now; number = number.now })) number.now)) }
+        ensures codes { OnOk result
+            (self.new ≡ and_code self.old (record { node = node.now; number = number.now })) }
     {
         match code_of(number.text.as_bytes()) {
             Some(code) => {
@@ -97,8 +101,10 @@ impl<'a> Codes<'a> {
     }
 
     fn see_all(&mut self, node: &'a Word, numbers: &[Word], place: Place) -> Result<Place, Memory>
-        ensures place { IfOk result (λ p. p ≡ soonest place (bad_codes_by self.old (codes_on node.now numbers.now))) }
-        ensures codes { OnOk result (self.new ≡ and_codes self.old (codes_on node.now numbers.now)) }
+        ensures place { IfOk result (λ p.
+            p ≡ soonest place (bad_codes_by self.old (codes_on node.now numbers.now))) }
+        ensures codes { OnOk result
+            (self.new ≡ and_codes self.old (codes_on node.now numbers.now)) }
     {
         let mut place = place;
         for number in numbers {
@@ -108,7 +114,8 @@ impl<'a> Codes<'a> {
     }
 
     fn see_line(&mut self, decl: &'a Decl, place: Place) -> Result<Place, Memory>
-        ensures place { IfOk result (λ p. p ≡ soonest place (bad_codes_by self.old (codes_in decl.now))) }
+        ensures place { IfOk result (λ p.
+            p ≡ soonest place (bad_codes_by self.old (codes_in decl.now))) }
         ensures codes { OnOk result (self.new ≡ and_codes self.old (codes_in decl.now)) }
     {
         match decl {

@@ -1,7 +1,7 @@
 //! From declarations to a numbered program.
 //!
-//! `resolve` takes any list of declarations. It gives their program, made of all lines of each node, with the places of
-//! its names in the text, or the least fault of names.
+//! `resolve` takes any list of declarations. It gives their program, each node made from all its lines,
+//! with the places of its names in the text; or the least fault of names.
 #![tactic(auto)]
 
 mod building;

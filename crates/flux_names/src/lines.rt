@@ -11,8 +11,8 @@ use flux_values::Memory;
 use std::alloc::Global;
 use std::marker::Model;
 
-/// The node of which a line says what it is: the name of a signature or a flow, the node of a `handle` or `atomic`
-/// line, the source of a `session` line.
+/// The node that a line is about: the name of a signature or a flow, the node of a `handle` or
+/// `atomic` line, the source of a `session` line.
 fn subject(decl: &Decl) -> Option<&Word>
     ensures { option_copied result ≡ subject decl.now }
 {
@@ -53,7 +53,9 @@ impl<'a> Lines<'a> {
 
     /// Adds a line to those of a number, if there is such a number.
     fn add(&mut self, number: usize, line: &'a Decl) -> Result<(), Memory>
-        ensures { OnOk result (self.new ≡ slice_set self.old number (slice_index_or self.old number [] ++ line.now ∷ [])) }
+        ensures { OnOk result
+            (self.new ≡
+            slice_set self.old number (slice_index_or self.old number [] ++ line.now ∷ [])) }
     {
         if number < self.lists.len() {
             self.lists[number].push(line)?;
@@ -63,7 +65,8 @@ impl<'a> Lines<'a> {
 
     /// Adds a line to those of its node.
     fn add_line(&mut self, names: &Names, line: &'a Decl) -> Result<(), Memory>
-        ensures { OnOk result (self.new ≡ with_line names.now line.now (subject line.now) self.old) }
+        ensures { OnOk result
+            (self.new ≡ with_line names.now line.now (subject line.now) self.old) }
     {
         match subject(line) {
             Some(word) => self.add(names.place(word.text.as_bytes()), line),

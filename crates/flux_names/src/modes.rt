@@ -67,7 +67,8 @@ fn join_all(classes: &[Class], constraints: &[Constraint], modes: &mut Vec<Optio
 fn join_line(classes: &[Class], line: &Decl, modes: &mut Vec<Option<Mode>>)
     requires order { IsStrictlySortedBy class_cmp classes.now }
     requires each { length modes.old.items ≡ length classes.now }
-    ensures { modes.new.items ≡ with_constraints (constraints_of line.now) classes.now modes.old.items }
+    ensures { modes.new.items ≡
+        with_constraints (constraints_of line.now) classes.now modes.old.items }
 {
     match line {
         Decl::Atomic { constraints, .. } => join_all(classes, constraints.as_slice(), modes),
@@ -105,7 +106,10 @@ fn holds_of(alloc: Global, modes: &[Option<Mode>]) -> Result<List<Hold>, Memory>
 pub fn declared(alloc: Global, classes: &[Class], lines: &[&Decl]) -> Result<List<Hold>, Memory>
     requires order { IsStrictlySortedBy class_cmp classes.now }
     requires few { length classes.now < 4294967296 }
-    ensures { IfOk result (λ holds. holds ≡ holds_of (with_constraints (flat_map constraints_of (lines_now lines.now)) classes.now (no_modes classes.now))) }
+    ensures { IfOk result (λ holds.
+        holds ≡
+        holds_of (with_constraints (flat_map constraints_of (lines_now lines.now)) classes.now
+        (no_modes classes.now))) }
 {
     let mut modes = without_modes(alloc, classes.len())?;
     for line in lines {

@@ -18,8 +18,11 @@ pub struct NodeTable<'a> {
 
 impl<'a> NodeTable<'a> {
     fn add(&mut self, word: Option<&'a Word>) -> Result<(), Memory>
-        ensures names { OnOk result (self.new.names ≡ and_name self.old.names (option_copied word.entry)) }
-        ensures words { OnOk result (self.new.words ≡ self.old.words ++ unless_known self.old.names (option_copied word.entry)) }
+        ensures names { OnOk result
+            (self.new.names ≡ and_name self.old.names (option_copied word.entry)) }
+        ensures words { OnOk result
+            (self.new.words ≡
+            self.old.words ++ unless_known self.old.names (option_copied word.entry)) }
     {
         let Some(word) = word else {
             return Ok(());

@@ -84,7 +84,8 @@ fn add_case(
 ) -> Result<(), Memory>
     requires names { length tables.now.names.now ≤ COUNT_LIMIT }
     requires types { length tables.now.types.now ≤ COUNT_LIMIT }
-    ensures { OnOk result (cases.new ≡ cases.old ++ cases_in tables.now.names.now tables.now.types.now line.now) }
+    ensures { OnOk result
+        (cases.new ≡ cases.old ++ cases_in tables.now.names.now tables.now.types.now line.now) }
 {
     match line {
         Decl::Flow {
@@ -122,7 +123,9 @@ fn are_signed(lines: &[&Decl]) -> bool
 fn body(alloc: Global, tables: &Tables, name: &Word, lines: &[&Decl]) -> Result<Body, Memory>
     requires names { length tables.now.names.now ≤ COUNT_LIMIT }
     requires types { length tables.now.types.now ≤ COUNT_LIMIT }
-    ensures { IfOk result (λ body. body ≡ body_in tables.now.names.now tables.now.types.now name.now.text (lines_now lines.now)) }
+    ensures { IfOk result (λ body.
+        body ≡
+        body_in tables.now.names.now tables.now.types.now name.now.text (lines_now lines.now)) }
 {
     if are_signed(lines) {
         let library = library_name(name.text.as_bytes());
@@ -183,7 +186,10 @@ pub fn node_of(alloc: Global, tables: &Tables, name: &Word, lines: &[&Decl]) -> 
     requires types { length tables.now.types.now ≤ COUNT_LIMIT }
     requires order { IsStrictlySortedBy class_cmp tables.now.classes.now }
     requires few { length tables.now.classes.now ≤ COUNT_LIMIT }
-    ensures { IfOk result (λ node. node ≡ node_in tables.now.names.now tables.now.types.now tables.now.classes.now name.now.text (lines_now lines.now)) }
+    ensures { IfOk result (λ node.
+        node ≡
+        node_in tables.now.names.now tables.now.types.now tables.now.classes.now name.now.text
+        (lines_now lines.now)) }
 {
     Ok(Node {
         name: name.text.again(alloc)?,

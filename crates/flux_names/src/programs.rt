@@ -40,7 +40,8 @@ impl<'a> Symbols<'a> {
         ensures names { IfOk result (λ symbols. symbols.nodes.names ≡ names_of decls.now) }
         ensures words { IfOk result (λ symbols. symbols.nodes.words ≡ first_words decls.now) }
         ensures classes { IfOk result (λ symbols. symbols.classes.classes ≡ classes_of decls.now) }
-        ensures class_words { IfOk result (λ symbols. symbols.classes.words ≡ class_words decls.now) }
+        ensures class_words { IfOk result (λ symbols.
+            symbols.classes.words ≡ class_words decls.now) }
         ensures types { IfOk result (λ symbols. symbols.types ≡ names_by defined decls.now) }
         ensures sources { IfOk result (λ symbols. symbols.sources ≡ names_by sourced decls.now) }
     {
@@ -65,7 +66,10 @@ fn nodes_of(
     requires order { IsStrictlySortedBy class_cmp tables.now.classes.now }
     requires few { length tables.now.classes.now ≤ COUNT_LIMIT }
     requires each { length words.now ≡ length lines.now }
-    ensures { IfOk result (λ nodes. nodes ≡ nodes_from tables.now.names.now tables.now.types.now tables.now.classes.now lines.now 0 (words_now words.now)) }
+    ensures { IfOk result (λ nodes.
+        nodes ≡
+        nodes_from tables.now.names.now tables.now.types.now tables.now.classes.now lines.now 0
+        (words_now words.now)) }
 {
     let mut nodes = List::new(alloc);
     for word in words {
@@ -109,7 +113,8 @@ fn sources_of(
     requires few { length names.now ≤ COUNT_LIMIT }
     requires each { length lines.now ≡ length names.now }
     requires known { unknown_in names.now decls.now ≡ [] }
-    ensures { IfOk result (λ sources. sources ≡ flat_map (sources_in names.now lines.now) decls.now) }
+    ensures { IfOk result (λ sources.
+        sources ≡ flat_map (sources_in names.now lines.now) decls.now) }
 {
     let mut sources = List::new(alloc);
     for decl in decls {
@@ -196,7 +201,8 @@ fn places_by(alloc: Global, sort: Sort, decls: &[Decl]) -> Result<List<u32>, Mem
 }
 
 fn add_handlers(lines: &[&Decl], handlers: &mut List<u32>) -> Result<(), Memory>
-    ensures { OnOk result (handlers.new ≡ handlers.old ++ flat_map handler_sites_in (lines_now lines.now)) }
+    ensures { OnOk result
+        (handlers.new ≡ handlers.old ++ flat_map handler_sites_in (lines_now lines.now)) }
 {
     for line in lines {
         if let Decl::Handler { handler, .. } = *line {

@@ -34,9 +34,12 @@ struct Seen<'a> {
 impl<'a> Seen<'a> {
     /// Sees a line. Its name counts for the place, where it repeats one before.
     fn see(&mut self, sort: Sort, decl: &'a Decl, place: Place) -> Result<Place, Memory>
-        ensures place { IfOk result (λ p. p ≡ soonest place (repeated_in (word_of sort) self.old.names self.old.plain decl.now)) }
-        ensures names { OnOk result (self.new.names ≡ and_name self.old.names (word_of sort decl.now)) }
-        ensures plain { OnOk result (self.new.plain ≡ and_plain self.old.plain (word_of sort) decl.now) }
+        ensures place { IfOk result (λ p.
+            p ≡ soonest place (repeated_in (word_of sort) self.old.names self.old.plain decl.now)) }
+        ensures names { OnOk result
+            (self.new.names ≡ and_name self.old.names (word_of sort decl.now)) }
+        ensures plain { OnOk result
+            (self.new.plain ≡ and_plain self.old.plain (word_of sort) decl.now) }
     {
         let Some(word) = sort.word(decl) else {
             return Ok(place);

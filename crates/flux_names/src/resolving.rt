@@ -37,7 +37,8 @@ fn first_standing(rows: &[(FaultKind, Place)]) -> Option<(FaultKind, u32)>
 
 /// The least place of a node or class beyond the limits.
 fn too_many(symbols: &Symbols) -> Place
-    ensures { result ≡ soonest None (too_many_of symbols.now.nodes.words symbols.now.classes.words) }
+    ensures { result ≡
+        soonest None (too_many_of symbols.now.nodes.words symbols.now.classes.words) }
 {
     let place = with_words_behind(None, symbols.nodes.words.as_slice(), NODE_LIMIT);
     with_words_behind(place, symbols.classes.words.as_slice(), CLASS_LIMIT)
@@ -89,8 +90,8 @@ fn find_fault<L: Library>(
     ]))
 }
 
-/// The program of declarations with the places of its names, or the least of the faults 5 to 14; where none of these
-/// stands, fault 28. The place of a fault is that of a word of the declarations, and it has no path.
+/// The program of declarations with the places of its names, or the least of the faults 5 to 14, or 28
+/// where none of these stands. A fault's place is that of a word of the declarations; it has no path.
 pub fn resolve<L: Library>(
     alloc: Global,
     decls: &List<Decl>,
@@ -98,7 +99,8 @@ pub fn resolve<L: Library>(
 ) -> Result<Named, CheckFault>
     requires { words_of decls.now ≤ COUNT_LIMIT }
     ensures named { IfOk result (IsResolved (L.meaning library.now) decls.now) }
-    ensures fault { IfErr result (IsLeastFault (first_fault (rows (L.meaning library.now) decls.now))) }
+    ensures fault { IfErr result (IsLeastFault
+        (first_fault (rows (L.meaning library.now) decls.now))) }
 {
     let decls = decls.as_slice();
     let symbols = Symbols::of(alloc, decls)?;

@@ -38,7 +38,7 @@ pub enum Row {
     UnknownPredicate,
     /// A session function isn't in the library.
     UnknownSession,
-    /// The node of a `source` line isn't a source, or that of a `session` line has no `source` line.
+    /// The node of a `source` line isn't a source, or a `session` line's has no `source` line.
     NotASource,
     /// A source stands where another node is wanted.
     SourceMisused,
@@ -66,7 +66,8 @@ fn with_row<L: Library>(
     decl: &Decl,
     place: Place,
 ) -> Result<Place, Memory>
-    ensures { IfOk result (λ p. p ≡ soonest place (row_words (L.meaning library.now) known.now.nodes.now known.now.types.now known.now.sources.now known.now.lines.now row decl.now)) }
+    ensures { IfOk result (λ p.
+        p ≡ soonest place (row_words (L.meaning library.now) known.now row decl.now)) }
 {
     match row {
         Row::UnknownNode => Ok(with_uses(place, known.nodes, decl)),
@@ -88,7 +89,8 @@ pub fn least<L: Library>(
     row: Row,
     decls: &[Decl],
 ) -> Result<Place, Memory>
-    ensures { IfOk result (λ p. p ≡ soonest None (flat_map (row_words (L.meaning library.now) known.now.nodes.now known.now.types.now known.now.sources.now known.now.lines.now row) decls.now)) }
+    ensures { IfOk result (λ p.
+        p ≡ soonest None (flat_map (row_words (L.meaning library.now) known.now row) decls.now)) }
 {
     let mut place = None;
     for decl in decls {

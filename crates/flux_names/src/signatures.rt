@@ -57,7 +57,8 @@ fn with_type<L: Library>(
     param: &Param,
     place: Place,
 ) -> Result<Place, Memory>
-    ensures { IfOk result (λ p. p ≡ soonest place (unknown_type (L.meaning library.now) param.now)) }
+    ensures { IfOk result (λ p.
+        p ≡ soonest place (unknown_type (L.meaning library.now) param.now)) }
 {
     let kind = kind_of(alloc, library, param)?;
     Ok(with_word(place, kind.is_none(), &param.ty))
@@ -69,7 +70,8 @@ fn with_params<L: Library>(
     params: &[Param],
     place: Place,
 ) -> Result<Place, Memory>
-    ensures { IfOk result (λ p. p ≡ soonest place (flat_map (unknown_type (L.meaning library.now)) params.now)) }
+    ensures { IfOk result (λ p.
+        p ≡ soonest place (flat_map (unknown_type (L.meaning library.now)) params.now)) }
 {
     let mut place = place;
     for param in params {
@@ -85,7 +87,8 @@ pub fn with_types<L: Library>(
     decl: &Decl,
     place: Place,
 ) -> Result<Place, Memory>
-    ensures { IfOk result (λ p. p ≡ soonest place (unknown_types_in (L.meaning library.now) decl.now)) }
+    ensures { IfOk result (λ p.
+        p ≡ soonest place (unknown_types_in (L.meaning library.now) decl.now)) }
 {
     match decl {
         Decl::Signature { ins, outs, .. } => {
@@ -169,7 +172,8 @@ fn are_like<L: Library>(
     ins: &[Param],
     outs: &[Param],
 ) -> Result<bool, Memory>
-    ensures { IfOk result (λ like. like ≡ are_like (L.meaning library.now) node.now ins.now outs.now) }
+    ensures { IfOk result (λ like.
+        like ≡ are_like (L.meaning library.now) node.now ins.now outs.now) }
 {
     match node {
         Some(node) => {
@@ -224,7 +228,8 @@ fn with_patterns(place: Place, types: &Names, decl: &Decl) -> Place
 
 /// A predicate's function isn't in the library, or a pattern names none.
 pub fn with_predicates<L: Library>(library: &L, types: &Names, decl: &Decl, place: Place) -> Place
-    ensures { result ≡ soonest place (unknown_predicates_in (L.meaning library.now) types.now decl.now) }
+    ensures { result ≡
+        soonest place (unknown_predicates_in (L.meaning library.now) types.now decl.now) }
 {
     let place = match decl {
         Decl::Typedef { function, .. } => {
@@ -243,7 +248,8 @@ pub fn with_session<L: Library>(
     decl: &Decl,
     place: Place,
 ) -> Result<Place, Memory>
-    ensures { IfOk result (λ p. p ≡ soonest place (unknown_session (L.meaning library.now) decl.now)) }
+    ensures { IfOk result (λ p.
+        p ≡ soonest place (unknown_session (L.meaning library.now) decl.now)) }
 {
     match decl {
         Decl::Session { function, .. } => {
@@ -273,7 +279,8 @@ fn source_node<'a, L: Library>(
     library: &L,
     decl: &'a Decl,
 ) -> Result<Option<&'a Word>, Memory>
-    ensures { IfOk result (λ name. option_copied name ≡ source_node (L.meaning library.now) decl.now) }
+    ensures { IfOk result (λ name.
+        option_copied name ≡ source_node (L.meaning library.now) decl.now) }
 {
     match decl {
         Decl::Signature { name, .. } => {
@@ -290,7 +297,8 @@ pub fn source_nodes<'a, L: Library>(
     library: &L,
     decls: &'a [Decl],
 ) -> Result<Names<'a>, Memory>
-    ensures { IfOk result (λ names. names ≡ names_by (source_node (L.meaning library.now)) decls.now) }
+    ensures { IfOk result (λ names.
+        names ≡ names_by (source_node (L.meaning library.now)) decls.now) }
 {
     let mut names = Names::new(alloc);
     for decl in decls {

@@ -35,7 +35,8 @@ pub fn with_uses(place: Place, names: &Names, decl: &Decl) -> Place
     with_inner(place, names, false, decl)
 }
 
-/// With the node of a `source` line that isn't a source, or that of a `session` line without a `source` line.
+/// With the node of a `source` line that isn't a source, or that of a `session` line without a
+/// `source` line.
 pub fn with_not_sources(place: Place, sources: &Names, lines: &Names, decl: &Decl) -> Place
     ensures { result ≡ soonest place (not_sources_in sources.now lines.now decl.now) }
 {

@@ -34,9 +34,11 @@ words_by classes (constraint ∷ constraints) =
 -- what a search finds: the place of the class that a constraint is on, or that there is none
 abbrev pub IsPlaceOf : List Class → Constraint → Result ℕ ℕ → Type 0
 IsPlaceOf classes constraint (Ok place) = (place < length classes)
-    × ((class : Class) → class_cmp (slice_index_or classes place class) (class_of constraint) ≡ Equal)
+    × ((class : Class)
+    → class_cmp (slice_index_or classes place class) (class_of constraint) ≡ Equal)
 IsPlaceOf classes constraint (Err place) =
-    (number : ℕ) (class : Class) → slice_get classes number ≡ Some class → is_on class constraint ≡ false
+    (number : ℕ) (class : Class) → slice_get classes number ≡ Some class
+    → is_on class constraint ≡ false
 
 -- a mode with one more: the writer wins
 abbrev pub with_mode : Option Mode → Mode → Option Mode

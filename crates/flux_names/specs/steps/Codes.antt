@@ -24,7 +24,8 @@ is_bad_by taken code = is_bad taken code.node.text (code_of code.number.text)
 
 abbrev pub with_code : Taken → List ℕ → Option ℕ → Taken
 with_code taken node None = taken
-with_code taken node (Some code) = if has_code taken node code then taken else taken ++ (node, code) ∷ []
+with_code taken node (Some code) =
+    if has_code taken node code then taken else taken ++ (node, code) ∷ []
 
 abbrev pub and_code : Taken → CodeOn → Taken
 and_code taken code = with_code taken code.node.text (code_of code.number.text)

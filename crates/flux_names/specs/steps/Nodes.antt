@@ -24,7 +24,7 @@ lines_now lines = map (λ line. line.now) lines
 
 -- ---- lines of a node
 
--- the node of which a line says what it is
+-- the node that a line is about, if it is about one
 abbrev pub subject : Decl → Option Word
 subject (Signature name ins outs) = Some name
 subject (Flow name patterns members) = Some name
@@ -47,7 +47,8 @@ lines_of decls name = filter (is_line_of name) decls
 abbrev pub with_line : List (List ℕ) → Decl → Option Word → List (List Decl) → List (List Decl)
 with_line names line None lines = lines
 with_line names line (Some word) lines =
-    let number = place_of names word in slice_set lines number (slice_index_or lines number [] ++ line ∷ [])
+    let number = place_of names word in
+    slice_set lines number (slice_index_or lines number [] ++ line ∷ [])
 
 -- ---- what each line gives
 
@@ -62,7 +63,10 @@ cases_in names types other = []
 
 abbrev pub arms_in : List (List ℕ) → Decl → List HandleArm
 arms_in names (Handler node codes handler) =
-    record { codes = filter_map (λ code. code_of code.text) codes; node = number_of names handler } ∷ []
+    record {
+      codes = filter_map (λ code. code_of code.text) codes;
+      node = number_of names handler;
+    } ∷ []
 arms_in names other = []
 
 abbrev pub session_in : List Decl → Option (List ℕ)
@@ -114,12 +118,15 @@ predicates_in other = []
 -- ---- all nodes
 
 -- the nodes of words, with the lines of the numbers from one on
-abbrev pub nodes_from : List (List ℕ) → List (List ℕ) → List Class → List (List Decl) → ℕ → List Word → List Node
+abbrev pub nodes_from : List (List ℕ) → List (List ℕ) → List Class → List (List Decl) → ℕ
+    → List Word → List Node
 nodes_from names types classes lines number [] = []
 nodes_from names types classes lines number (word ∷ words) =
     node_in names types classes word.text (slice_index_or lines number [])
     ∷ nodes_from names types classes lines (number + 1) words
 
--- the handlers' places in the lines of so many numbers from one on
+-- the handlers' places in the lines of the first so many numbers
 abbrev pub handler_sites_from : List (List Decl) → ℕ → List ℕ
-handler_sites_from lines count = flat_map (λ number. flat_map handler_sites_in (slice_index_or lines number [])) (range_with_len 0 count)
+handler_sites_from lines count =
+    flat_map (λ number. flat_map handler_sites_in (slice_index_or lines number []))
+    (range_with_len 0 count)

@@ -9,7 +9,8 @@ abbrev pub is_known : List (List ℕ) → Option Word → Bool
 is_known names None = false
 is_known names (Some word) = known names word.text
 
--- the name of a line, where it stood before: among those of plain lines, if this is a flow with a pattern list
+-- the name of a line, where it stood before: among those of plain lines, if this is a flow with a
+-- pattern list
 abbrev pub repeated_in : (Decl → Option Word) → List (List ℕ) → List (List ℕ) → Decl → List Word
 repeated_in sort names plain decl =
     listed_if (is_known (if is_patterned decl then plain else names) (sort decl)) (sort decl)
@@ -17,7 +18,8 @@ repeated_in sort names plain decl =
 abbrev pub and_plain : List (List ℕ) → (Decl → Option Word) → Decl → List (List ℕ)
 and_plain plain sort decl = if is_patterned decl then plain else and_name plain (sort decl)
 
-abbrev pub repeated_by : (Decl → Option Word) → List (List ℕ) → List (List ℕ) → List Decl → List Word
+abbrev pub repeated_by : (Decl → Option Word) → List (List ℕ) → List (List ℕ) → List Decl
+    → List Word
 repeated_by sort names plain [] = []
 repeated_by sort names plain (decl ∷ decls) =
     repeated_in sort names plain decl

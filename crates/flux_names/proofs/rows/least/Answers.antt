@@ -9,8 +9,7 @@ use Rattle.flux_names.proofs.rows.least.Goals as goal
 
 pub loop-decl-preserved : goal.loop-decl-preserved
 loop-decl-preserved g c =
-    let known = c.args.known.now in
-    let words = row_words (g.L.Meaning.meaning c.args.library.now) known.nodes.now known.types.now known.sources.now known.lines.now c.args.row in
+    let words = row_words (g.L.Meaning.meaning c.args.library.now) c.args.known.now c.args.row in
     let decls = c.args.decls.now in
     let i = c.loop-decl.decl-index in
     c.loop-decl.invariant

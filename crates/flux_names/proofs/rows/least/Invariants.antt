@@ -6,5 +6,5 @@ use Rattle.flux_names.proofs.rows.least.Given as goal
 
 abbrev pub invariant-loop-decl : goal.invariant-loop-decl
 invariant-loop-decl g l =
-    soonest None (flat_map (row_words (g.L.Meaning.meaning l.library) l.known.nodes.now l.known.types.now l.known.sources.now l.known.lines.now l.row) l.fn.decls)
-    ≡ soonest l.place (flat_map (row_words (g.L.Meaning.meaning l.library) l.known.nodes.now l.known.types.now l.known.sources.now l.known.lines.now l.row) (drop l.decl-index l.decls))
+    soonest None (flat_map (row_words (g.L.Meaning.meaning l.library) l.known l.row) l.fn.decls)
+    ≡ soonest l.place (flat_map (row_words (g.L.Meaning.meaning l.library) l.known l.row) (drop l.decl-index l.decls))
