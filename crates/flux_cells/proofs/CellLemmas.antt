@@ -1,11 +1,14 @@
 -- The empty cell is the one without names.
-use Rattle.std.proofs.Common.{◌≡◌, [], ◌∷◌, length, map, slice_get, Option, Some, None, refl, sym, ap, subst, ◌∙◌, arith, Bool, true, false, not, is_some, option_copied, unwrap_or, Bor, IsSome}
+use Rattle.std.proofs.Common.{◌≡◌, ℕ, List, [], ◌∷◌, length, map, slice_get, Option, Some, None, refl, sym, ap, subst, ◌∙◌, arith, Bool, true, false, not, is_some, option_copied, unwrap_or, Bor, IsSome}
 use Rattle.std.proofs.lemmas.Bool.{false≢true}
 use Rattle.std.specs.Ordering.{nat_cmp}
 use Rattle.std.specs.Cmp.Lexicographic.{slice_cmp}
 use Rattle.std.specs.FinMap as fin
 use Rattle.flux_values.specs.declared.values.Value.{Value}
-use Rattle.flux_values.specs.Cells.{CellMap, no_cell, Entries}
+use Rattle.flux_values.specs.Cells.{CellMap, no_cell}
+
+abbrev Entries : Type 0
+Entries = List (List ℕ × Value)
 
 pub none_some : {X P : Type 0} (x : X) → None ≡ Some x → P
 none_some {X} {P} x e = absurd (subst (λ (o : Option X). elim o as (λ _. Type 0) [ None ↦ Unit {0} | Some y ↦ ⊥ ]) e tt)

@@ -70,7 +70,7 @@ impl Cells {
     {
         let mut cells = BTreeMap::new(self.alloc);
         for (key, cell) in &self.cells {
-            drop(cells.insert(*key, cell.copy(self.alloc)?)?);
+            drop(cells.insert(*key, cell.copy()?)?);
         }
         Ok(Cells {
             cells,

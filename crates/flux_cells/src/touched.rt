@@ -32,7 +32,7 @@ fn copy_of(alloc: Global, cell: Option<&Cell>) -> Result<Cell, Memory>
     ensures { IfOk result (λ copied. copied ≡ unwrap_or (option_copied cell.entry) no_cell) }
 {
     match cell {
-        Some(cell) => cell.copy(alloc),
+        Some(cell) => cell.copy(),
         None => Ok(Cell::new(alloc)),
     }
 }
