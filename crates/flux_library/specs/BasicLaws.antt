@@ -1,5 +1,5 @@
 -- The basic library keeps the laws of a library (an `impl` takes its laws' proofs from here).
-use Rattle.std.proofs.Common.{◌≡◌, ◌≤◌, ℕ, ℤ, pos, negsuc, suc, Bool, true, false, List, [], ◌∷◌, length, map, codes, IfSome, refl, sym, subst, arith, length-append}
+use Rattle.std.proofs.Common.{◌≡◌, ◌≤◌, ℕ, ℤ, pos, negsuc, suc, Bool, true, false, List, [], ◌∷◌, length, map, codes, refl, sym, subst, arith, length-append}
 use Rattle.std.specs.List.{AllByRecursion}
 use Rattle.std.specs.Str.{bytes_eq}
 use Rattle.std.specs.Fmt.{signed_decimal}
@@ -11,34 +11,11 @@ use Rattle.flux_values.specs.declared.values.Value.TheVariants as values
 use Rattle.flux_values.specs.Values.{kind_of}
 use Rattle.flux_values.specs.Reading.{IsValue}
 use Rattle.flux_library.specs.Libraries.{IsLawfulNode, IsLawful}
-use Rattle.flux_library.specs.Basics.{basic_kind, basic_sig, basic_call, basic_meaning, text_of, shown}
-
-is_word : (ty word : List ℕ) → bytes_eq ty word ≡ true → length word ≤ 65536 → length ty ≤ 65536
-is_word ty word e le = subst (λ (l : List ℕ). length l ≤ 65536) (sym ((bytes_eq-Decides ty word).0 e)) le
-
-types_short : (ty : List ℕ) → IfSome (basic_kind ty) (λ _. length ty ≤ 65536)
-types_short ty = cases (bytes_eq ty (codes "int")) refl (bytes_eq ty (codes "long")) refl (bytes_eq ty (codes "bool")) refl (bytes_eq ty (codes "text")) refl (bytes_eq ty (codes "char*")) refl
-  where
-    cases : (a : Bool) → bytes_eq ty (codes "int") ≡ a → (b : Bool) → bytes_eq ty (codes "long") ≡ b → (c : Bool) → bytes_eq ty (codes "bool") ≡ c → (d : Bool) → bytes_eq ty (codes "text") ≡ d → (e : Bool) → bytes_eq ty (codes "char*") ≡ e
-        → IfSome (basic_kind ty) (λ _. length ty ≤ 65536)
-    cases true p b q c r d s e t = rw p (is_word ty (codes "int") p (omega arith))
-    cases false p true q c r d s e t = rw (p, q) (is_word ty (codes "long") q (omega arith))
-    cases false p false q true r d s e t = rw (p, q, r) (is_word ty (codes "bool") r (omega arith))
-    cases false p false q false r true s e t = rw (p, q, r, s) (is_word ty (codes "text") s (omega arith))
-    cases false p false q false r false s true t = rw (p, q, r, s, t) (is_word ty (codes "char*") t (omega arith))
-    cases false p false q false r false s false t = rw (p, q, r, s, t) tt
+use Rattle.flux_library.specs.TypeLaws.{types_short}
+use Rattle.flux_library.specs.AnswerLaws.{text_valid}
+use Rattle.flux_library.specs.Basics.{basic_sig, basic_call, basic_meaning, shown}
 
 -- ---- answers
-
-text_short : (args : List Value) → map kind_of args ≡ kinds.Int ∷ kinds.Text ∷ [] → AllByRecursion IsValue args → length (text_of args) ≤ 1049600
-text_short [] kinds_ all = omega arith
-text_short (v ∷ []) kinds_ all = omega arith
-text_short (v ∷ values.Int n ∷ []) kinds_ all = omega arith
-text_short (v ∷ values.Bool b ∷ []) kinds_ all = omega arith
-text_short (v ∷ values.Text t ∷ []) kinds_ all = omega (arith, all.1.0.1)
-text_short (v ∷ values.Int n ∷ w ∷ more) kinds_ all = omega arith
-text_short (v ∷ values.Bool b ∷ w ∷ more) kinds_ all = omega arith
-text_short (v ∷ values.Text t ∷ w ∷ more) kinds_ all = omega arith
 
 number_short : (z : ℤ) → IsValue (values.Int z) → length (signed_decimal z) ≤ 21
 number_short (pos n) fits = let le = length-decimal-le 20 n (omega arith) (omega arith) (omega arith) in omega (arith, le)
@@ -64,7 +41,7 @@ nodes_lawful name = cases (bytes_eq name (codes "Tick")) refl (bytes_eq name (co
     cases true p b q c r d s e t = named (codes "Tick") p (record { source = tt; answers = λ args cells fits all. let h = fits.role in absurd cc })
     cases false p true q c r d s e t = named (codes "Listen") q (record { source = refl; answers = λ args cells fits all. let h = fits.role in absurd cc })
     cases false p false q true r d s e t = named (codes "Pass") r (record { source = tt; answers = λ args cells fits all. record { result = (fits.kinds, all); puts = tt; emits = omega arith } })
-    cases false p false q false r true s e t = named (codes "Echo") s (record { source = tt; answers = λ args cells fits all. record { result = (refl, tt); puts = tt; emits = text_short args fits.kinds all } })
+    cases false p false q false r true s e t = named (codes "Echo") s (record { source = tt; answers = λ args cells fits all. record { result = (refl, tt); puts = tt; emits = let short = (text_valid args all).1 in omega arith } })
     cases false p false q false r false s true t = named (codes "Show") t (record { source = tt; answers = λ args cells fits all. record { result = (refl, tt); puts = tt; emits = shown_short args fits.kinds all } })
     cases false p false q false r false s false t = rw (p, q, r, s, t) tt
 

@@ -15,8 +15,7 @@ use Rattle.flux_values.specs.declared.meanings.Role.{Role}
 use Rattle.flux_values.specs.declared.meanings.Role.TheVariants.{Plain, Source, HeadSource, LineSource}
 use Rattle.flux_values.specs.Values.{kind_of}
 use Rattle.flux_values.specs.Reading.{IsValue}
-use Rattle.flux_library.specs.declared.libraries.TheConstants.{EMISSION_LIMIT}
-use Rattle.flux_values.specs.declared.texts.TheConstants.{TEXT_LIMIT}
+use Rattle.flux_values.specs.declared.texts.TheConstants.{EMISSION_LIMIT, TEXT_LIMIT}
 use Rattle.flux_values.specs.Cells.{CellMap}
 use Rattle.flux_values.specs.Meanings.{LibraryMeaning}
 

@@ -1,10 +1,12 @@
 //! A library of five nodes without cells.
 
-ghost use Rattle.std.specs.Prelude.{◌≡◌, IfOk, map};
-ghost use Rattle.flux_values.specs.Values.{kind_of};
-ghost use Rattle.flux_library.specs.Basics.{basic_kind, basic_sig, basic_call, plain, results_of, emission_of};
+ghost use Rattle.std.specs.Prelude.{◌≡◌, IfOk};
+ghost use Rattle.flux_library.specs.Basics.{results_of, emission_of};
 
+use crate::answers::{copies, text_in};
 use crate::libraries::Library;
+use crate::signatures::{plain, source};
+use crate::types::kind_spelled;
 use flux_values::{
     Answer, Bytes, CallResult, Cell, Kind, List, Meaning, Memory, Role, Sig, Value, append_value,
 };
@@ -20,29 +22,6 @@ impl Meaning for Basic {
     ghost meaning = { λ _. basic_meaning };
 }
 
-fn plain(alloc: Global, role: Role, ins: &[Kind], outs: &[Kind]) -> Result<Option<Sig>, Memory>
-    ensures { IfOk result (λ sig. sig ≡ plain role ins.now outs.now) }
-{
-    Ok(Some(Sig {
-        ins: kinds(alloc, ins)?,
-        outs: kinds(alloc, outs)?,
-        cells: List::new(alloc),
-        role,
-    }))
-}
-
-fn kinds(alloc: Global, kinds: &[Kind]) -> Result<List<Kind>, Memory>
-    ensures { IfOk result (λ copied. copied ≡ kinds.now) }
-{
-    let mut copied = List::new(alloc);
-    for kind in kinds {
-        if copied.push(*kind).is_err() {
-            return Err(Memory);
-        }
-    }
-    Ok(copied)
-}
-
 /// What a node gives, where it is `Pass`.
 fn results(alloc: Global, name: &[u8], args: &[Value]) -> Result<List<Value>, Memory>
     ensures { IfOk result (λ values. values ≡ results_of name.now args.now) }
@@ -54,27 +33,13 @@ fn results(alloc: Global, name: &[u8], args: &[Value]) -> Result<List<Value>, Me
     }
 }
 
-fn copies(alloc: Global, values: &[Value]) -> Result<List<Value>, Memory>
-    ensures { IfOk result (λ copied. copied ≡ values.now) }
-{
-    let mut copied = List::new(alloc);
-    for value in values {
-        if copied.push(value.copy(alloc)?).is_err() {
-            return Err(Memory);
-        }
-    }
-    Ok(copied)
-}
-
 /// What a node emits: `Echo` its text, `Show` its number and LF.
 fn emission(alloc: Global, name: &[u8], args: &[Value]) -> Result<Bytes, Memory>
     ensures { IfOk result (λ emits. emits ≡ emission_of name.now args.now) }
 {
     let mut emits = Bytes::new(alloc);
     if name == b"Echo".as_slice() {
-        if let [_, Value::Text(text)] = args {
-            emits.append(text.as_bytes())?;
-        }
+        emits.append(text_in(args))?;
     } else if name == b"Show".as_slice() {
         if let [value] = args {
             append_value(alloc, &mut emits, value)?;
@@ -88,31 +53,25 @@ impl Library for Basic {
     ghost use Rattle.flux_library.specs.BasicLaws.{basic_lawful};
 
     fn kind(&self, ty: &[u8]) -> Option<Kind> {
-        if ty == b"int".as_slice() || ty == b"long".as_slice() {
-            Some(Kind::Int)
-        } else if ty == b"bool".as_slice() {
-            Some(Kind::Bool)
-        } else if ty == b"text".as_slice() || ty == b"char*".as_slice() {
-            Some(Kind::Text)
-        } else {
-            None
-        }
+        kind_spelled(ty)
     }
 
     fn node(&self, alloc: Global, name: &[u8]) -> Result<Option<Sig>, Memory> {
-        if name == b"Tick".as_slice() {
-            plain(alloc, Role::Source, &[], &[Kind::Int])
+        let (int, line) = ([Kind::Int], [Kind::Int, Kind::Text]);
+        let cells = List::new(alloc);
+        Ok(if name == b"Tick".as_slice() {
+            Some(source(alloc, Role::Source, &int)?)
         } else if name == b"Listen".as_slice() {
-            plain(alloc, Role::LineSource, &[], &[Kind::Int, Kind::Text])
+            Some(source(alloc, Role::LineSource, &line)?)
         } else if name == b"Pass".as_slice() {
-            plain(alloc, Role::Plain, &[Kind::Int], &[Kind::Int])
+            Some(plain(alloc, &int, &int, cells)?)
         } else if name == b"Echo".as_slice() {
-            plain(alloc, Role::Plain, &[Kind::Int, Kind::Text], &[])
+            Some(plain(alloc, &line, &[], cells)?)
         } else if name == b"Show".as_slice() {
-            plain(alloc, Role::Plain, &[Kind::Int], &[])
+            Some(plain(alloc, &int, &[], cells)?)
         } else {
-            Ok(None)
-        }
+            None
+        })
     }
 
     fn predicate(&self, _name: &[u8]) -> Option<Kind> {

@@ -7,9 +7,6 @@ use flux_values::{Answer, Cell, Kind, List, Meaning, Memory, Sig, Value};
 use std::alloc::Global;
 use std::marker::{Send, Sync};
 
-/// The most bytes that a call emits.
-pub const EMISSION_LIMIT: usize = 1_049_600;
-
 /// A library of nodes. Each method gives what the library's meaning says; a name that it doesn't have gives None.
 pub trait Library: Meaning + Send + Sync + Drop {
     ghost use Rattle.flux_library.specs.Libraries.{IsLawful};

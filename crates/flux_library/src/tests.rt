@@ -1,7 +1,7 @@
-//! The basic library, asked through its bound.
+//! The basic library, asked through its bound, and documents.
 
-use crate::{Basic, Library, Role};
-use flux_values::{CallResult, Kind, TextBytes, Value};
+use crate::{BODY_LIMIT, Basic, Docs, Library, Role};
+use flux_values::{Bytes, CallResult, Kind, Memory, TextBytes, Value};
 use std::alloc::Global;
 use std::process::Abort;
 use std::test::Fail;
@@ -104,5 +104,81 @@ fn echo_emits_its_text(rt: HostRuntime) {
             Err(_) => assert!(rt; false, "memory"),
         },
         Err(_) => assert!(rt; false, "memory"),
+    }
+}
+
+/// Adds a document, where its body is within the limit.
+fn add(alloc: Global, docs: &mut Docs, name: &[u8], body: &[u8]) -> Result<Option<bool>, Memory> {
+    let (name, body) = (Bytes::copy(alloc, name)?, Bytes::copy(alloc, body)?);
+    if body.as_bytes().len() <= BODY_LIMIT {
+        Ok(Some(docs.add(name, body)?))
+    } else {
+        Ok(None)
+    }
+}
+
+#[test]
+fn the_first_body_of_a_name_is_kept(rt: HostRuntime) {
+    let mut docs = Docs::new(rt.alloc());
+    assert_eq!(rt; docs.get(b""), None);
+    let table: [(&'static [u8], &'static [u8], bool); 5] = [
+        (b"b", b"1", true),
+        (b"a/c", b"", true),
+        (b"b", b"2", false),
+        (b"", b"3", true),
+        (b"a", b"4", true),
+    ];
+    for (name, body, new) in table {
+        assert_eq!(rt;
+            add(rt.alloc(), &mut docs, name, body),
+            Ok(Some(new)),
+            "{name:?}"
+        );
+    }
+    let kept: [(&'static [u8], Option<&'static [u8]>); 6] = [
+        (b"b", Some(b"1")),
+        (b"a/c", Some(b"")),
+        (b"", Some(b"3")),
+        (b"a", Some(b"4")),
+        (b"a/", None),
+        (b"B", None),
+    ];
+    for (name, body) in kept {
+        assert_eq!(rt; docs.get(name), body, "{name:?}");
+    }
+}
+
+#[test]
+fn a_body_may_have_1048576_bytes(rt: HostRuntime) -> Result<(), Fail> {
+    let body = vec![in rt.alloc(); b'x'; BODY_LIMIT]?;
+    let mut docs = Docs::new(rt.alloc());
+    assert_eq!(rt;
+        add(rt.alloc(), &mut docs, b"large", body.as_slice()),
+        Ok(Some(true))
+    );
+    assert!(rt; docs.get(b"large") == Some(body.as_slice()));
+    Ok(())
+}
+
+#[test]
+fn thousands_of_documents_are_found(rt: HostRuntime) {
+    let mut docs = Docs::new(rt.alloc());
+    for number in 0u16..4096 {
+        let name = number.wrapping_mul(2731).to_be_bytes();
+        let new = add(
+            rt.alloc(),
+            &mut docs,
+            name.as_slice(),
+            number.to_be_bytes().as_slice(),
+        );
+        assert_eq!(rt; new, Ok(Some(true)), "{number}");
+    }
+    for number in 0u16..4096 {
+        let name = number.wrapping_mul(2731).to_be_bytes();
+        let body = number.to_be_bytes();
+        assert!(rt;
+            docs.get(name.as_slice()) == Some(body.as_slice()),
+            "{number}"
+        );
     }
 }

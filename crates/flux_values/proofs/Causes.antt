@@ -1,5 +1,5 @@
 -- Of all answers of the reader one has its cause, and a printed spelling is a spelling.
-use Rattle.std.proofs.Common.{◌≡◌, inl, inr, ℕ, pos, negsuc, zero, suc, ◌+◌, ◌-◌, ◌/◌, ◌%◌, ◌<◌, Bool, true, false, eqb, leb, ◌&&◌, List, [], ◌∷◌, ◌++◌, length, take, drop, get_or, map, Some, Result, Ok, Err, refl, sym, ap, ◌∙◌, arith, subst, append_assoc}
+use Rattle.std.proofs.Common.{◌≡◌, inl, inr, ℕ, pos, negsuc, zero, suc, ◌+◌, ◌-◌, ◌/◌, ◌%◌, ◌<◌, Bool, true, false, eqb, leb, ◌&&◌, List, [], ◌∷◌, ◌++◌, length, take, drop, get_or, map, Some, Result, Ok, Err, All, refl, sym, ap, ◌∙◌, arith, subst, append_assoc}
 use Rattle.std.specs.List.{concat, flat_map, AllByRecursion}
 use Rattle.std.specs.Char.{digit_value}
 use Rattle.std.specs.Fmt.{decimal}
@@ -15,9 +15,9 @@ use Rattle.flux_values.specs.declared.failures.ValueFault.TheVariants as faults
 use Rattle.flux_values.specs.declared.values.Value.{Value}
 use Rattle.flux_values.specs.declared.values.Value.TheVariants as values
 use Rattle.flux_values.specs.declared.texts.TheConstants.{TEXT_LIMIT}
-use Rattle.flux_values.specs.Texts.{hex_digit, printed_byte, printed_value, printed_bool}
+use Rattle.flux_values.specs.Texts.{hex_digit, printed_byte, printed_text, printed_value, printed_bool}
 use Rattle.flux_values.specs.Reading.{IsValue, BeginsWith, BeginsNone, ReadsBack, IsRead}
-use Rattle.flux_values.specs.Spellings.{minus, with_sign, SpellsByte, SpellEach, Spells, BeginsSpelled, IsLongest, CanGoOn, IsTooLong, IsBadValue, HasCause, IsOrMemory}
+use Rattle.flux_values.specs.Spellings.{minus, with_sign, SpellsByte, SpellEach, SpellsText, Spells, BeginsSpelled, IsLongest, CanGoOn, IsTooLong, IsBadValue, HasCause, IsOrMemory}
 use Rattle.flux_values.proofs.Opened.{cut_alike}
 use Rattle.flux_values.proofs.Fronts.{begins_head, begins_none, goes_less, as_text}
 use Rattle.flux_values.proofs.TextsRead.{closes, nothing_full, Long, long_parts}
@@ -176,18 +176,18 @@ printed_laid : (t : List ℕ) → flat_map printed_byte t ≡ concat (map printe
 printed_laid [] = refl
 printed_laid (b ∷ t) = ap (λ (l : List ℕ). printed_byte b ++ l) (printed_laid t)
 
+pub printed_text_spells : (t : List ℕ) → All (λ b. b < 256) t → SpellsText (printed_text t) t
+printed_text_spells t all = record {
+  opened = 34 ∷ concat (map printed_byte t);
+  opens = record { pieces = map printed_byte t; laid = refl; each = bytes_spell t (recursion_from_All (λ (b : ℕ). b < 256) t all) };
+  closed = ap (λ (l : List ℕ). 34 ∷ l ++ 34 ∷ []) (printed_laid t);
+}
+
 pub printed_spells : (v : Value) → IsValue v → Spells (printed_value v) v
 printed_spells (values.Int (pos n)) fits = let d = decimal_is_IsNumeral n (omega arith) in record { is_value = fits; form = record { negative = false; digits = decimal n; numeral = d.0; laid = refl; value = ap pos (sym d.1) } }
 printed_spells (values.Int (negsuc n)) fits = let d = decimal_is_IsNumeral (suc n) (omega arith) in record { is_value = fits; form = record { negative = true; digits = decimal (suc n); numeral = d.0; laid = refl; value = ap (with_sign true) (sym d.1) } }
 printed_spells (values.Bool truth) fits = record { is_value = tt; form = refl }
-printed_spells (values.Text t) fits = record {
-  is_value = fits;
-  form = record {
-    opened = 34 ∷ concat (map printed_byte t);
-    opens = record { pieces = map printed_byte t; laid = refl; each = bytes_spell t (recursion_from_All (λ (b : ℕ). b < 256) t fits.0) };
-    closed = ap (λ (l : List ℕ). 34 ∷ l ++ 34 ∷ []) (printed_laid t);
-  };
-}
+printed_spells (values.Text t) fits = record { is_value = fits; form = printed_text_spells t fits.0 }
 
 -- what begins with a printed spelling begins with a spelling
 pub printed_begins : (v : Value) (bytes : List ℕ) → BeginsWith v bytes → BeginsSpelled bytes v (length (printed_value v))

@@ -251,3 +251,7 @@ signed_bad false bytes sign limit at first is top (inl none) = absurd (first (su
 signed_bad false bytes sign limit at first is top (inr many) =
     let there : AreTooMany bytes (limit_of false) at = subst (λ (l : ℕ). AreTooMany bytes l at) top (subst (λ (s : ℕ). AreTooMany (drop s bytes) limit at) is many) in
     subst (λ (s : ℕ). IsBadValue bytes (s + at)) (sym is) (number_great false bytes at there)
+
+pub no_digit_first : (ds y : List ℕ) → IsNumeral 10 ds → NoDigitFirst (ds ++ y) → ⊥
+no_digit_first [] y n none = let some = n.0 in omega arith
+no_digit_first (d ∷ ds) y n none = no_digit d n.1.0 none

@@ -39,20 +39,20 @@ closes ps t z v n s begins =
     closed_is ps a.parts t a.text z a.rest v n a.laid a.value a.long on.more on.text on.each on.whole on.rest
 
 -- after a full text: nothing but a quote
-full_is : (t u x rest : List ℕ) → TEXT_LIMIT ≤ length t → length u ≤ TEXT_LIMIT → ((z : List ℕ) → x ≡ 34 ∷ z → ⊥)
+pub full_is : (limit : ℕ) (t u x rest : List ℕ) → limit ≤ length t → length u ≤ limit → ((z : List ℕ) → x ≡ 34 ∷ z → ⊥)
     → (more : List (List ℕ)) (text : List ℕ) → SpellEach more text → u ≡ t ++ text → x ≡ concat more ++ 34 ∷ rest → ⊥
-full_is t u x rest full few other [] text each whole left = other rest left
-full_is t u x rest full few other (q ∷ more) [] each whole left = each
-full_is t u x rest full few other (q ∷ more) (b ∷ text) each whole left = omega (arith, ap length whole, length-append t (b ∷ text))
+full_is limit t u x rest full few other [] text each whole left = other rest left
+full_is limit t u x rest full few other (q ∷ more) [] each whole left = each
+full_is limit t u x rest full few other (q ∷ more) (b ∷ text) each whole left = omega (arith, ap length whole, length-append t (b ∷ text))
 
 pub nothing_full : (ps : List (List ℕ)) (t x : List ℕ) (v : Value) (n : ℕ) → SpellEach ps t → TEXT_LIMIT ≤ length t → ((z : List ℕ) → x ≡ 34 ∷ z → ⊥) → BeginsSpelled (34 ∷ (concat ps ++ x)) v n → ⊥
 nothing_full ps t x v n s full other begins =
     let a = as_text (concat ps ++ x) v n begins in
     let on = goes_on ps a.parts t a.text x a.rest s a.each a.laid in
-    full_is t a.text x a.rest full a.few other on.more on.text on.each on.whole on.rest
+    full_is TEXT_LIMIT t a.text x a.rest full a.few other on.more on.text on.each on.whole on.rest
 
 -- where no piece is found: nothing but a quote
-stuck_is : (x rest : List ℕ) (k : ℕ) → piece_of x ≡ pieces.Stops k → ((z : List ℕ) → x ≡ 34 ∷ z → ⊥)
+pub stuck_is : (x rest : List ℕ) (k : ℕ) → piece_of x ≡ pieces.Stops k → ((z : List ℕ) → x ≡ 34 ∷ z → ⊥)
     → (more : List (List ℕ)) (text : List ℕ) → SpellEach more text → x ≡ concat more ++ 34 ∷ rest → ⊥
 stuck_is x rest k stops other [] text each left = other rest left
 stuck_is x rest k stops other (q ∷ more) [] each left = each
@@ -119,10 +119,10 @@ not_long ps t x k at s room stops long =
 
 -- ---- the answers
 
-front_is : (bytes t : List ℕ) (at : ℕ) (opens : OpensText (take at bytes) t) → bytes ≡ 34 ∷ (concat opens.pieces ++ drop at bytes)
+pub front_is : (bytes t : List ℕ) (at : ℕ) (opens : OpensText (take at bytes) t) → bytes ≡ 34 ∷ (concat opens.pieces ++ drop at bytes)
 front_is bytes t at opens = sym (take-append-drop at bytes) ∙ ap (λ (l : List ℕ). l ++ drop at bytes) opens.laid
 
-pieces_long : (bytes t : List ℕ) (at : ℕ) (opens : OpensText (take at bytes) t) → at ≤ length bytes → at ≡ length (concat opens.pieces) + 1
+pub pieces_long : (bytes t : List ℕ) (at : ℕ) (opens : OpensText (take at bytes) t) → at ≤ length bytes → at ≡ length (concat opens.pieces) + 1
 pieces_long bytes t at opens le = omega (arith, sym (length-take-le at bytes le) ∙ ap length opens.laid)
 
 -- a text closed here is read

@@ -1,7 +1,8 @@
 -- Which bytes spell which value, what begins a spelling, and where each answer of a reader comes.
-use Rattle.std.specs.Prelude.{◌≡◌, ◌≢◌, ◌⊎◌, ℕ, ◌+◌, ◌*◌, ◌<◌, ◌≤◌, ◌==◌, if◌then◌else◌, Bool, true, false, ℤ, pos, neg_ℤ, List, [], ◌∷◌, ◌++◌, length, take, slice_index, Option, Some, None, Result, Ok, Err, ⊤}
+use Rattle.std.specs.Prelude.{◌≡◌, ◌≢◌, ◌⊎◌, ℕ, ◌+◌, ◌*◌, ◌<◌, ◌≤◌, ◌==◌, if◌then◌else◌, Bool, true, false, ℤ, pos, neg_ℤ, List, [], ◌∷◌, ◌++◌, length, take, slice_index, All, Option, Some, None, Result, Ok, Err, ⊤}
 use Rattle.std.specs.List.{concat}
 use Rattle.std.specs.Char.{digit_value}
+use Rattle.std.specs.Fmt.{decimal}
 use Rattle.std.specs.Str.Parse.{IsNumeral, digits_value}
 use Rattle.flux_values.specs.declared.failures.ValueFault.{ValueFault}
 use Rattle.flux_values.specs.declared.failures.ValueFault.TheVariants as faults
@@ -9,7 +10,7 @@ use Rattle.flux_values.specs.declared.texts.TheConstants.{TEXT_LIMIT}
 use Rattle.flux_values.specs.declared.values.Value.{Value}
 use Rattle.flux_values.specs.declared.values.Value.TheVariants as values
 use Rattle.flux_values.specs.Texts.{printed_bool}
-use Rattle.flux_values.specs.Reading.{IsValue, EndsBefore}
+use Rattle.flux_values.specs.Reading.{IsValue, EndsBefore, NoDigitFirst}
 
 -- ---- spellings
 
@@ -111,6 +112,25 @@ pub record IsTooLong (bytes : List ℕ) (at : ℕ) : Type 0 where
   pub within : at < length bytes
   pub other : slice_index bytes at ≢ 34
 
+-- decimal digits without a leading zero, so many of them, begin the bytes, and no digit follows; the
+-- number is at most the limit
+pub record BeginsDecimal (bytes : List ℕ) (limit number n : ℕ) : Type 0 where
+  pub rest : List ℕ
+  pub small : number ≤ limit
+  pub front : bytes ≡ decimal number ++ rest
+  pub ends : NoDigitFirst rest
+  pub long : n ≡ length (decimal number)
+
+-- a spelling of this text of at most so many bytes begins the bytes, itself so many bytes long
+pub record BeginsText (bytes text : List ℕ) (limit n : ℕ) : Type 0 where
+  pub spelling : List ℕ
+  pub rest : List ℕ
+  pub each : All (λ b. b < 256) text
+  pub few : length text ≤ limit
+  pub spells : SpellsText spelling text
+  pub front : bytes ≡ spelling ++ rest
+  pub long : n ≡ length spelling
+
 -- no spelling begins the bytes and no text is too long; some spelling begins with the bytes before
 -- this place, and none with those up to and with it, unless the bytes end there
 pub record IsBadValue (bytes : List ℕ) (at : ℕ) : Type 0 where
@@ -128,6 +148,16 @@ HasCause (Ok read) bytes = IsLongest bytes read.0 read.1
 HasCause (Err (faults.TooLong at)) bytes = IsTooLong bytes at
 HasCause (Err (faults.BadValue at)) bytes = IsBadValue bytes at
 HasCause (Err faults.Memory) bytes = ⊤
+
+-- what is read of a number of at most so much: it, with its digits' number, or that there is none
+abbrev pub IsDecimalRead : List ℕ → ℕ → Option (ℕ × ℕ) → Type 0
+IsDecimalRead bytes limit (Some read) = BeginsDecimal bytes limit read.0 read.1
+IsDecimalRead bytes limit None = (number n : ℕ) → BeginsDecimal bytes limit number n → ⊥
+
+-- what is read of a text of at most so many bytes: it, with its spelling's length, or that there is none
+abbrev pub IsTextRead : List ℕ → ℕ → Option (List ℕ × ℕ) → Type 0
+IsTextRead bytes limit (Some read) = BeginsText bytes read.0 limit read.1
+IsTextRead bytes limit None = (text : List ℕ) (n : ℕ) → BeginsText bytes text limit n → ⊥
 
 -- this is the answer, or memory was short
 abbrev pub IsOrMemory : Result (Value × ℕ) ValueFault → Result (Value × ℕ) ValueFault → Type 0

@@ -1,17 +1,18 @@
 //! Values read from the front of bytes.
 
-ghost use Rattle.std.specs.Prelude.{◌≡◌, ◌<◌, ◌≤◌, ◌*◌, ◌+◌, ◌-◌, ◌∷◌, ℕ, length, drop, IfSome, Ok, Err, slice_index, slice_get};
+ghost use Rattle.std.specs.Prelude.{◌≡◌, ◌<◌, ◌≤◌, ◌*◌, ◌+◌, ◌-◌, ◌∷◌, ℕ, length, drop, IfOk, IfSome, Ok, Err, slice_index, slice_get};
 ghost use Rattle.flux_values.specs.declared.values.Value.{Value};
 ghost use Rattle.flux_values.specs.declared.failures.ValueFault.TheVariants as faults;
 ghost use Rattle.flux_values.specs.Texts.{printed_bool};
 ghost use Rattle.flux_values.specs.Reading.{ReadsBack, IsRead, BeginsWith};
-ghost use Rattle.flux_values.specs.Spellings.{with_sign, HasCause, IsOrMemory, IsLongest, IsTooLong, IsBadValue};
+ghost use Rattle.flux_values.specs.Spellings.{with_sign, HasCause, IsOrMemory, IsLongest, IsTooLong, IsBadValue, IsDecimalRead, IsTextRead};
 ghost use Rattle.flux_values.specs.steps.Pieces.{piece_of, escape_of, hexadecimal_of, digit_in};
+ghost use Rattle.flux_values.specs.steps.Literals.{IsLiteralRead};
 ghost use Rattle.flux_values.specs.steps.Numbers.{IsSigned, AreDigitsRead, limit_of};
 
-use crate::failures::ValueFault;
+use crate::failures::{Memory, ValueFault};
 use crate::printing::print_value;
-use crate::texts::{TEXT_LIMIT, TextBytes};
+use crate::texts::{Bytes, TEXT_LIMIT, TextBytes};
 use crate::values::Value;
 use std::alloc::Global;
 
@@ -146,14 +147,58 @@ fn read_digits(bytes: &[u8], limit: u64) -> Result<(u64, usize), usize>
     if at == 0 { Err(0) } else { Ok((number, at)) }
 }
 
+/// The number up to a limit whose decimal digits stand at the front, without a leading zero, and how
+/// many they are. No digit stands behind them.
+pub fn read_decimal(bytes: &[u8], limit: u64) -> Option<(u64, usize)>
+    requires { 9 ≤ limit }
+    ensures { IsDecimalRead bytes.now limit result }
+{
+    match read_digits(bytes, limit) {
+        Ok((_, length)) if length > 1 && bytes[0] == b'0' => None,
+        Ok((number, length)) => Some((number, length)),
+        Err(_at) => None,
+    }
+}
+
 fn read_text(alloc: Global, bytes: &[u8]) -> Result<(Value, usize), ValueFault>
     requires { bytes.now ≡ 34 ∷ drop 1 bytes.now }
     ensures { HasCause result bytes.now }
 {
+    match read_literal(alloc, bytes, TEXT_LIMIT) {
+        Ok((text, length)) => Ok((Value::Text(TextBytes::from_vec(text)), length)),
+        Err(fault) => Err(fault),
+    }
+}
+
+/// The text of at most so many bytes whose spelling begins the bytes, and that spelling's length.
+/// It is None exactly where the spelling of no such text begins them.
+pub fn read_text_within(
+    alloc: Global,
+    bytes: &[u8],
+    limit: usize,
+) -> Result<Option<(Bytes, usize)>, Memory>
+    ensures { IfOk result (IsTextRead bytes.now limit) }
+{
+    if bytes.first() != Some(&b'"') {
+        return Ok(None);
+    }
+    match read_literal(alloc, bytes, limit) {
+        Ok((text, length)) => Ok(Some((Bytes::from_vec(text), length))),
+        Err(ValueFault::Memory) => Err(Memory),
+        Err(ValueFault::BadValue { at: _ }) => Ok(None),
+        Err(ValueFault::TooLong { at: _ }) => Ok(None),
+    }
+}
+
+/// The bytes of the text at the front, with the length of its spelling.
+fn read_literal(alloc: Global, bytes: &[u8], limit: usize) -> Result<(Vec<u8>, usize), ValueFault>
+    requires { bytes.now ≡ 34 ∷ drop 1 bytes.now }
+    ensures { IsLiteralRead bytes.now limit result }
+{
     let mut text = Vec::new(alloc);
     let mut at = 1;
     while at < bytes.len() && bytes[at] != b'"' {
-        if text.len() == TEXT_LIMIT {
+        if text.len() == limit {
             return Err(ValueFault::TooLong { at });
         }
         match read_piece(&bytes[at..]) {
@@ -167,7 +212,7 @@ fn read_text(alloc: Global, bytes: &[u8]) -> Result<(Value, usize), ValueFault>
     if at == bytes.len() {
         return Err(ValueFault::BadValue { at });
     }
-    Ok((Value::Text(TextBytes::from_vec(text)), at + 1))
+    Ok((text, at + 1))
 }
 
 /// The piece at the front of the bytes.

@@ -2,7 +2,8 @@
 
 use crate::{
     Bytes, CallResult, Cell, List, Memory, TextBytes, TextFault, Value, ValueFault, append_number,
-    append_text, append_value, print_value, read_printed_value, read_value,
+    append_text, append_value, print_value, read_decimal, read_printed_value, read_text_within,
+    read_value,
 };
 use std::test::Fail;
 
@@ -136,6 +137,57 @@ fn a_text_is_read_up_to_65536_bytes(rt: HostRuntime) -> Result<(), Fail> {
             Err(_) => {}
         }
         assert_eq!(rt; read.err(), answer, "{rest:?}");
+    }
+    Ok(())
+}
+
+#[test]
+fn a_text_is_read_within_a_limit(rt: HostRuntime) -> Result<(), Memory> {
+    let alloc = rt.alloc();
+    let table = [
+        (b"\"\"".as_slice(), 0, Some((b"".as_slice(), 2))),
+        (b"\"a\\x41\" b", 2, Some((b"aA", 7))),
+        (b"\"a\\x41\" b", 1, None),
+        (b"\"aA", 2, None),
+        (b"\"a\n\"", 2, None),
+        (b"aA\"", 3, None),
+        (b"1", 3, None),
+        (b"", 3, None),
+    ];
+    for (bytes, limit, wanted) in table {
+        match (read_text_within(alloc, bytes, limit)?, wanted) {
+            (Some((text, length)), Some((wanted, long))) => {
+                assert_eq!(rt; text.as_bytes(), wanted, "{bytes:?}");
+                assert_eq!(rt; length, long, "{bytes:?}");
+            }
+            (found, wanted) => assert_eq!(rt; found.is_none(), wanted.is_none(), "{bytes:?}"),
+        }
+    }
+    Ok(())
+}
+
+#[test]
+fn a_decimal_number_is_read_up_to_a_limit(rt: HostRuntime) -> Result<(), Memory> {
+    let small = [
+        (b"0".as_slice(), Some((0, 1))),
+        (b"10 x", Some((10, 2))),
+        (b"11", None),
+        (b"100", None),
+        (b"00", None),
+        (b"01", None),
+        (b"-1", None),
+        (b"x", None),
+        (b"", None),
+    ];
+    for (bytes, wanted) in small {
+        assert_eq!(rt; read_decimal(bytes, 10), wanted, "{bytes:?}");
+    }
+    let great = [
+        (b"18446744073709551615".as_slice(), Some((u64::MAX, 20))),
+        (b"18446744073709551616", None),
+    ];
+    for (bytes, wanted) in great {
+        assert_eq!(rt; read_decimal(bytes, u64::MAX), wanted, "{bytes:?}");
     }
     Ok(())
 }

@@ -16,6 +16,9 @@ use std::marker::Model;
 /// The greatest length of a text, in bytes.
 pub const TEXT_LIMIT: usize = 65_536;
 
+/// The most bytes that a call of a node emits.
+pub const EMISSION_LIMIT: usize = 1_049_600;
+
 /// A text: at most 65,536 bytes, of any encoding.
 #[derive(Debug, Drop)]
 pub struct TextBytes {
@@ -135,6 +138,13 @@ impl Bytes {
         Bytes {
             bytes: Vec::new(alloc),
         }
+    }
+
+    /// Makes bytes of what is at hand, and takes no memory.
+    pub fn from_vec(bytes: Vec<u8>) -> Bytes
+        ensures { result ≡ bytes.items }
+    {
+        Bytes { bytes }
     }
 
     /// Adds bytes at the end.

@@ -1,7 +1,6 @@
 use Rattle.std.proofs.Common.{◌≤◌, ◌<◌, ◌-◌, All, length, take, vec_len}
 use Rattle.flux_values.specs.Spellings.{OpensText}
-use Rattle.flux_values.specs.declared.texts.TheConstants.{TEXT_LIMIT}
-use Rattle.flux_values.proofs.reading.read_text.Given as goal
+use Rattle.flux_values.proofs.reading.read_literal.Given as goal
 
 -- the bytes so far are an opening quote and pieces that give the text
 abbrev pub invariant-loop-at : goal.invariant-loop-at
@@ -9,7 +8,7 @@ invariant-loop-at l = record {
   within : l.at ≤ length l.bytes;
   opens : OpensText (take l.at l.bytes) l.text.items;
   each : All (λ b. b < 256) l.text.items;
-  room : vec_len l.text ≤ TEXT_LIMIT;
+  room : vec_len l.text ≤ l.limit;
 }
 
 abbrev pub decreases-loop-at : goal.decreases-loop-at
