@@ -7,7 +7,8 @@ use Rattle.std.proofs.lemmas.Map.Keys.{IsDistinct-head, IsDistinct-tail}
 use Rattle.flux_values.specs.Cells.{CellMap, no_cell}
 use Rattle.flux_model.specs.declared.journals.Key.{Key}
 use Rattle.flux_cells.specs.Kept.{Kept, kept_at, cells_of, NoneIsEmpty}
-use Rattle.flux_cells.proofs.Keys.{IsChanged, key_cmp, key_cmp_same, kept_there, kept_else, key_cases, same_key_turned}
+use Rattle.flux_model.proofs.Keys.{key_cmp, key_cmp_same, key_cases, same_key_turned}
+use Rattle.flux_cells.proofs.Keys.{IsChanged, kept_there, kept_else}
 
 -- each key is kept once
 abbrev pub KeysDiffer : Kept → Type 0
@@ -46,7 +47,7 @@ copied_more all rest now after key cell copied changed = record {
   at = λ q. key_cases {P = kept_at all q ≡ or_kept (kept_at rest q) (kept_at after q)} key q
       (λ same e. copied.at q ∙ ap (λ (b : Bool). or_kept (cond b (Some cell) (kept_at rest q)) (kept_at now q)) (same_key_turned q key ∙ e)
       ∙ sym (ap (λ (o : Option CellMap). or_kept o (kept_at after q)) (ap (kept_at rest) (sym same) ∙ copied.differ.0) ∙ kept_there now after key (Some cell) changed q e))
-      (λ apart. copied.at q ∙ ap (λ (b : Bool). or_kept (cond b (Some cell) (kept_at rest q)) (kept_at now q)) (same_key_turned q key ∙ apart)
+      (λ apart _. copied.at q ∙ ap (λ (b : Bool). or_kept (cond b (Some cell) (kept_at rest q)) (kept_at now q)) (same_key_turned q key ∙ apart)
       ∙ ap (or_kept (kept_at rest q)) (sym (kept_else now after key (Some cell) changed q apart)));
 }
 

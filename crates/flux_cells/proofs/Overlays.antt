@@ -13,7 +13,7 @@ use Rattle.flux_model.specs.CellsAfter.{is_named, put_under}
 use Rattle.flux_cells.specs.Applied.{class_of, key_named, applied}
 use Rattle.flux_cells.specs.steps.Settling.{Touched, keys_in, overlay, with_put, with_puts}
 use Rattle.flux_cells.proofs.CellLemmas.{none_some}
-use Rattle.flux_cells.proofs.Keys.{key_cases, same_key_is, same_key_turned}
+use Rattle.flux_model.proofs.Keys.{key_cases, same_key_is, same_key_turned}
 
 -- ---- one put
 
@@ -125,7 +125,7 @@ over_later p copy touched after cells put (Some key) named other rest = λ i q.
       | true ↦ λ same.
           let apart : same_key key q ≡ false = key_cases {P = same_key key q ≡ false} key q
           (λ here _. absurd (false≢true (sym other ∙ ap (λ k. is_named put.cell (class_of p k)) (sym (here ∙ same_key_is q copy.0 same)) ∙ named key refl)))
-          (λ e. e) in
+          (λ e _. e) in
           over_first copy after cells q same ∙ sym (ap (λ (b : Bool). cond b (changed (overlay (copy ∷ touched) cells q) put.name put.value) (overlay (copy ∷ touched) cells q)) apart ∙ over_first copy touched cells q same)
       | false ↦ λ apart. over_rest copy after cells q apart ∙ ap (λ (under : Cells). under q) rest
           ∙ ap (λ cell. cond (same_key key q) (changed cell put.name put.value) cell) (sym (over_rest copy touched cells q apart))

@@ -11,7 +11,8 @@ use Rattle.flux_model.specs.Keys.{same_key}
 use Rattle.flux_cells.specs.Kept.{Kept, kept_at, cells_of, NoneIsEmpty}
 use Rattle.flux_cells.specs.steps.Settling.{Touched, keys_in, overlay, AreKept, EmptyOnlyAt}
 use Rattle.flux_cells.proofs.CellLemmas.{none_some}
-use Rattle.flux_cells.proofs.Keys.{IsChanged, kept_there, kept_else, cells_same, key_cases, key_apart, same_key_turned, same_key_itself}
+use Rattle.flux_model.proofs.Keys.{key_cases, key_apart, same_key_turned, same_key_itself}
+use Rattle.flux_cells.proofs.Keys.{IsChanged, kept_there, kept_else, cells_same}
 
 -- ---- room
 
@@ -41,7 +42,7 @@ room_there old now keys place d room within there = record { same = room.same; e
 still_kept : (now after : Kept) (key : Key) (cell : CellMap) → IsChanged now after key (Some cell) → (q : Key) → IsSome (kept_at now q) → IsSome (kept_at after q)
 still_kept now after key cell changed q is = key_cases {P = IsSome (kept_at after q)} key q
     (λ _ e. subst IsSome (sym (kept_there now after key (Some cell) changed q e)) refl)
-    (λ apart. subst IsSome (sym (kept_else now after key (Some cell) changed q apart)) is)
+    (λ apart _. subst IsSome (sym (kept_else now after key (Some cell) changed q apart)) is)
 
 -- the key gets an empty one
 pub room_more : (old now after : Kept) (keys : List Key) (place : ℕ) (d : Key) → HasRoom old now keys place → place < length keys
@@ -50,7 +51,7 @@ room_more old now after keys place d room within none changed = record {
   same = cells_same now after (get_or keys place d) (Some no_cell) changed (sym (ap (λ (o : Option CellMap). unwrap_or o no_cell) none)) ∙ room.same;
   empty = λ q is. key_cases {P = Contains keys q} (get_or keys place d) q
       (λ same _. subst (Contains keys) same (Contains-get_or keys place d within))
-      (λ apart. room.empty q (sym (kept_else now after (get_or keys place d) (Some no_cell) changed q apart) ∙ is));
+      (λ apart _. room.empty q (sym (kept_else now after (get_or keys place d) (Some no_cell) changed q apart) ∙ is));
   kept = kept_more after keys place d within (λ q is. still_kept now after (get_or keys place d) no_cell changed q (room.kept q is))
       (subst IsSome (sym (kept_there now after (get_or keys place d) (Some no_cell) changed (get_or keys place d) (same_key_itself (get_or keys place d)))) refl);
 }
@@ -87,7 +88,7 @@ swept_out old now after keys place d swept within empty changed = record {
   same = cells_same now after (get_or keys place d) None changed (sym (ap (λ (o : Option CellMap). unwrap_or o no_cell) empty)) ∙ swept.same;
   empty = λ q is. key_cases {P = Contains (drop (place + 1) keys) q} (get_or keys place d) q
       (λ _ e. none_some no_cell (sym (kept_there now after (get_or keys place d) None changed q e) ∙ is))
-      (λ apart. later keys place d q within (swept.empty q (sym (kept_else now after (get_or keys place d) None changed q apart) ∙ is)) (key_apart _ q apart));
+      (λ apart _. later keys place d q within (swept.empty q (sym (kept_else now after (get_or keys place d) None changed q apart) ∙ is)) (key_apart _ q apart));
 }
 
 pub swept_all : (old now : Kept) (keys : List Key) → IsSwept old now keys (length keys) → NoneIsEmpty now
@@ -141,7 +142,7 @@ placed_more old now after all rest less key copy placed last changed =
       among = λ q is. placed.among q (front q is);
       empty = λ q is. key_cases {P = Contains (keys_in all) q} key q
           (λ same _. subst (Contains (keys_in all)) same (placed.among key (subst (λ ks. Contains ks key) (sym keys) (Contains-push (keys_in less) key))))
-          (λ apart. placed.empty q (sym (kept_else now after key (Some copy) changed q apart) ∙ is));
+          (λ apart _. placed.empty q (sym (kept_else now after key (Some copy) changed q apart) ∙ is));
     }
 
 pub placed_there : (old now : Kept) (all rest less : Touched) (key : Key) (copy : CellMap) → IsPlaced old now all rest → rest ≡ less ++ (key, copy) ∷ [] → IsSome (kept_at now key)

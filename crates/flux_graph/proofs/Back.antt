@@ -10,12 +10,12 @@ use Rattle.flux_model.specs.Children.{IsIn}
 use Rattle.flux_graph.specs.declared.steps.Step.{Step}
 use Rattle.flux_graph.specs.declared.steps.Step.TheVariants.{Enter, Leave}
 use Rattle.flux_graph.specs.declared.returning.Return.{Return}
-use Rattle.flux_graph.specs.steps.Visits.{IsKnown, with_number}
+use Rattle.flux_model.specs.Visits.{IsKnown, with_number}
 use Rattle.flux_model.specs.Ordering.{AreDistinct, IsLed, LeadsOn, HasCycle, IsLowestCycle}
 use Rattle.flux_graph.specs.steps.Searching.{enters, leaves_of}
 use Rattle.flux_graph.specs.steps.Search.{LeadToNodes, FollowsOn, AreLed}
 use Rattle.flux_graph.specs.steps.Returning.{IsAhead, BeginsWith, moved, and_step, Seeks, IsAfter, IsWayBack}
-use Rattle.flux_graph.proofs.Visiting.{known_or, known_more, known_new}
+use Rattle.flux_model.proofs.Visiting.{known_or, known_more, known_new}
 use Rattle.std.proofs.Math.Nat.{eq-or-lt_of_le}
 use Rattle.std.proofs.lemmas.Bool.{cases_lt}
 use Rattle.flux_model.proofs.LeadingLemmas.{leads_on-within}

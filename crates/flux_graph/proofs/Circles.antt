@@ -9,7 +9,7 @@ use Rattle.flux_graph.specs.declared.steps.Step.{Step}
 use Rattle.flux_graph.specs.declared.steps.Step.TheVariants.{Enter, Leave}
 use Rattle.flux_graph.specs.declared.ordering.Search.{Search}
 use Rattle.flux_model.specs.Leading.{leads_in}
-use Rattle.flux_graph.specs.steps.Visits.{IsKnown}
+use Rattle.flux_model.specs.Visits.{IsKnown}
 use Rattle.flux_model.specs.Ordering.{IsLed, HasCycle}
 use Rattle.flux_graph.specs.steps.Searching.{leaves_of}
 use Rattle.flux_graph.specs.steps.Search.{FollowsOn, AreLed, Holds, with_step}

@@ -7,9 +7,9 @@ use Rattle.flux_model.specs.declared.programs.Node.{Node}
 use Rattle.flux_model.specs.Leading.{leads_in}
 use Rattle.flux_model.specs.Children.{IsIn}
 use Rattle.flux_model.specs.Ordering.{IsLed, LeadsOn}
-use Rattle.flux_graph.specs.steps.Visits.{IsKnown, with_number, with_all}
+use Rattle.flux_model.specs.Visits.{IsKnown, with_number, with_all}
 use Rattle.flux_graph.specs.steps.Clearing.{leads_at, AreClosed, AreOnNoCycle}
-use Rattle.flux_graph.proofs.Visiting.{known_or, known_more, all_more, all_new, place_number, place_all, Stands, known_place, place_known, at_place}
+use Rattle.flux_model.proofs.Visiting.{known_or, known_more, all_more, all_new, place_number, place_all, Stands, known_place, place_known, at_place}
 use Rattle.flux_graph.proofs.Moves.{not_known}
 
 -- ---- visiting onward

@@ -48,6 +48,10 @@ none_yet : (count : ℕ) → Few count []
 unfolding IsDistinct
 none_yet count = record { distinct = tt; within = λ x k. absurd cc }
 
+-- an order lists no more than the nodes
+pub order-within : (nodes : List Node) (order : List NodeNo) → IsOrder nodes order → length order ≤ length nodes
+order-within nodes order is = let few = few_more nodes [] order is.after (none_yet (length nodes)) in omega (arith, few)
+
 -- ---- a rule
 
 module _ {X : Type 0} (none : X) (rule : Rule X) (looks : LooksDown rule) (nodes : List Node) where
@@ -83,7 +87,7 @@ module _ {X : Type 0} (none : X) (rule : Rule X) (looks : LooksDown rule) (nodes
   -- through all nodes the rule is kept
   pub through-rule : (order : List NodeNo) → IsOrder nodes order → (number : ℕ) (node : Node) → slice_get nodes number ≡ Some node → through none rule nodes number ≡ rule (through none rule nodes) number node
   through-rule order is number node at =
-      let few = few_more nodes [] order is.after (none_yet (length nodes)) in
+      let few = order-within nodes order is in
       let inside : number < length nodes = slice_get_within nodes number node at in
       settled_all 0 [] order is.after (λ x i. absurd i) number (inl (is.each number inside)) (length nodes) (suc (length nodes)) (omega (arith, few)) (omega (arith, few))
       ∙ ap (for_node none (rule (through none rule nodes) number)) at

@@ -15,9 +15,9 @@ use Rattle.flux_model.proofs.NodeLists.{in_front, in_behind, in_either}
 use Rattle.flux_model.proofs.LeadingLemmas.{leads-within}
 use Rattle.flux_model.proofs.BelowLemmas.{below-member, below-led, below-by_leading, below-within}
 use Rattle.flux_graph.specs.Below.{IsRising, AreBelow}
-use Rattle.flux_graph.specs.steps.Visits.{IsKnown, with_all}
+use Rattle.flux_model.specs.Visits.{IsKnown, with_all}
 use Rattle.flux_graph.specs.steps.Descending.{LeadDown, IsOnTheWay, Has, among}
-use Rattle.flux_graph.proofs.Visiting.{all_more, all_new, all_or}
+use Rattle.flux_model.proofs.Visiting.{all_more, all_new, all_or}
 use Rattle.flux_graph.proofs.Moves.{not_known}
 
 -- ---- an order from its end

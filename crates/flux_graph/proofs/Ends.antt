@@ -8,7 +8,7 @@ use Rattle.flux_model.specs.Leading.{leads_in}
 use Rattle.flux_model.specs.Children.{IsIn}
 use Rattle.flux_graph.specs.declared.steps.Step.{Step}
 use Rattle.flux_graph.specs.declared.ordering.Search.{Search}
-use Rattle.flux_graph.specs.steps.Visits.{IsKnown, with_number}
+use Rattle.flux_model.specs.Visits.{IsKnown, with_number}
 use Rattle.flux_model.specs.Ordering.{ComeAfter, AreDistinct, IsOrder, IsLed, HasCycle}
 use Rattle.flux_graph.specs.steps.Searching.{enters, leaves_of, numbered}
 use Rattle.flux_graph.specs.steps.Search.{LeadToNodes, HasStep, Covered, AreLed, Holds, IsBegun, IsNext, entered}

@@ -1,4 +1,3 @@
-pub mod Visiting
 pub mod Stepping
 pub mod Finding
 pub mod Moves

@@ -10,11 +10,11 @@ use Rattle.flux_model.specs.Children.{IsIn}
 use Rattle.flux_graph.specs.declared.steps.Step.{Step}
 use Rattle.flux_graph.specs.declared.steps.Step.TheVariants.{Enter, Leave}
 use Rattle.flux_graph.specs.declared.ordering.Search.{Search}
-use Rattle.flux_graph.specs.steps.Visits.{IsKnown, with_number}
+use Rattle.flux_model.specs.Visits.{IsKnown, with_number}
 use Rattle.flux_model.specs.Ordering.{AreDistinct}
 use Rattle.flux_graph.specs.steps.Searching.{enters, leaves_of}
 use Rattle.flux_graph.specs.steps.Search.{LeadToNodes, HasStep, Covered, FollowsOn, AreLed, Holds, left, entered, with_step}
-use Rattle.flux_graph.proofs.Visiting.{known_or, known_more, known_new}
+use Rattle.flux_model.proofs.Visiting.{known_or, known_more, known_new}
 use Rattle.flux_model.proofs.LeadingLemmas.{led-below_count}
 use Rattle.flux_model.proofs.NodeLists.{in_front, in_behind, in_either}
 use Rattle.flux_graph.proofs.Stepping as stepping

@@ -1,4 +1,3 @@
-pub mod Visits
 pub mod Searching
 pub mod Search
 pub mod Stops

@@ -7,13 +7,12 @@ ghost use Rattle.flux_model.specs.Leading.{members_of};
 ghost use Rattle.flux_model.specs.Numbered.{IsNumbered};
 ghost use Rattle.flux_model.specs.Ordering.{IsOrder};
 ghost use Rattle.flux_graph.specs.Below.{AreBelow};
-ghost use Rattle.flux_graph.specs.steps.Visits.{with_all};
+ghost use Rattle.flux_model.specs.Visits.{with_all};
 ghost use Rattle.flux_graph.specs.steps.Descending.{Has, among};
 
 use crate::orders::Order;
 use crate::steps::leads_in;
-use crate::visits::Visits;
-use flux_model::{Body, Case, NodeNo, Program};
+use flux_model::{Body, Case, NodeNo, Program, Visits};
 use flux_values::{List, Memory};
 use std::alloc::Global;
 

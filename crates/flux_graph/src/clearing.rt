@@ -6,13 +6,12 @@
 
 ghost use Rattle.std.specs.Prelude.{◌≡◌, ◌≤◌, length, OnOk, IfOk, slice_get};
 ghost use Rattle.flux_model.specs.declared.programs.TheConstants.{COUNT_LIMIT};
-ghost use Rattle.flux_graph.specs.steps.Visits.{IsKnown, with_all};
+ghost use Rattle.flux_model.specs.Visits.{IsKnown, with_all};
 ghost use Rattle.flux_graph.specs.steps.Clearing.{leads_at, AreClosed, AreOnNoCycle, IsClearing};
 
 use crate::leaving::leaving_order;
 use crate::steps::leads_in;
-use crate::visits::Visits;
-use flux_model::{Node, NodeNo};
+use flux_model::{Node, NodeNo, Visits};
 use flux_values::Memory;
 use std::alloc::Global;
 

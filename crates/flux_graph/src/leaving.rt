@@ -8,8 +8,7 @@ ghost use Rattle.std.specs.Prelude.{◌≤◌, length};
 ghost use Rattle.flux_model.specs.declared.programs.TheConstants.{COUNT_LIMIT};
 
 use crate::steps::{Step, enter_all, enter_below};
-use crate::visits::Visits;
-use flux_model::{Node, NodeNo};
+use flux_model::{Node, NodeNo, Visits};
 use flux_values::{List, Memory};
 use std::alloc::Global;
 

@@ -15,7 +15,6 @@ mod returning;
 mod steps;
 #[cfg(test)]
 mod tests;
-mod visits;
 
 pub use children::below;
 pub use ordering::order;

@@ -12,8 +12,7 @@ ghost use Rattle.flux_graph.specs.steps.Search.{IsBegun, left, entered, Holds, I
 use crate::orders::{GraphFault, Order};
 use crate::returning::lowest_cycle;
 use crate::steps::{Step, enter_all, enter_below, leads_in};
-use crate::visits::Visits;
-use flux_model::{Node, NodeNo, Program};
+use flux_model::{Node, NodeNo, Program, Visits};
 use flux_values::{List, Memory};
 use std::alloc::Global;
 

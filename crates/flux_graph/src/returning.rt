@@ -10,8 +10,7 @@ ghost use Rattle.flux_graph.specs.steps.Returning.{moved, Seeks, IsAfter, IsBack
 
 use crate::clearing::cleared;
 use crate::steps::{Step, enter_all, leads_in, leaves};
-use crate::visits::Visits;
-use flux_model::{Node, NodeNo};
+use flux_model::{Node, NodeNo, Visits};
 use flux_values::{List, Memory};
 use std::alloc::Global;
 

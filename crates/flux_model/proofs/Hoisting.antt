@@ -1,5 +1,5 @@
--- The law of hoisting: the locks are closed, have what is declared, and are the least that do.
-use Rattle.std.proofs.Common.{◌≡◌, ◌≤◌, ℕ, true, inl, inr, List, [], ◌∷◌, ◌++◌, refl, arith}
+-- The law of hoisting: the locks are closed, have what is declared, and are the least that do. They are one assignment.
+use Rattle.std.proofs.Common.{◌≡◌, ◌≤◌, ℕ, true, inl, inr, List, refl, sym, subst, arith}
 use Rattle.std.specs.List.{Contains}
 use Rattle.flux_values.specs.declared.answers.Mode.{Mode}
 use Rattle.flux_values.specs.declared.answers.Mode.TheVariants.{Reader, Writer}
@@ -8,8 +8,9 @@ use Rattle.flux_model.specs.declared.programs.Hold.{Hold}
 use Rattle.flux_model.specs.declared.programs.Program.{Program}
 use Rattle.flux_model.specs.Modes.{at_least}
 use Rattle.flux_model.specs.Children.{IsBelow}
-use Rattle.flux_model.specs.Locks.{declared, HasClass, DeclaresBelow, DeclaresPast, IsLocked, DeclaresHere, IsGreatest, AreLocksOf, Holds, AreLocks, HasAtLeast, IsClosed, HasDeclared, IsAtMost, IsLeastClosed}
+use Rattle.flux_model.specs.Locks.{declared, DeclaresPast, IsLocked, DeclaresHere, IsGreatest, AreLocksOf, Holds, AreLocks, HasAtLeast, IsClosed, HasDeclared, IsAtMost, IsLeastClosed}
 use Rattle.flux_model.proofs.BelowLemmas.{below-transitive}
+use Rattle.flux_model.proofs.RisingHolds.{rising_same}
 
 -- of three modes
 pub at_least_on : (a b c : Mode) → at_least a b ≡ true → at_least b c ≡ true → at_least a c ≡ true
@@ -81,3 +82,25 @@ least_closed p locks are = record {
   declares = declares_own p locks are;
   least = λ others other_closed other_declares. least p locks are others other_closed other_declares;
 }
+
+-- ---- a program's nodes have only one list of locks each
+
+at_least_both : (a b : Mode) → at_least a b ≡ true → at_least b a ≡ true → a ≡ b
+at_least_both Reader Reader x y = refl
+at_least_both Reader Writer x y = absurd cc
+at_least_both Writer Reader x y = absurd cc
+at_least_both Writer Writer x y = refl
+
+locked_in : (p : Program) (node : ℕ) (hs is : List Hold) → AreLocksOf p node hs → AreLocksOf p node is → (h : Hold) → Contains hs h → Contains is h
+locked_in p node hs is a b h c =
+    let (mode, has) = b.has h.class (a.only h c) in
+    let mine = a.modes h c in
+    let other = b.modes (record { class = h.class; mode = mode }) has in
+    let same = at_least_both h.mode mode (mine.greatest mode other.declares) (other.greatest h.mode mine.declares) in
+    subst (λ (m : Mode). Contains is (record { class = h.class; mode = m })) (sym same) has
+
+pub locks_of_once : (p : Program) (node : ℕ) (hs is : List Hold) → AreLocksOf p node hs → AreLocksOf p node is → hs ≡ is
+locks_of_once p node hs is a b = rising_same hs is a.rising b.rising (locked_in p node hs is a b) (locked_in p node is hs b a)
+
+pub locks_once : (p : Program) (locks others : Holds) → AreLocks p locks → AreLocks p others → locks ≡ others
+locks_once p locks others a b = λ i node. locks_of_once p node (locks node) (others node) (a node) (b node) i

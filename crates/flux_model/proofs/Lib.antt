@@ -1,4 +1,7 @@
 pub mod Hoisting
+pub mod Keys
 pub mod NodeLists
+pub mod RisingHolds
 pub mod LeadingLemmas
 pub mod BelowLemmas
+pub mod Visiting

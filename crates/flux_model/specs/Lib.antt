@@ -25,3 +25,4 @@ pub mod Items
 pub mod Texts
 pub mod Types
 pub mod Examples
+pub mod Visits

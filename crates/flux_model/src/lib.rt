@@ -12,6 +12,7 @@ mod programs;
 mod signatures;
 #[cfg(test)]
 mod tests;
+mod visits;
 
 pub use flux_values::{Answer, CallResult, Cell, Mode, Put};
 pub use journals::{CallMade, Entry, Event, FlowNo, Item, Journal, Key, Outcome};
@@ -23,3 +24,4 @@ pub use programs::{
     SourceNo,
 };
 pub use signatures::{NodeSig, Sigs, TypeText, same_types};
+pub use visits::Visits;

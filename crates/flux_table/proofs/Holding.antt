@@ -9,6 +9,7 @@ use Rattle.flux_values.specs.declared.answers.Mode.{Mode}
 use Rattle.flux_values.specs.declared.answers.Mode.TheVariants.{Reader, Writer}
 use Rattle.flux_model.specs.declared.journals.FlowNo.{FlowNo}
 use Rattle.flux_model.specs.Modes.{conflict}
+use Rattle.flux_model.proofs.Keys.{cmp_eqb}
 use Rattle.flux_table.specs.declared.locks.Held.{Held}
 use Rattle.flux_table.specs.declared.locks.Waiter.{Waiter}
 use Rattle.flux_table.specs.Locks.{Holding, held_by, IsPeaceful}
@@ -30,13 +31,6 @@ conflict_beside Reader Writer mode e h = absurd (cc)
 conflict_beside Reader Reader mode e h = e
 
 -- ---- look-ups in the map of holders
-
-pub cmp_eqb : (a b : ℕ) → is_eq (nat_cmp a b) ≡ eqb a b
-cmp_eqb a b =
-    elim (ltb a b) as (λ l. ltb a b ≡ l → is_eq (cond l Less (cond (eqb a b) Equal Greater)) ≡ eqb a b) [
-      | true ↦ λ less. sym (ne_eqb a b (λ same. absurd (omega (arith, ltb-true a b less))))
-      | false ↦ λ _. elim (eqb a b) as (λ e. is_eq (cond e Equal Greater) ≡ e) [ true ↦ refl | false ↦ refl ]
-    ] refl
 
 -- a look-up by the order of flows
 abbrev pub found : List (FlowNo × Held) → ℕ → Option Held

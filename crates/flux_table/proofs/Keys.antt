@@ -1,56 +1,17 @@
 -- Look-ups in the map of locks, and what a change there does to the two maps.
 use Rattle.std.proofs.Common.{◌≡◌, ℕ, Bool, true, false, ◌&&◌, cond, eqb, [], ◌∷◌, ◌++◌, Option, Some, None, Result, Ok, Err, refl, sym, ap, ◌∙◌}
-use Rattle.std.specs.declared.cmp.Ordering.{Ordering}
-use Rattle.std.specs.declared.cmp.Ordering.TheVariants.{Less, Equal, Greater}
-use Rattle.std.specs.Ordering.{nat_cmp, is_eq, ordering_then}
-use Rattle.std.specs.Option.{option_cmp}
+use Rattle.std.specs.Ordering.{is_eq}
 use Rattle.std.specs.Prelude.{OnOk}
 use Rattle.std.specs.Map.{lookup, set_value}
 use Rattle.std.proofs.lemmas.Map.Steps.{set_value_same}
-use Rattle.std.proofs.lemmas.Bool.{and_parts, eqb-true}
 use Rattle.flux_values.specs.declared.answers.Mode.{Mode}
 use Rattle.flux_model.specs.declared.journals.FlowNo.{FlowNo}
 use Rattle.flux_model.specs.declared.journals.Key.{Key}
-use Rattle.flux_model.specs.Keys.{same_key, same_id}
+use Rattle.flux_model.specs.Keys.{same_key}
+use Rattle.flux_model.proofs.Keys.{key_cmp, key_cmp_same, same_key_is}
 use Rattle.flux_table.specs.Locks.{LockState, held_by}
 use Rattle.flux_table.specs.Tables.{Locks, lock_at, holders_of, lines_of, holding_in, line_in}
 use Rattle.flux_table.specs.Changes.{with_held, with_holding, with_line, one_more, one_less, line_without, Takes, Waits, Releases}
-use Rattle.flux_table.proofs.Holding.{cmp_eqb}
-
--- ---- keys
-
-abbrev pub key_cmp : Key → Key → Ordering
-key_cmp a b = ordering_then (nat_cmp a.class.0 b.class.0) (option_cmp nat_cmp a.id b.id)
-
-is_eq_then : (a b : Ordering) → is_eq (ordering_then a b) ≡ (is_eq a && is_eq b)
-is_eq_then Less b = refl
-is_eq_then Equal b = refl
-is_eq_then Greater b = refl
-
-id_cmp : (a b : Option ℕ) → is_eq (option_cmp nat_cmp a b) ≡ same_id a b
-id_cmp None None = refl
-id_cmp None (Some b) = refl
-id_cmp (Some a) None = refl
-id_cmp (Some a) (Some b) = cmp_eqb a b
-
-pub key_cmp_same : (a b : Key) → is_eq (key_cmp a b) ≡ same_key a b
-key_cmp_same a b =
-    is_eq_then (nat_cmp a.class.0 b.class.0) (option_cmp nat_cmp a.id b.id)
-    ∙ ap (λ (t : Bool). t && is_eq (option_cmp nat_cmp a.id b.id)) (cmp_eqb a.class.0 b.class.0)
-    ∙ ap (λ (t : Bool). eqb a.class.0 b.class.0 && t) (id_cmp a.id b.id)
-
-same_id_is : (a b : Option ℕ) → same_id a b ≡ true → a ≡ b
-same_id_is None None same = refl
-same_id_is None (Some b) same = absurd (cc)
-same_id_is (Some a) None same = absurd (cc)
-same_id_is (Some a) (Some b) same = ap Some (eqb-true a b same)
-
-pub same_key_is : (a b : Key) → same_key a b ≡ true → a ≡ b
-same_key_is a b same =
-    let parts = and_parts _ _ same in
-    λ i. record { class = record { 0 = eqb-true a.class.0 b.class.0 parts.0 i }; id = same_id_is a.id b.id parts.1 i }
-
--- ---- look-ups
 
 abbrev pub found : Locks → Key → Option LockState
 found locks key = lookup (λ other. is_eq (key_cmp key other)) locks

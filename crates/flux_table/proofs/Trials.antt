@@ -16,7 +16,7 @@ use Rattle.flux_table.specs.Tables.{Locks, lines_of}
 use Rattle.flux_table.specs.Blockers.{StandsOnlyAt}
 use Rattle.flux_table.specs.Changes.{line_without, Takes, Waits, Follows}
 use Rattle.flux_table.specs.steps.Stood.{HaveStood}
-use Rattle.flux_table.proofs.Keys.{same_key_is}
+use Rattle.flux_model.proofs.Keys.{same_key_is}
 use Rattle.flux_table.proofs.Orderly.{contains_without}
 
 -- a line that has no new waiters

@@ -6,7 +6,7 @@ use Rattle.flux_model.specs.Leading.{leads_in}
 use Rattle.flux_model.specs.Children.{IsIn}
 use Rattle.flux_model.specs.Ordering.{LeadsOn}
 use Rattle.flux_graph.specs.declared.clearing.Clearing.{Clearing}
-use Rattle.flux_graph.specs.steps.Visits.{IsKnown}
+use Rattle.flux_model.specs.Visits.{IsKnown}
 
 -- what the node of a number leads to, if there is one
 abbrev pub leads_at : List Node → Option ℕ → List NodeNo

@@ -6,7 +6,7 @@ use Rattle.flux_model.specs.declared.programs.Node.{Node}
 use Rattle.flux_model.specs.declared.programs.Program.{Program}
 use Rattle.flux_model.specs.Leading.{leads_in}
 use Rattle.flux_model.specs.Children.{IsIn, IsBelow, members}
-use Rattle.flux_graph.specs.steps.Visits.{IsKnown}
+use Rattle.flux_model.specs.Visits.{IsKnown}
 
 -- each leads to nothing but what comes behind it
 abbrev pub LeadDown : List Node → List NodeNo → Type 0

@@ -8,7 +8,7 @@ use Rattle.flux_graph.specs.declared.steps.Step.{Step}
 use Rattle.flux_graph.specs.declared.steps.Step.TheVariants.{Enter, Leave}
 use Rattle.flux_graph.specs.declared.returning.Return.{Return}
 use Rattle.flux_model.specs.Leading.{leads_in}
-use Rattle.flux_graph.specs.steps.Visits.{IsKnown, with_number}
+use Rattle.flux_model.specs.Visits.{IsKnown, with_number}
 use Rattle.flux_model.specs.Ordering.{AreDistinct, IsLed, LeadsOn}
 use Rattle.flux_graph.specs.steps.Searching.{enters, leaves_of}
 use Rattle.flux_graph.specs.steps.Search.{AreLed}

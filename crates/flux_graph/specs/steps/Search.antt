@@ -9,7 +9,7 @@ use Rattle.flux_graph.specs.declared.steps.Step.TheVariants.{Enter, Leave}
 use Rattle.flux_graph.specs.declared.ordering.Search.{Search}
 use Rattle.flux_model.specs.Leading.{leads_to, leads_in}
 use Rattle.flux_model.specs.Numbered.{AreBelow}
-use Rattle.flux_graph.specs.steps.Visits.{IsKnown, with_number}
+use Rattle.flux_model.specs.Visits.{IsKnown, with_number}
 use Rattle.flux_model.specs.Ordering.{ComeAfter, AreDistinct}
 use Rattle.flux_graph.specs.steps.Searching.{enters, leaves_of, numbered}
 

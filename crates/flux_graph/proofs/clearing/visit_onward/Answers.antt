@@ -1,5 +1,5 @@
 use Rattle.std.proofs.Common.{arith}
-use Rattle.flux_graph.proofs.Visiting.{known_new, all_more}
+use Rattle.flux_model.proofs.Visiting.{known_new, all_more}
 use Rattle.flux_graph.proofs.ClearingLemmas.{closed_first, closed_more, closed_last}
 use Rattle.flux_graph.specs.steps.Clearing.{leads_at}
 use Rattle.std.specs.List.{slice_get}

@@ -1,5 +1,5 @@
 use Rattle.std.proofs.Common.{◌-◌}
-use Rattle.flux_graph.specs.steps.Visits.{IsKnown}
+use Rattle.flux_model.specs.Visits.{IsKnown}
 use Rattle.flux_graph.specs.steps.Clearing.{AreClosed}
 use Rattle.flux_graph.proofs.ClearingLemmas.{AreClosedBelow}
 use Rattle.flux_graph.proofs.clearing.visit_onward.Given as goal

@@ -2,7 +2,7 @@ use Rattle.std.proofs.Common.{◌≡◌, ◌∙◌, eqb, true, sym, subst}
 use Rattle.std.specs.List.{list_any, list_all}
 use Rattle.flux_model.specs.Leading.{leads_in}
 use Rattle.flux_graph.specs.steps.Clearing.{IsClearing}
-use Rattle.flux_graph.proofs.Visiting.{all_known}
+use Rattle.flux_model.proofs.Visiting.{all_known}
 use Rattle.flux_graph.proofs.ClearingLemmas.{cleared_more, on_ok}
 use Rattle.flux_graph.proofs.clearing.Clearing.visit.Goals as goal
 use Rattle.flux_graph.proofs.clearing.Clearing.visit.Goals.{then-has_all+in_ok-add, else-has_all}

@@ -1,10 +1,10 @@
-//! Nodes that have been visited, each once, in the order of their first visits.
+//! Numbers of nodes that have been visited, each once, in the order of their first visits.
 
 ghost use Rattle.std.specs.Prelude.{◌≡◌, [], OnOk, length, slice_get, nat_eq};
 ghost use Rattle.std.specs.List.{list_any, list_all};
-ghost use Rattle.flux_graph.specs.steps.Visits.{with_number, with_all};
+ghost use Rattle.flux_model.specs.Visits.{with_number, with_all};
 
-use flux_model::NodeNo;
+use crate::programs::NodeNo;
 use flux_values::Memory;
 use indexmap::IndexSet;
 use std::alloc::Global;

@@ -4,7 +4,7 @@ use Rattle.std.specs.List.{list_any, list_all, slice_get}
 use Rattle.std.proofs.lemmas.Bool.Decides.{nat_tests}
 use Rattle.flux_model.specs.declared.programs.NodeNo.{NodeNo}
 use Rattle.flux_model.specs.Children.{IsIn}
-use Rattle.flux_graph.specs.steps.Visits.{IsKnown, with_number, with_all}
+use Rattle.flux_model.specs.Visits.{IsKnown, with_number, with_all}
 
 -- ---- what is known
 
@@ -85,7 +85,8 @@ all_known v (n ∷ nodes) all x i = one (list_any (eqb n.0) v) refl all (λ more
 
 -- ---- places stay
 
-place_append : (a b : List ℕ) (i x : ℕ) → slice_get a i ≡ Some x → slice_get (a ++ b) i ≡ Some x
+-- a number keeps its place before others
+pub place_append : (a b : List ℕ) (i x : ℕ) → slice_get a i ≡ Some x → slice_get (a ++ b) i ≡ Some x
 place_append [] b i x e = absurd cc
 place_append (y ∷ a) b zero x e = e
 place_append (y ∷ a) b (suc i) x e = place_append a b i x e

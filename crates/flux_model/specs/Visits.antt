@@ -1,4 +1,4 @@
--- Mirrors of `Visits`: numbers, each once, in the order in which they came.
+-- Numbers that have been visited, each once, in the order in which they came.
 use Rattle.std.specs.Prelude.{◌≡◌, ℕ, nat_eq, true, List, [], ◌∷◌, ◌++◌, if◌then◌else◌}
 use Rattle.std.specs.List.{fold, list_any}
 use Rattle.flux_model.specs.declared.programs.NodeNo.{NodeNo}
