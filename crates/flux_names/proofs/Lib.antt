@@ -1,4 +1,3 @@
-pub mod Keys
 pub mod Symbols
 pub mod Twice
 pub mod Canonical

@@ -5,7 +5,7 @@ ghost use Rattle.flux_syntax.specs.ProgramOfText.{insert_class, class_of, constr
 ghost use Rattle.flux_names.specs.Rows.{word_if, class_words};
 ghost use Rattle.flux_names.specs.steps.Classes.{has_class, classes_after, words_by};
 
-use crate::tables::{Words, copied_name};
+use crate::words::{Words, copied_name};
 use flux_model::Class;
 use flux_syntax::{Constraint, Decl};
 use flux_values::{List, Memory};

@@ -18,12 +18,14 @@ mod resolving;
 mod rows;
 mod signatures;
 mod sorts;
-mod tables;
 #[cfg(test)]
 mod tests;
 mod uses;
+mod words;
 
-pub use building::{first_constrained, first_patterned, first_unbuilt};
+pub use building::first_unbuilt;
 pub use flux_model::{Named, Sites};
+pub use places::{Place, with_word};
 pub use resolving::resolve;
 pub use rows::{CLASS_LIMIT, CODE_LIMIT, NODE_LIMIT};
+pub use signatures::library_node;

@@ -5,8 +5,7 @@ ghost use Rattle.std.specs.Prelude.{slice_set, slice_index_or};
 ghost use Rattle.flux_syntax.specs.Words.{names_of};
 ghost use Rattle.flux_names.specs.steps.Nodes.{subject, with_line, lines_of, lines_now};
 
-use crate::tables::Names;
-use flux_syntax::{Decl, Word};
+use flux_syntax::{Decl, Names, Word};
 use flux_values::Memory;
 use std::alloc::Global;
 use std::marker::Model;

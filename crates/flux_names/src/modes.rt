@@ -17,12 +17,8 @@ use std::cmp::Ordering;
 fn compare(class: &Class, constraint: &Constraint) -> Ordering
     ensures { result ≡ class_cmp class.now (class_of constraint.now) }
 {
-    let name = constraint.name.text.as_bytes();
-    class
-        .name
-        .as_bytes()
-        .cmp(name)
-        .then(class.session.cmp(&constraint.session))
+    let name = class.name.as_bytes().cmp(constraint.name.text.as_bytes());
+    name.then(class.session.cmp(&constraint.session))
 }
 
 /// Where the class of a constraint stands.

@@ -4,8 +4,8 @@ ghost use Rattle.std.specs.Prelude.{◌≡◌, ◌++◌, IfOk, OnOk, option_copi
 ghost use Rattle.flux_syntax.specs.Words.{and_name, unless_known, names_of, first_words};
 
 use crate::sorts::Sort;
-use crate::tables::{Names, Words};
-use flux_syntax::{Decl, Word};
+use crate::words::Words;
+use flux_syntax::{Decl, Names, Word};
 use flux_values::Memory;
 use std::alloc::Global;
 

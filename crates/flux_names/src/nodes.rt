@@ -13,9 +13,9 @@ ghost use Rattle.flux_names.specs.steps.Nodes.{lines_now, is_signature, cases_in
 use crate::codes::code_of;
 use crate::modes::declared;
 use crate::signatures::library_name;
-use crate::tables::{Names, copied_name};
+use crate::words::copied_name;
 use flux_model::{Body, Case, Class, HandleArm, Node, NodeNo};
-use flux_syntax::{Decl, Word};
+use flux_syntax::{Decl, Names, Word};
 use flux_values::{List, Memory, TextBytes};
 use std::alloc::Global;
 

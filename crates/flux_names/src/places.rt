@@ -6,8 +6,7 @@ ghost use Rattle.flux_syntax.specs.Least.{soonest};
 ghost use Rattle.flux_names.specs.Rows.{word_if};
 ghost use Rattle.flux_names.specs.steps.Picks.{picked, words_now};
 
-use crate::tables::Names;
-use flux_syntax::{Word, sooner};
+use flux_syntax::{Names, Word, sooner};
 
 /// The least place so far, from 0; None where there is none.
 pub type Place = Option<u32>;

@@ -18,9 +18,8 @@ use crate::lines::Lines;
 use crate::naming::NodeTable;
 use crate::nodes::{Tables, node_of, number_of, session_of};
 use crate::sorts::Sort;
-use crate::tables::Names;
 use flux_model::{Named, Node, Program, Sites, SourceLine};
-use flux_syntax::{Decl, Word};
+use flux_syntax::{Decl, Names, Word};
 use flux_values::{List, Memory, TextBytes};
 use std::alloc::Global;
 

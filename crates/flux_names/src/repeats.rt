@@ -9,8 +9,7 @@ ghost use Rattle.flux_names.specs.steps.Repeats.{repeated_in, and_plain};
 
 use crate::places::{Place, with_word};
 use crate::sorts::Sort;
-use crate::tables::Names;
-use flux_syntax::Decl;
+use flux_syntax::{Decl, Names};
 use flux_values::Memory;
 use std::alloc::Global;
 

@@ -7,10 +7,9 @@ ghost use Rattle.flux_names.specs.steps.Rows.{row_words};
 
 use crate::places::Place;
 use crate::signatures::{with_not_in, with_predicates, with_session, with_types, with_unlike};
-use crate::tables::Names;
 use crate::uses::{with_inner, with_not_sources, with_uses};
 use flux_library::Library;
-use flux_syntax::Decl;
+use flux_syntax::{Decl, Names};
 use flux_values::Memory;
 use std::alloc::Global;
 

@@ -10,9 +10,8 @@ ghost use Rattle.flux_names.specs.Rows.{unknown_type, unknown_types_in, library_
 ghost use Rattle.flux_names.specs.steps.Sorts.{names_by};
 
 use crate::places::{Place, with_listed, with_word};
-use crate::tables::Names;
 use flux_library::Library;
-use flux_syntax::{Decl, Param, Word};
+use flux_syntax::{Decl, Names, Param, Word};
 use flux_values::{Kind, Memory, Role, Sig};
 use std::alloc::Global;
 

@@ -3,8 +3,7 @@
 ghost use Rattle.std.specs.Prelude.{◌≡◌, option_copied, IfOk};
 ghost use Rattle.flux_names.specs.steps.Sorts.{word_of, names_by};
 
-use crate::tables::Names;
-use flux_syntax::{Decl, Word};
+use flux_syntax::{Decl, Names, Word};
 use flux_values::Memory;
 use std::alloc::Global;
 

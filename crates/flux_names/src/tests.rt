@@ -1,6 +1,6 @@
 //! Texts and their faults of names.
 
-use crate::{first_constrained, first_patterned, first_unbuilt, resolve};
+use crate::{first_unbuilt, resolve};
 use flux_faults::{CheckFault, FaultKind};
 use flux_library::{Basic, Library};
 use flux_model::{Body, Case, HandleArm, Hold, Mode, Named, Node};
@@ -525,38 +525,24 @@ fn each_node_is_made_from_all_its_lines(rt: HostRuntime) {
     assert!(rt; named.sites.handlers.as_slice() == [110, 227, 63].as_slice());
 }
 
-fn assert_places(rt: &impl Abort, alloc: Global, text: &[u8], wanted: [Option<u32>; 3]) {
+fn assert_place(rt: &impl Abort, alloc: Global, text: &[u8], wanted: Option<u32>) {
     match read(alloc, text) {
-        Ok(decls) => {
-            let [unbuilt, constrained, patterned] = wanted;
-            assert_eq!(rt; first_unbuilt(&decls), unbuilt, "{text:?}");
-            assert_eq!(rt; first_patterned(&decls), patterned, "{text:?}");
-            match first_constrained(alloc, &decls, &Tested) {
-                Ok(place) => assert_eq!(rt; place, constrained, "{text:?}"),
-                Err(_) => assert!(rt; false, "memory for {text:?}"),
-            }
-        }
+        Ok(decls) => assert_eq!(rt; first_unbuilt(&decls), wanted, "{text:?}"),
         Err(_) => assert!(rt; false, "{text:?} is no program"),
     }
 }
 
 #[test]
-fn the_first_line_of_a_form_is_found(rt: HostRuntime) {
+fn the_first_atomic_line_is_found(rt: HostRuntime) {
     let table = [
-        (SERVER, [None, None, None]),
-        (
-            b"A = ; typedef b C; handle error A => A;",
-            [Some(14), None, Some(32)],
-        ),
-        (b"handle error A => A;", [Some(13), None, Some(13)]),
-        (b"A = ; A:[_] = ;", [Some(6), None, Some(6)]),
-        (
-            b"A = ; atomic B:{x}; atomic C:{x};",
-            [Some(13), Some(13), None],
-        ),
-        (b"session A => B;", [Some(8), None, None]),
+        (SERVER, None),
+        (b"A = ; typedef b C; handle error A => A;", None),
+        (b"handle error A:(1) => A; A:[_] = ;", None),
+        (b"A:[_] = ; atomic B:{x}; atomic A:{x};", Some(17)),
+        (b"handle error A => A; atomic A:{x}; A = ;", Some(28)),
+        (b"session A => B; typedef b C; A = B -> C;", None),
     ];
     for (text, wanted) in table {
-        assert_places(&rt, rt.alloc(), text, wanted);
+        assert_place(&rt, rt.alloc(), text, wanted);
     }
 }

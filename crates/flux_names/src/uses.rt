@@ -7,8 +7,7 @@ ghost use Rattle.flux_names.specs.steps.Picks.{picked};
 
 use crate::places::{Place, with_listed, with_pick, with_picks};
 use crate::sorts::Sort;
-use crate::tables::Names;
-use flux_syntax::Decl;
+use flux_syntax::{Decl, Names};
 
 /// With the names where no source may stand, of those that are among names, or aren't.
 pub fn with_inner(place: Place, names: &Names, among: bool, decl: &Decl) -> Place

@@ -1,3 +1,4 @@
+pub mod BorrowedNames
 pub mod Onward
 pub mod Told
 pub mod Separated

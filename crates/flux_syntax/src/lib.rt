@@ -10,6 +10,7 @@ mod declarations;
 mod formatting;
 mod least;
 mod lists;
+mod names;
 mod parsing;
 mod reading;
 #[cfg(test)]
@@ -18,5 +19,6 @@ mod tests;
 pub use declarations::{Constraint, Decl, Param, Word};
 pub use formatting::format;
 pub use least::{fault_at, fault_or, sooner};
+pub use names::Names;
 pub use parsing::parse;
 pub use reading::read;

@@ -1,4 +1,3 @@
-pub mod Keys
 pub mod Lasts
 pub mod Looking
 pub mod Written

@@ -12,7 +12,6 @@ mod flows;
 mod predicates;
 mod signatures;
 mod sources;
-mod tables;
 #[cfg(test)]
 mod tests;
 mod typing;

@@ -4,9 +4,8 @@ ghost use Rattle.std.specs.Prelude.{◌≡◌, ◌∷◌, IfOk, OnOk, [], fold};
 ghost use Rattle.flux_types.specs.Rows.{predicates_of};
 ghost use Rattle.flux_types.specs.steps.Passing.{kind_in, with_predicate, with_typedef};
 
-use crate::tables::Names;
 use flux_library::Library;
-use flux_syntax::Decl;
+use flux_syntax::{Decl, Names};
 use flux_values::{Kind, List, Memory};
 use std::alloc::Global;
 

@@ -6,11 +6,10 @@ ghost use Rattle.flux_model.specs.Kinds.{sig_at};
 ghost use Rattle.flux_types.specs.Signatures.{type_of, types_of, nothing, last_of, case_sig, cases_sig};
 ghost use Rattle.flux_types.specs.steps.Filling.{put_line, put_lines, put_node};
 
-use crate::tables::Names;
 use crate::words::{ins_of, outs_of};
 use flux_library::Library;
 use flux_model::{Body, Case, Node, NodeNo, NodeSig, TypeText};
-use flux_syntax::{Decl, Param};
+use flux_syntax::{Decl, Names, Param};
 use flux_values::{List, Memory, TextBytes, TextFault};
 use std::alloc::Global;
 

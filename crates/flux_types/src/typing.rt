@@ -13,13 +13,12 @@ use crate::flows::{FlowPlaces, hollow_places};
 use crate::predicates::Predicates;
 use crate::signatures::fill;
 use crate::sources::{session_places, target_places};
-use crate::tables::Names;
 use crate::words::{Signed, names_of};
 use flux_faults::{CheckFault, FaultKind};
 use flux_graph::Order;
 use flux_library::Library;
 use flux_model::{Named, NodeSig, Sigs};
-use flux_syntax::{Decl, fault_at, fault_or};
+use flux_syntax::{Decl, Names, fault_at, fault_or};
 use flux_values::{List, Memory};
 use std::alloc::Global;
 

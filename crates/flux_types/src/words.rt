@@ -5,9 +5,8 @@ ghost use Rattle.flux_model.specs.Kinds.{sig_at};
 ghost use Rattle.flux_syntax.specs.Words.{naming, and_name, names_of, names_after};
 ghost use Rattle.flux_types.specs.Rows.{word_sig};
 
-use crate::tables::Names;
 use flux_model::{NodeSig, TypeText};
-use flux_syntax::{Decl, Word};
+use flux_syntax::{Decl, Names, Word};
 use flux_values::Memory;
 use std::alloc::Global;
 

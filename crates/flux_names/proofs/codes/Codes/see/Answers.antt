@@ -6,7 +6,7 @@ use Rattle.std.specs.Borrow.{Bor}
 use Rattle.flux_syntax.specs.Least.{soonest}
 use Rattle.flux_names.specs.Rows.{code_of, word_if}
 use Rattle.flux_names.specs.steps.Codes.{Taken, has_code, is_bad, with_code}
-use Rattle.flux_names.proofs.Keys.{any_map, added}
+use Rattle.flux_syntax.proofs.BorrowedNames.{any_map, added}
 use Rattle.flux_names.proofs.codes.Codes.see.Goals as goal
 
 abbrev Key : Type 0

@@ -2,8 +2,8 @@ use Rattle.std.proofs.Common.{◌∙◌, ℕ, Option, List, length, ap}
 use Rattle.std.specs.List.{position}
 use Rattle.std.specs.Option.{unwrap_or}
 use Rattle.std.specs.Str.{bytes_eq}
-use Rattle.flux_names.proofs.Keys.{position_map, map_length, place_or}
-use Rattle.flux_names.proofs.tables.Names.place.Goals as goal
+use Rattle.flux_syntax.proofs.BorrowedNames.{position_map, map_length, place_or}
+use Rattle.flux_syntax.proofs.names.Names.place.Goals as goal
 
 pub returns-clause-place : goal.returns-clause-place
 returns-clause-place c =

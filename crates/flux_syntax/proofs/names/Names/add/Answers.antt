@@ -1,8 +1,8 @@
 use Rattle.std.proofs.Common.{◌∙◌, map, ap}
 use Rattle.std.specs.Str.{bytes_eq}
 use Rattle.flux_syntax.specs.Names.{with_name}
-use Rattle.flux_names.proofs.Keys.{any_map, added}
-use Rattle.flux_names.proofs.tables.Names.add.Goals as goal
+use Rattle.flux_syntax.proofs.BorrowedNames.{any_map, added}
+use Rattle.flux_syntax.proofs.names.Names.add.Goals as goal
 
 pub returns : goal.returns
 returns c =

@@ -1,10 +1,12 @@
-//! Symbol tables: distinct names, each at its place.
+//! Tables of distinct names, each at its place.
 
-ghost use Rattle.std.specs.Prelude.{◌≡◌, ◌≤◌, [], OnOk, length};
-ghost use Rattle.std.specs.List.{list_any, position_or_len};
+ghost use Rattle.std.specs.Prelude.{◌≡◌, ◌≤◌, [], OnOk, length, option_copied};
+ghost use Rattle.std.specs.List.{position_or_len};
 ghost use Rattle.std.specs.Str.{bytes_eq};
 ghost use Rattle.flux_syntax.specs.Names.{with_name};
+ghost use Rattle.flux_syntax.specs.Words.{known, and_name};
 
+use crate::declarations::Word;
 use flux_values::Memory;
 use indexmap::IndexSet;
 use std::alloc::Global;
@@ -35,17 +37,25 @@ impl<'a> Names<'a> {
 
     /// Adds a name at the end, where it isn't there yet.
     pub fn add(&mut self, name: &'a [u8]) -> Result<(), Memory>
-        ensures added { OnOk result (self.new ≡ with_name self.old name.now) }
+        ensures { OnOk result (self.new ≡ with_name self.old name.now) }
     {
-        match self.set.insert_full(name) {
-            Ok(_) => Ok(()),
-            Err(_) => Err(Memory),
+        self.set.insert(name)?;
+        Ok(())
+    }
+
+    /// Adds the name of a word, if there is one.
+    pub fn add_word(&mut self, word: Option<&'a Word>) -> Result<(), Memory>
+        ensures { OnOk result (self.new ≡ and_name self.old (option_copied word.entry)) }
+    {
+        match word {
+            Some(word) => self.add(word.text.as_bytes()),
+            None => Ok(()),
         }
     }
 
     /// Whether a name is there.
     pub fn has(&self, name: &[u8]) -> bool
-        ensures { result ≡ list_any (bytes_eq name.now) self.now }
+        ensures { result ≡ known self.now name.now }
     {
         self.set.contains(name)
     }
@@ -55,10 +65,7 @@ impl<'a> Names<'a> {
         ensures place { result ≡ position_or_len (bytes_eq name.now) self.now }
         ensures within { result ≤ length self.now }
     {
-        match self.set.get_index_of(name) {
-            Some(place) => place,
-            None => self.set.len(),
-        }
+        self.set.get_index_of(name).unwrap_or(self.set.len())
     }
 
     pub fn len(&self) -> usize
