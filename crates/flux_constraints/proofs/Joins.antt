@@ -11,7 +11,7 @@ use Rattle.flux_model.specs.Modes.{at_least}
 use Rattle.flux_model.specs.Locks.{AreRising, HasAtLeast}
 use Rattle.flux_constraints.specs.ClassSets.{IsJoined}
 use Rattle.flux_constraints.specs.steps.Places.{IsThere, IsGap}
-use Rattle.flux_constraints.proofs.Rises.{contains_first, contains_later, contains_cases, contains_none, Rises, rises_from, rising_from, rising_once}
+use Rattle.flux_model.proofs.RisingHolds.{contains_first, contains_later, contains_cases, contains_none, Rises, rises_from, rising_from, rising_once}
 
 -- ---- modes
 

@@ -1,4 +1,3 @@
-pub mod Rises
 pub mod Joins
 pub mod Uppers
 pub mod Searches

@@ -9,7 +9,7 @@ use Rattle.flux_model.specs.declared.programs.Hold.{Hold}
 use Rattle.flux_model.specs.Locks.{AreRising}
 use Rattle.flux_constraints.specs.ClassSets.{AreUpTo, IsGreatestOf}
 use Rattle.flux_constraints.specs.steps.Places.{is_up_to}
-use Rattle.flux_constraints.proofs.Rises.{contains_first, contains_later, contains_cases, contains_none, Rises, rises_from, rising_from}
+use Rattle.flux_model.proofs.RisingHolds.{contains_first, contains_later, contains_cases, contains_none, Rises, rises_from, rising_from}
 
 module _ {X : Type 0} (test : X → Bool) where
   only_on : (x : X) (xs : List X) (y : X) (b : Bool) → test x ≡ b → (Contains (filter test xs) y → Contains xs y × (test y ≡ true))

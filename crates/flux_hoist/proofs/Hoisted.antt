@@ -1,9 +1,8 @@
 -- What is hoisted of what nodes reach is the program's locks.
-use Rattle.std.proofs.Common.{◌≡◌, ◌≤◌, ℕ, zero, suc, true, inl, inr, List, [], ◌∷◌, ◌++◌, length, slice_get, Option, Some, None, refl, sym, ap, subst, ◌∙◌, arith}
+use Rattle.std.proofs.Common.{◌≡◌, ◌≤◌, ℕ, zero, suc, true, inl, inr, List, [], ◌∷◌, ◌++◌, length, slice_get, Option, Some, None, refl, sym, ap, subst, arith}
 use Rattle.std.specs.List.{Contains}
 use Rattle.std.specs.Option.{unwrap_or}
-use Rattle.std.proofs.lemmas.Bool.{cases_order}
-use Rattle.std.proofs.lemmas.Option.{slice_get_past, slice_get_within, slice_get-get_or}
+use Rattle.std.proofs.lemmas.Option.{slice_get_past, slice_get_within}
 use Rattle.flux_values.specs.declared.answers.Mode.{Mode}
 use Rattle.flux_model.specs.declared.programs.ClassNo.{ClassNo}
 use Rattle.flux_model.specs.declared.programs.Hold.{Hold}
@@ -12,30 +11,14 @@ use Rattle.flux_model.specs.declared.programs.Program.{Program}
 use Rattle.flux_model.specs.Modes.{at_least}
 use Rattle.flux_model.specs.Leading.{members_of, leads_in, numbers_of}
 use Rattle.flux_model.specs.Children.{IsIn, IsBelow, members}
-use Rattle.flux_model.specs.Locks.{declared, declared_on, HasClass, IsLocked, DeclaresHere, AreRising, AreLocksOf, AreLocks, HasAtLeast}
+use Rattle.flux_model.specs.Locks.{declared, declared_on, HasClass, IsLocked, DeclaresHere, AreLocksOf, AreLocks, HasAtLeast}
 use Rattle.flux_model.proofs.BelowLemmas.{below-member, below-led, below-by_leading}
 use Rattle.flux_model.proofs.Hoisting.{at_least_on}
+use Rattle.flux_model.proofs.RisingHolds.{contains_none, rising_once}
 use Rattle.flux_hoist.specs.Sets.{held_by}
 use Rattle.flux_hoist.specs.steps.Joining.{IsPassed, IsHoisted, held_by_all}
 use Rattle.flux_hoist.specs.steps.Reaching.{IsPath, AreReached, AreHoisted}
-use Rattle.flux_hoist.proofs.Joins.{contains_none, in_some, in_all}
-
-some_same : (a b : Hold) → Some a ≡ Some b → a ≡ b
-some_same a b e = cc
-
--- two holds on one class are one
-rising_once : (hs : List Hold) → AreRising hs → (a b : Hold) → Contains hs a → Contains hs b → a.class.0 ≡ b.class.0 → a ≡ b
-rising_once hs are a b (i, li, at) (j, lj, bt) same = elim (cases_order i j) [
-  | inl e ↦ some_same a b (sym geta ∙ ap (slice_get hs) e ∙ getb)
-  | inr (inl lt) ↦ let less = are i j a b lt geta getb in absurd (omega (arith, less, same))
-  | inr (inr gt) ↦ let less = are j i b a gt getb geta in absurd (omega (arith, less, same))
-]
-  where
-    geta : slice_get hs i ≡ Some a
-    geta = slice_get-get_or hs i a li ∙ ap Some at
-
-    getb : slice_get hs j ≡ Some b
-    getb = slice_get-get_or hs j b lj ∙ ap Some bt
+use Rattle.flux_hoist.proofs.Joins.{in_some, in_all}
 
 past_none : {X : Type 0} (xs : List X) (k : ℕ) → slice_get xs k ≡ None → length xs ≤ k
 past_none [] k e = omega arith
@@ -44,23 +27,23 @@ past_none (x ∷ xs) (suc k) e = let le = past_none xs k e in omega (arith, le)
 
 module _ (p : Program) where
   -- from a member over what is led to
-  record IsUnder (top node : ℕ) : Type 0 where
-    member : ℕ
-    is_member : IsIn member (members p top)
-    path : List ℕ
-    way : IsPath p.nodes member path node
+  pub record IsUnder (top node : ℕ) : Type 0 where
+    pub member : ℕ
+    pub is_member : IsIn member (members p top)
+    pub path : List ℕ
+    pub way : IsPath p.nodes member path node
 
   path_then : (from : ℕ) (path : List ℕ) (mid to : ℕ) → IsPath p.nodes from path mid → IsIn to (leads_in p.nodes mid) → IsPath p.nodes from (path ++ to ∷ []) to
   path_then from [] mid to same is = (subst (λ (n : ℕ). IsIn to (leads_in p.nodes n)) (sym same) is, refl)
   path_then from (next ∷ path) mid to (led, way) is = (led, path_then next path mid to way is)
 
-  under_below : (top node : ℕ) → IsBelow p top node → IsUnder top node
+  pub under_below : (top node : ℕ) → IsBelow p top node → IsUnder top node
   under_below top node below = below-by_leading p top (IsUnder top)
       (λ x is. record { member = x; is_member = is; path = []; way = refl })
       (λ x y under is. record { member = under.member; is_member = under.is_member; path = under.path ++ y ∷ []; way = path_then under.member under.path x y under.way is })
       node below
 
-  below_path : (top from : ℕ) (path : List ℕ) (to : ℕ) → IsBelow p top from → IsPath p.nodes from path to → IsBelow p top to
+  pub below_path : (top from : ℕ) (path : List ℕ) (to : ℕ) → IsBelow p top from → IsPath p.nodes from path to → IsBelow p top to
   below_path top from [] to below same = subst (IsBelow p top) same below
   below_path top from (next ∷ path) to below (is, way) = below_path top next path to (below-led p top from next below is) way
 

@@ -1,8 +1,6 @@
 -- What the locks of one node, and of the nodes one after the other, are.
-use Rattle.std.proofs.Common.{◌≡◌, ◌<◌, ◌≤◌, ◌+◌, ℕ, zero, suc, inl, inr, List, [], ◌∷◌, ◌++◌, length, get_or, slice_get, Option, Some, refl, sym, ap, subst, ◌∙◌, arith}
+use Rattle.std.proofs.Common.{◌≡◌, ◌<◌, ◌≤◌, ◌+◌, ℕ, inl, inr, List, [], ◌∷◌, ◌++◌, length, get_or, slice_get, Some, refl, sym, subst, ◌∙◌, arith}
 use Rattle.std.specs.List.{Contains}
-use Rattle.std.specs.Option.{unwrap_or}
-use Rattle.std.proofs.lemmas.Bool.{cases_order}
 use Rattle.std.proofs.lemmas.List.{length_push}
 use Rattle.std.proofs.lemmas.Option.{slice_get-get_or}
 use Rattle.flux_model.specs.declared.programs.ClassNo.{ClassNo}
@@ -11,10 +9,11 @@ use Rattle.flux_model.specs.declared.programs.Node.{Node}
 use Rattle.flux_model.specs.Leading.{members_of}
 use Rattle.flux_model.specs.Locks.{AreRising, HasAtLeast}
 use Rattle.flux_constraints.specs.ClassSets.{AreUpTo, IsGreatestOf}
-use Rattle.flux_hoist.specs.Sets.{held_by}
+use Rattle.flux_model.proofs.RisingHolds.{contains_none}
 use Rattle.flux_hoist.specs.steps.Joining.{AreJoined, IsPassed, IsHoisted, held_by_all}
 use Rattle.flux_hoist.specs.steps.Reaching.{AreHoisted}
-use Rattle.flux_hoist.proofs.Joins.{contains_none, has_on}
+use Rattle.flux_hoist.proofs.Grown.{grown}
+use Rattle.flux_hoist.proofs.Joins.{has_on}
 
 no_rising : AreRising []
 no_rising low high first second lt a b = absurd cc
@@ -66,38 +65,23 @@ hoisted_some own below set under lower locks class first great joined up last = 
 
 -- ---- node after node
 
-get_old : {X : Type 0} (xs : List X) (x : X) (k : ℕ) → k < length xs → slice_get (xs ++ x ∷ []) k ≡ slice_get xs k
-get_old [] x k lt = absurd (omega arith)
-get_old (y ∷ xs) x zero lt = refl
-get_old (y ∷ xs) x (suc k) lt = get_old xs x k (omega arith)
-
-get_new : {X : Type 0} (xs : List X) (x : X) → slice_get (xs ++ x ∷ []) (length xs) ≡ Some x
-get_new [] x = refl
-get_new (y ∷ xs) x = get_new xs x
-
 pub hoisted_first : (nodes : List Node) (table : List (List Hold)) → AreHoisted nodes table 0 []
 hoisted_first nodes table = record { many = refl; each = λ number node lt at. absurd (omega arith) }
+
+-- a set is what the node of a number holds, if there is one
+abbrev IsHoistedAt : List Node → List (List Hold) → ℕ → List Hold → Type 0
+IsHoistedAt nodes table number set =
+    (node : Node) → slice_get nodes number ≡ Some node → IsHoisted node.declared (held_by_all table (members_of node.body)) set
 
 pub hoisted_next : (nodes : List Node) (table sets : List (List Hold)) (count : ℕ) (d : Node) (set : List Hold) → AreHoisted nodes table count sets → count < length nodes
     → IsHoisted (get_or nodes count d).declared (held_by_all table (members_of (get_or nodes count d).body)) set → AreHoisted nodes table (count + 1) (sets ++ set ∷ [])
 hoisted_next nodes table sets count d set are lt is = record {
   many = let many = are.many in let longer = length_push sets set in omega (arith, many, longer);
-  each = λ number node below at. elim (cases_order number count) [
-    | inl same ↦ new number node same at
-    | inr (inl low) ↦ subst (λ (hs : List Hold). IsHoisted node.declared (held_by_all table (members_of node.body)) hs)
-        (sym (ap (λ (found : Option (List Hold)). unwrap_or found []) (get_old sets set number (let many = are.many in omega (arith, many, low)))))
-        (are.each number node low at)
-    | inr (inr high) ↦ absurd (omega (arith, high, below))
-  ];
+  each = λ number node below at. grown [] (IsHoistedAt nodes table) sets set count are.many (λ k low n e. are.each k n low e) (λ n e. subst (λ (m : Node). IsHoisted m.declared (held_by_all table (members_of m.body)) set) (found n e) is) number below node at;
 }
   where
     some_same : (a b : Node) → Some a ≡ Some b → a ≡ b
     some_same a b e = cc
 
-    new : (number : ℕ) (node : Node) → number ≡ count → slice_get nodes number ≡ Some node → IsHoisted node.declared (held_by_all table (members_of node.body)) (held_by (sets ++ set ∷ []) number)
-    new number node same at =
-        let found = some_same (get_or nodes count d) node (sym (slice_get-get_or nodes count d lt) ∙ sym (ap (slice_get nodes) same) ∙ at) in
-        let held : held_by (sets ++ set ∷ []) number ≡ set =
-        ap (λ (k : ℕ). held_by (sets ++ set ∷ []) k) (same ∙ sym are.many) ∙ ap (λ (f : Option (List Hold)). unwrap_or f []) (get_new sets set) in
-        subst (λ (hs : List Hold). IsHoisted node.declared (held_by_all table (members_of node.body)) hs) (sym held)
-        (subst (λ (n : Node). IsHoisted n.declared (held_by_all table (members_of n.body)) set) found is)
+    found : (node : Node) → slice_get nodes count ≡ Some node → get_or nodes count d ≡ node
+    found node at = some_same (get_or nodes count d) node (sym (slice_get-get_or nodes count d lt) ∙ at)

@@ -13,12 +13,10 @@ use Rattle.flux_model.specs.Modes.{at_least}
 use Rattle.flux_model.specs.Locks.{AreRising, HasAtLeast}
 use Rattle.flux_model.specs.Children.{IsIn}
 use Rattle.flux_model.proofs.Hoisting.{at_least_on}
+use Rattle.flux_model.proofs.RisingHolds.{contains_none}
 use Rattle.flux_constraints.specs.ClassSets.{IsJoined}
 use Rattle.flux_hoist.specs.Sets.{held_by}
 use Rattle.flux_hoist.specs.steps.Joining.{AreJoined, held_at, held_by_all, held_by_cases}
-
-pub contains_none : {X : Type 0} (y : X) → Contains [] y → ⊥
-contains_none y (k, lt, is) = omega arith
 
 at_least_itself : (m : Mode) → at_least m m ≡ true
 at_least_itself Reader = refl

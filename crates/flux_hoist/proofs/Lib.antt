@@ -1,5 +1,14 @@
+pub mod Grown
+pub mod Filled
 pub mod Joins
 pub mod Reached
+pub mod LowestNodes
 pub mod Hoisted
 pub mod Hoists
+pub mod Declared
+pub mod SaidPieces
+pub mod ReportOnce
+pub mod PlanSizes
+pub mod SizesCounted
 pub mod Orders
+pub mod Lonely

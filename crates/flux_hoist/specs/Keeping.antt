@@ -2,23 +2,27 @@
 use Rattle.std.specs.Prelude.{◌≡◌, ℕ, ◌≤◌, List, map}
 use Rattle.flux_model.specs.declared.programs.Program.{Program}
 use Rattle.flux_model.specs.declared.programs.NodeNo.{NodeNo}
+use Rattle.flux_model.specs.declared.programs.Hold.{Hold}
 use Rattle.flux_model.specs.declared.signatures.NodeSig.{NodeSig}
 use Rattle.flux_model.specs.Numbered.{IsNumbered}
 use Rattle.flux_model.specs.Names.{IsNamed}
 use Rattle.flux_model.specs.Ordering.{IsOrder, HasCycle}
 use Rattle.flux_model.specs.Kinds.{Agree, kinds_at}
-use Rattle.flux_model.specs.Locks.{no_locks}
+use Rattle.flux_model.specs.Locks.{AreLocks}
 use Rattle.flux_model.specs.Sizes.{source_size, total_size}
 use Rattle.flux_hoist.specs.declared.checked.TheConstants.{SIZE_LIMIT}
+use Rattle.flux_hoist.specs.Sets.{held_by}
 
 -- the program is numbered, its names are distinct identifiers, and leading has no cycle; the kinds of the signatures agree
--- at each join, case, handler and source; the order and the sizes, without locks as long as constraints aren't built, are
--- those of the program, and the sizes sum to at most 65,536
-pub record Keeps (program : Program) (sigs : List NodeSig) (order : List NodeNo) (sizes : List ℕ) : Type 0 where
+-- at each join, case, handler and source; the order, the sets and the sizes are those of the program, whose nodes hold their
+-- locks; and the sizes sum to at most 65,536
+pub record Keeps (program : Program) (sigs : List NodeSig) (order : List NodeNo) (sets : List (List Hold))
+    (sizes : List ℕ) : Type 0 where
   pub numbered : IsNumbered program
   pub named : IsNamed program
   pub acyclic : HasCycle program.nodes → ⊥
   pub agree : Agree program (kinds_at sigs)
   pub ordered : IsOrder program.nodes order
-  pub sizes_ : sizes ≡ map (source_size no_locks program) program.sources
-  pub small : total_size no_locks program program.sources ≤ SIZE_LIMIT
+  pub locks : AreLocks program (held_by sets)
+  pub sizes_ : sizes ≡ map (source_size (held_by sets) program) program.sources
+  pub small : total_size (held_by sets) program program.sources ≤ SIZE_LIMIT

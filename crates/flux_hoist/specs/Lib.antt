@@ -1,3 +1,7 @@
 pub mod Keeping
 pub mod Sets
+pub mod Counted
+pub mod Printed
+pub mod Reports
+pub mod Plans
 pub mod steps

@@ -2,6 +2,7 @@
 
 ghost use Rattle.flux_hoist.specs.Keeping.{Keeps};
 
+use crate::hoisting::Sets;
 use flux_graph::Order;
 use flux_model::{Program, Sigs};
 use flux_values::List;
@@ -17,7 +18,9 @@ pub struct Checked {
     pub sigs: Sigs,
     /// Each node once, after all that it leads to.
     pub order: Order,
+    /// The locks of each node.
+    pub sets: Sets,
     /// For each source how many events its flows have at most.
     pub sizes: List<u32>,
-    ghost keeps: { ∥ Keeps program sigs.nodes order.nodes sizes ∥₁ },
+    ghost keeps: { ∥ Keeps program sigs.nodes order.nodes sets.nodes sizes ∥₁ },
 }

@@ -5,7 +5,7 @@ ghost use Rattle.flux_model.specs.Leading.{members_of, leads_to};
 ghost use Rattle.flux_model.specs.Ordering.{IsOrder};
 ghost use Rattle.flux_model.specs.Locks.{AreLocks};
 ghost use Rattle.flux_hoist.specs.Sets.{held_by};
-ghost use Rattle.flux_hoist.specs.steps.Joining.{AreJoined, IsHoisted, held_at, held_by_all, held_by_cases};
+ghost use Rattle.flux_hoist.specs.steps.Joining.{AreJoined, IsHoisted, held_by_all, held_by_cases};
 ghost use Rattle.flux_hoist.specs.steps.Reaching.{AreReached, AreHoisted};
 
 use flux_constraints::ClassSet;
@@ -20,7 +20,7 @@ pub struct Sets {
     pub nodes: List<ClassSet>,
 }
 
-fn join_holds(set: &mut ClassSet, holds: &[Hold]) -> Result<(), Memory>
+pub(crate) fn join_holds(set: &mut ClassSet, holds: &[Hold]) -> Result<(), Memory>
     ensures { OnOk result (AreJoined set.old holds.now set.new) }
 {
     for hold in holds {
@@ -29,11 +29,11 @@ fn join_holds(set: &mut ClassSet, holds: &[Hold]) -> Result<(), Memory>
     Ok(())
 }
 
-/// The holds of a node in a table of sets, and none where the table has no such node.
-fn held_at(table: &[ClassSet], node: NodeNo) -> &[Hold]
-    ensures { result.now ≡ held_at table.now node }
+/// The holds of the set at a number, and none where there is no such set.
+pub(crate) fn holds_of(sets: &[ClassSet], number: usize) -> &[Hold]
+    ensures { result.now ≡ held_by sets.now number }
 {
-    match table.get(node.0 as usize) {
+    match sets.get(number) {
         Some(set) => set.as_slice(),
         None => &[],
     }
@@ -43,7 +43,7 @@ fn join_nodes(set: &mut ClassSet, table: &[ClassSet], nodes: &[NodeNo]) -> Resul
     ensures { OnOk result (AreJoined set.old (held_by_all table.now nodes.now) set.new) }
 {
     for node in nodes {
-        join_holds(set, held_at(table, *node))?;
+        join_holds(set, holds_of(table, node.0 as usize))?;
     }
     Ok(())
 }

@@ -1,5 +1,7 @@
 //! The locks of small programs, and of a long chain.
 
+mod texts;
+
 ghost use Rattle.std.specs.Prelude.{◌≡◌, ◌↔◌, [], IfOk, IsTrue};
 ghost use Rattle.flux_model.specs.Children.{IsIn};
 ghost use Rattle.flux_model.specs.Ordering.{ComeAfter, IsOrder};
