@@ -12,9 +12,13 @@ use Rattle.flux_model.specs.declared.named.Named.{Named}
 use Rattle.flux_syntax.specs.declared.declarations.Decl.{Decl}
 use Rattle.flux_syntax.specs.Declares.{Declares}
 use Rattle.flux_syntax.specs.Unexpected.{IsFaulty, IsThatOrMemory, AreDeclsOrMemory}
-use Rattle.flux_syntax.specs.ProgramOfText.{named_of}
+use Rattle.flux_syntax.specs.ProgramOfText.{program_of, named_of}
 use Rattle.flux_syntax.proofs.Texts.{one_list, no_decls}
 use Rattle.flux_model.specs.Ordering.{HasCycle, IsCycle, IsLowestCycle}
+use Rattle.flux_model.specs.Locks.{Holds}
+use Rattle.flux_syntax.specs.Least.{first_fault}
+use Rattle.flux_check.specs.Rows.{size_rows}
+use Rattle.flux_model.proofs.Hoisting.{locks_once}
 use Rattle.flux_check.specs.Judgement.{AreSound, IsCycleOf, IsDeclsFault, IsTextFault, IsSoundText, IsRefusalOf, IsThatFault}
 
 some_none : {A : Type 0} (o : Option A) (x : A) → o ≡ Some x → o ≡ None → ⊥
@@ -30,10 +34,11 @@ abbrev around : (nodes : List Node) (path : List NodeNo) → IsCycle nodes path 
 around nodes path c = let first = c.first in (first.0, record { between = c.others; led = c.led })
 
 pub sound_no_fault : (meaning : LibraryMeaning) (decls : List Decl) (fault : StaticFault) → AreSound meaning decls → IsDeclsFault meaning decls fault → ⊥
-sound_no_fault meaning decls fault s (inl u) = let o = s.ordered in let n = o.names in some_none _ fault.at u.at n.built
-sound_no_fault meaning decls fault s (inr (inl f)) = let o = s.ordered in let n = o.names in let first = f.first in some_none _ (fault.kind, fault.at) first.is n.named
-sound_no_fault meaning decls fault s (inr (inr (inl c))) = let o = s.ordered in let round = c.cycle in let low = round.cycle in o.acyclic (around _ round.path low.cycle)
-sound_no_fault meaning decls fault s (inr (inr (inr l))) = let first = l.first in some_none _ (fault.kind, fault.at) first.is s.later
+sound_no_fault meaning decls fault s (inl f) = let o = s.joined.ordered in some_none _ (fault.kind, fault.at) f.is o.named
+sound_no_fault meaning decls fault s (inr (inl c)) = let o = s.joined.ordered in let round = c.cycle in let low = round.cycle in o.acyclic (around _ round.path low.cycle)
+sound_no_fault meaning decls fault s (inr (inr (inl l))) = let j = s.joined in let first = l.first in some_none _ (fault.kind, fault.at) first.is j.later
+sound_no_fault meaning decls fault s (inr (inr (inr l))) =
+    let first = l.first in some_none _ (fault.kind, fault.at) (ap (λ (locks : Holds). first_fault (size_rows locks decls)) (locks_once (program_of decls) s.locks l.locks s.are_locks l.are_locks) ∙ first.is) s.sized
 
 pub not_both : (meaning : LibraryMeaning) (text : List ℕ) (fault : StaticFault) → IsSoundText meaning text → IsTextFault meaning text fault → ⊥
 not_both meaning text fault s (inl (faulty, path)) = no_decls fault.kind fault.at text s.decls faulty s.declared
@@ -60,22 +65,24 @@ cycles_same named a b x y =
 
 -- a later group isn't looked at where an earlier one has a fault
 pub same_fault : (meaning : LibraryMeaning) (decls : List Decl) (a b : StaticFault) → IsDeclsFault meaning decls a → IsDeclsFault meaning decls b → Same a b
-same_fault meaning decls a b (inl x) (inl y) = (x.is ∙ sym y.is, place_is a.at b.at _ x.at y.at)
-same_fault meaning decls a b (inl x) (inr (inl y)) = absurd (some_none _ a.at x.at y.built)
-same_fault meaning decls a b (inl x) (inr (inr (inl y))) = let n = y.names in absurd (some_none _ a.at x.at n.built)
-same_fault meaning decls a b (inl x) (inr (inr (inr y))) = let o = y.ordered in let n = o.names in absurd (some_none _ a.at x.at n.built)
-same_fault meaning decls a b (inr (inl x)) (inl y) = absurd (some_none _ b.at y.at x.built)
-same_fault meaning decls a b (inr (inl x)) (inr (inl y)) = let f = x.first in let g = y.first in both_of a b _ f.is g.is
-same_fault meaning decls a b (inr (inl x)) (inr (inr (inl y))) = let f = x.first in let n = y.names in absurd (some_none _ (a.kind, a.at) f.is n.named)
-same_fault meaning decls a b (inr (inl x)) (inr (inr (inr y))) = let f = x.first in let o = y.ordered in let n = o.names in absurd (some_none _ (a.kind, a.at) f.is n.named)
-same_fault meaning decls a b (inr (inr (inl x))) (inl y) = let n = x.names in absurd (some_none _ b.at y.at n.built)
-same_fault meaning decls a b (inr (inr (inl x))) (inr (inl y)) = let g = y.first in let n = x.names in absurd (some_none _ (b.kind, b.at) g.is n.named)
-same_fault meaning decls a b (inr (inr (inl x))) (inr (inr (inl y))) = cycles_same (named_of decls) a b x.cycle y.cycle
-same_fault meaning decls a b (inr (inr (inl x))) (inr (inr (inr y))) = let o = y.ordered in let round = x.cycle in let low = round.cycle in absurd (o.acyclic (around _ round.path low.cycle))
-same_fault meaning decls a b (inr (inr (inr x))) (inl y) = let o = x.ordered in let n = o.names in absurd (some_none _ b.at y.at n.built)
-same_fault meaning decls a b (inr (inr (inr x))) (inr (inl y)) = let g = y.first in let o = x.ordered in let n = o.names in absurd (some_none _ (b.kind, b.at) g.is n.named)
-same_fault meaning decls a b (inr (inr (inr x))) (inr (inr (inl y))) = let o = x.ordered in let round = y.cycle in let low = round.cycle in absurd (o.acyclic (around _ round.path low.cycle))
-same_fault meaning decls a b (inr (inr (inr x))) (inr (inr (inr y))) = let f = x.first in let g = y.first in both_of a b _ f.is g.is
+same_fault meaning decls a b (inl x) (inl y) = both_of a b _ x.is y.is
+same_fault meaning decls a b (inl x) (inr (inl y)) = absurd (some_none _ (a.kind, a.at) x.is y.named)
+same_fault meaning decls a b (inl x) (inr (inr (inl y))) = let o = y.ordered in absurd (some_none _ (a.kind, a.at) x.is o.named)
+same_fault meaning decls a b (inl x) (inr (inr (inr y))) = let o = y.joined.ordered in absurd (some_none _ (a.kind, a.at) x.is o.named)
+same_fault meaning decls a b (inr (inl x)) (inl y) = absurd (some_none _ (b.kind, b.at) y.is x.named)
+same_fault meaning decls a b (inr (inl x)) (inr (inl y)) = cycles_same (named_of decls) a b x.cycle y.cycle
+same_fault meaning decls a b (inr (inl x)) (inr (inr (inl y))) = let o = y.ordered in let round = x.cycle in let low = round.cycle in absurd (o.acyclic (around _ round.path low.cycle))
+same_fault meaning decls a b (inr (inl x)) (inr (inr (inr y))) = let o = y.joined.ordered in let round = x.cycle in let low = round.cycle in absurd (o.acyclic (around _ round.path low.cycle))
+same_fault meaning decls a b (inr (inr (inl x))) (inl y) = let o = x.ordered in absurd (some_none _ (b.kind, b.at) y.is o.named)
+same_fault meaning decls a b (inr (inr (inl x))) (inr (inl y)) = let o = x.ordered in let round = y.cycle in let low = round.cycle in absurd (o.acyclic (around _ round.path low.cycle))
+same_fault meaning decls a b (inr (inr (inl x))) (inr (inr (inl y))) = let f = x.first in let g = y.first in both_of a b _ f.is g.is
+same_fault meaning decls a b (inr (inr (inl x))) (inr (inr (inr y))) = let f = x.first in let j = y.joined in absurd (some_none _ (a.kind, a.at) f.is j.later)
+same_fault meaning decls a b (inr (inr (inr x))) (inl y) = let o = x.joined.ordered in absurd (some_none _ (b.kind, b.at) y.is o.named)
+same_fault meaning decls a b (inr (inr (inr x))) (inr (inl y)) = let o = x.joined.ordered in let round = y.cycle in let low = round.cycle in absurd (o.acyclic (around _ round.path low.cycle))
+same_fault meaning decls a b (inr (inr (inr x))) (inr (inr (inl y))) = let g = y.first in let j = x.joined in absurd (some_none _ (b.kind, b.at) g.is j.later)
+same_fault meaning decls a b (inr (inr (inr x))) (inr (inr (inr y))) =
+    let f = x.first in let g = y.first in
+    both_of a b _ f.is (ap (λ (locks : Holds). first_fault (size_rows locks decls)) (locks_once (program_of decls) x.locks y.locks x.are_locks y.are_locks) ∙ g.is)
 
 -- ---- what holds of a text is answered
 

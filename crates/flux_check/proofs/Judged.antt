@@ -10,15 +10,16 @@ use Rattle.flux_faults.specs.declared.faults.CheckFault.TheVariants as causes
 use Rattle.flux_model.specs.declared.programs.Program.{Program}
 use Rattle.flux_model.specs.declared.programs.NodeNo.{NodeNo}
 use Rattle.flux_model.specs.declared.programs.Node.{Node}
+use Rattle.flux_model.specs.declared.programs.Hold.{Hold}
 use Rattle.flux_model.specs.declared.named.Named.{Named}
 use Rattle.flux_model.specs.declared.signatures.NodeSig.{NodeSig}
 use Rattle.flux_model.specs.Numbered.{AreBelow, IsNumbered}
 use Rattle.flux_model.specs.Leading.{leads_to, leads_in, numbers_of}
 use Rattle.flux_model.specs.Children.{IsIn}
 use Rattle.flux_model.specs.Ordering.{IsOrder, IsLed, HasCycle, IsCycle, IsLowestCycle}
-use Rattle.flux_model.specs.Names.{IsNamed}
-use Rattle.flux_model.specs.Kinds.{NodeKinds, Agree, sig_at, kinds_at}
-use Rattle.flux_model.specs.Soundness.{IsSound}
+use Rattle.flux_model.specs.Kinds.{sig_at}
+use Rattle.flux_model.specs.Locks.{AreLocks}
+use Rattle.flux_model.specs.Soundness.{HasSession}
 use Rattle.flux_model.specs.Texts.{node_name}
 use Rattle.flux_syntax.specs.declared.declarations.Word.{Word}
 use Rattle.flux_syntax.specs.declared.declarations.Decl.{Decl}
@@ -29,7 +30,6 @@ use Rattle.flux_syntax.specs.ProgramOfText.{places, program_of, named_of}
 use Rattle.flux_syntax.specs.Least.{Row, fault_or, soonest, first_fault, IsLeastFault}
 use Rattle.flux_syntax.proofs.Standing.{AllStandIn, all_stand, text_few}
 use Rattle.flux_names.specs.Rows.{rows}
-use Rattle.flux_names.specs.Building.{first_constrained}
 use Rattle.flux_names.specs.Resolving.{IsResolved}
 use Rattle.flux_types.specs.Signatures.{nodes_of, sig_of, AreSigs}
 use Rattle.flux_types.specs.Rows.{sig_rows, source_rows}
@@ -40,10 +40,10 @@ use Rattle.flux_edges.specs.Handlers.{unlike_handlers}
 use Rattle.flux_edges.specs.Sessions.{unserved_sources}
 use Rattle.flux_edges.specs.Rows.{handler_rows, session_rows}
 use Rattle.flux_edges.proofs.Texts.{HasNode, handlers_least, sessions_least}
-use Rattle.flux_hoist.specs.Keeping.{Keeps}
-use Rattle.flux_check.specs.Rows.{size_rows, last_rows, edge_rows, later_rows}
-use Rattle.flux_check.specs.Judgement.{AreNamed, AreOrdered, AreSound, IsCycleOf, AreChecked, IsChecked, IsRefusalOf, IsDeclsFault}
-use Rattle.flux_check.specs.steps.Checking.{IsDeclared, AreSizes, IsUnbuiltRefusal, IsCycleRefusal, IsDeclsRefusal, site_of}
+use Rattle.flux_hoist.specs.Sets.{held_by}
+use Rattle.flux_check.specs.Rows.{constraint_rows, size_rows, last_rows, edge_rows, later_rows}
+use Rattle.flux_check.specs.Judgement.{AreOrdered, AreJoined, IsCycleOf, AreChecked, IsRefusalOf}
+use Rattle.flux_check.specs.steps.Checking.{IsDeclared, AreSizes, IsCycleRefusal, IsDeclsRefusal, site_of}
 use Rattle.flux_check.proofs.Firsts.{first_fault-behind, first_fault-before}
 use Rattle.flux_check.proofs.Places.{fault_within}
 use Rattle.flux_check.proofs.Handled.{handles_named}
@@ -137,30 +137,23 @@ module _ (named : Named) (path : List NodeNo) (numbered : IsNumbered named.progr
 abbrev pub Acyclic : Named → Type 0
 Acyclic named = HasCycle named.program.nodes → ⊥
 
-module _ (meaning : LibraryMeaning) (decls : List Decl) (built : first_constrained meaning decls ≡ None) where
-  pub unbuilt_refused : (fault : CheckFault) → IsUnbuiltRefusal meaning decls fault → IsDeclsRefusal meaning decls fault
-  unbuilt_refused causes.Memory u = tt
-  unbuilt_refused (causes.Static fault) u = inl u
-
+module _ (meaning : LibraryMeaning) (decls : List Decl) where
   pub names_refused : (fault : CheckFault) → IsLeastFault (first_fault (rows meaning decls)) fault → IsDeclsRefusal meaning decls fault
   names_refused causes.Memory f = tt
-  names_refused (causes.Static fault) f = inr (inl (record { built = built; first = record { is = f.0; path = f.1 } }))
+  names_refused (causes.Static fault) f = inl (record { is = f.0; path = f.1 })
 
   module _ (named : Named) (resolved : IsResolved meaning decls named) where
-    are_named : AreNamed meaning decls
-    are_named = record { built = built; named = resolved.sound }
-
     pub cycle_refused : (fault : CheckFault) → IsCycleRefusal named fault → IsDeclsRefusal meaning decls fault
     cycle_refused causes.Memory f = tt
-    cycle_refused (causes.Static fault) f = inr (inr (inl (record { names = are_named; cycle = subst (λ (n : Named). IsCycleOf n fault) resolved.is f })))
+    cycle_refused (causes.Static fault) f = inr (inl (record { named = resolved.sound; cycle = subst (λ (n : Named). IsCycleOf n fault) resolved.is f }))
 
     module _ (acyclic : Acyclic named) where
       are_ordered : AreOrdered meaning decls
-      are_ordered = record { names = are_named; acyclic = subst Acyclic resolved.is acyclic }
+      are_ordered = record { named = resolved.sound; acyclic = subst Acyclic resolved.is acyclic }
 
       later_refused : (fault : CheckFault) → IsLeastFault (first_fault (later_rows meaning decls)) fault → IsDeclsRefusal meaning decls fault
       later_refused causes.Memory f = tt
-      later_refused (causes.Static fault) f = inr (inr (inr (record { ordered = are_ordered; first = record { is = f.0; path = f.1 } })))
+      later_refused (causes.Static fault) f = inr (inr (inl (record { ordered = are_ordered; first = record { is = f.0; path = f.1 } })))
 
       abbrev sigs_part : List Row
       sigs_part = sig_rows meaning decls
@@ -170,6 +163,9 @@ module _ (meaning : LibraryMeaning) (decls : List Decl) (built : first_constrain
 
       abbrev sources_part : List Row
       sources_part = source_rows meaning decls
+
+      abbrev constraints_part : List Row
+      constraints_part = constraint_rows meaning decls
 
       -- rows in front of others
       earlier : (a b : List Row) (fault : CheckFault) → IsLeastFault (first_fault a) fault → IsLeastFault (first_fault (a ++ b)) fault
@@ -194,55 +190,66 @@ module _ (meaning : LibraryMeaning) (decls : List Decl) (built : first_constrain
         pub handlers_refused : (fault : CheckFault) → IsLeastFault (fault_or HandlerTypes (least_of None (unlike_handlers (sig_at sigs) named)) None) fault → IsDeclsRefusal meaning decls fault
         handlers_refused fault f =
             later_refused fault (behind sigs_part (edge_rows meaning decls) fault typed.sound
-            (earlier handlers_part (sources_part ++ last_rows decls) fault (subst (λ (x : Option (FaultKind × ℕ)). IsLeastFault x fault) handled f)))
+            (earlier handlers_part (sources_part ++ last_rows meaning decls) fault (subst (λ (x : Option (FaultKind × ℕ)). IsLeastFault x fault) handled f)))
 
         module _ (fits : least_of None (unlike_handlers (sig_at sigs) named) ≡ None) where
           no_handlers : first_fault (handler_rows (sig_of meaning.kind decls) decls) ≡ None
           no_handlers = sym handled ∙ ap (λ (p : Option ℕ). fault_or HandlerTypes p None) fits
 
-          edges : (fault : CheckFault) → IsLeastFault (first_fault (sources_part ++ last_rows decls)) fault → IsDeclsRefusal meaning decls fault
-          edges fault f = later_refused fault (behind sigs_part (edge_rows meaning decls) fault typed.sound (behind handlers_part (sources_part ++ last_rows decls) fault no_handlers f))
+          edges : (fault : CheckFault) → IsLeastFault (first_fault (sources_part ++ last_rows meaning decls)) fault → IsDeclsRefusal meaning decls fault
+          edges fault f = later_refused fault (behind sigs_part (edge_rows meaning decls) fault typed.sound (behind handlers_part (sources_part ++ last_rows meaning decls) fault no_handlers f))
 
           pub sources_refused : (fault : CheckFault) → IsLeastFault (first_fault (source_rows meaning decls)) fault → IsDeclsRefusal meaning decls fault
-          sources_refused fault f = edges fault (earlier sources_part (last_rows decls) fault f)
+          sources_refused fault f = edges fault (earlier sources_part (last_rows meaning decls) fault f)
 
           module _ (sourced : first_fault (source_rows meaning decls) ≡ None) where
+            pub constraints_refused : (fault : CheckFault) → IsLeastFault (first_fault (constraint_rows meaning decls)) fault → IsDeclsRefusal meaning decls fault
+            constraints_refused fault f = edges fault (behind sources_part (last_rows meaning decls) fault sourced (earlier constraints_part (session_rows decls) fault f))
+
             served : fault_or NoSession (least_of None (unserved_sources named)) None ≡ first_fault (session_rows decls)
             served = ap (λ (p : Option ℕ). fault_or NoSession p None) (ap (λ (n : Named). least_of None (unserved_sources n)) resolved.is ∙ sessions_least decls)
 
-            pub sessions_refused : (fault : CheckFault) → IsLeastFault (fault_or NoSession (least_of None (unserved_sources named)) None) fault → IsDeclsRefusal meaning decls fault
-            sessions_refused fault f =
-                edges fault (behind sources_part (last_rows decls) fault sourced
-                (earlier (session_rows decls) (size_rows decls) fault (subst (λ (x : Option (FaultKind × ℕ)). IsLeastFault x fault) served f)))
+            module _ (constrained : first_fault (constraint_rows meaning decls) ≡ None) where
+              pub sessions_refused : (fault : CheckFault) → IsLeastFault (fault_or NoSession (least_of None (unserved_sources named)) None) fault → IsDeclsRefusal meaning decls fault
+              sessions_refused fault f =
+                  edges fault (behind sources_part (last_rows meaning decls) fault sourced
+                  (behind constraints_part (session_rows decls) fault constrained (subst (λ (x : Option (FaultKind × ℕ)). IsLeastFault x fault) served f)))
 
-            module _ (no_sessions : least_of None (unserved_sources named) ≡ None) where
-              none_unserved : first_fault (session_rows decls) ≡ None
-              none_unserved = sym served ∙ ap (λ (p : Option ℕ). fault_or NoSession p None) no_sessions
+              module _ (no_sessions : least_of None (unserved_sources named) ≡ None) where
+                none_unserved : first_fault (session_rows decls) ≡ None
+                none_unserved = sym served ∙ ap (λ (p : Option ℕ). fault_or NoSession p None) no_sessions
 
-              pub sizes_refused : (fault : CheckFault) → IsLeastFault (first_fault (size_rows decls)) fault → IsDeclsRefusal meaning decls fault
-              sizes_refused fault f = edges fault (behind sources_part (last_rows decls) fault sourced (behind (session_rows decls) (size_rows decls) fault none_unserved f))
-
-              -- ---- sound declarations
-
-              module _ (order : List NodeNo) (sizes : List ℕ) (ordered : IsOrder named.program.nodes order) (sized : AreSizes decls named.program sizes) where
                 none_later : first_fault (later_rows meaning decls) ≡ None
                 none_later =
                     first_fault-behind sigs_part (edge_rows meaning decls) typed.sound
-                    ∙ first_fault-behind handlers_part (sources_part ++ last_rows decls) no_handlers
-                    ∙ first_fault-behind sources_part (last_rows decls) sourced
-                    ∙ first_fault-behind (session_rows decls) (size_rows decls) none_unserved
-                    ∙ sized.sound
+                    ∙ first_fault-behind handlers_part (sources_part ++ last_rows meaning decls) no_handlers
+                    ∙ first_fault-behind sources_part (last_rows meaning decls) sourced
+                    ∙ first_fault-behind constraints_part (session_rows decls) constrained
+                    ∙ none_unserved
 
-                pub all_sound : AreSound meaning decls
-                all_sound = record { ordered = are_ordered; later = none_later }
+                are_joined : AreJoined meaning decls
+                are_joined = record { ordered = are_ordered; later = none_later }
 
                 program_is : named.program ≡ program_of decls
                 program_is = ap (λ (n : Named). n.program) resolved.is
 
-                pub checked_is : IsDeclared decls → AreChecked meaning decls named.program sigs order sizes
-                checked_is (text, declared) = subst (λ (p : Program). AreChecked meaning decls p sigs order sizes) (sym program_is)
-                    (checked meaning text decls order sigs sizes declared (subst IsNumbered program_is resolved.numbered)
-                    (subst (λ (p : Program). IsOrder p.nodes order) program_is ordered) typed.are all_sound (subst (λ (p : Program). AreSizes decls p sizes) program_is sized))
+                module _ (sets : List (List Hold)) (locks : AreLocks named.program (held_by sets)) where
+                  own_locks : AreLocks (program_of decls) (held_by sets)
+                  own_locks = subst (λ (p : Program). AreLocks p (held_by sets)) program_is locks
+
+                  pub sizes_refused : (fault : CheckFault) → IsLeastFault (first_fault (size_rows (held_by sets) decls)) fault → IsDeclsRefusal meaning decls fault
+                  sizes_refused causes.Memory f = tt
+                  sizes_refused (causes.Static fault) f = inr (inr (inr (record { joined = are_joined; locks = held_by sets; are_locks = own_locks; first = record { is = f.0; path = f.1 } })))
+
+                  -- ---- sound declarations
+
+                  module _ (order : List NodeNo) (sizes : List ℕ) (ordered : IsOrder named.program.nodes order) (sized : AreSizes (held_by sets) decls named.program sizes)
+                      (sessions : AllByRecursion (HasSession named.program) named.program.sources) where
+                    pub checked_is : IsDeclared decls → AreChecked meaning decls named.program sigs order sets sizes
+                    checked_is (text, declared) = subst (λ (p : Program). AreChecked meaning decls p sigs order sets sizes) (sym program_is)
+                        (checked meaning text decls order sigs sets sizes declared (subst IsNumbered program_is resolved.numbered)
+                        (subst (λ (p : Program). IsOrder p.nodes order) program_is ordered) typed.are are_joined
+                        (subst (λ (p : Program). AllByRecursion (HasSession p) p.sources) program_is sessions) own_locks (subst (λ (p : Program). AreSizes (held_by sets) decls p sizes) program_is sized))
 
 -- ---- texts
 

@@ -1,7 +1,10 @@
 pub mod Firsts
-pub mod Capped
 pub mod Sized
 pub mod Limits
+pub mod Flagged
+pub mod Held
+pub mod Constrained
+pub mod Crossed
 pub mod Rowless
 pub mod Spelled
 pub mod Numbered

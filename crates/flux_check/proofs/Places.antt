@@ -20,12 +20,11 @@ use Rattle.flux_syntax.specs.Least.{Row, sooner, soonest, fault_or, first_fault}
 use Rattle.flux_syntax.proofs.Standing.{StandsIn, fault_words, code_words, AllStandIn}
 use Rattle.flux_names.specs.declared.rows.TheConstants.{NODE_LIMIT, CLASS_LIMIT}
 use Rattle.flux_names.specs.Rows as names
-use Rattle.flux_names.specs.Building.{place_or, first_place, uses_cell, constrained, first_constrained}
 use Rattle.flux_types.specs.Rows as types
 use Rattle.flux_types.specs.Signatures.{sig_of}
 use Rattle.flux_edges.specs.Rows as edges
 use Rattle.flux_hoist.specs.declared.checked.TheConstants.{SIZE_LIMIT}
-use Rattle.flux_check.specs.Rows.{past_limit, too_large_after, flow_size, later_rows}
+use Rattle.flux_check.specs.Rows.{ConstraintOn, constraints_in, is_other_scope, both_scopes_after, unprotected_in, past_limit, too_large_after, flow_size, size_rows, later_rows}
 use Rattle.flux_check.specs.Judgement.{IsDeclsFault}
 
 some_pair : (x y : FaultKind × ℕ) → ◌≡◌ {A = Option (FaultKind × ℕ)} (Some x) (Some y) → x ≡ y
@@ -296,15 +295,15 @@ module _ (n : ℕ) where
   all_constraints [] b x y = y
   all_constraints (c ∷ a) b x y = (x.0, all_constraints a b x.1 y)
 
-  constraints_in : (decls : List Decl) → DeclsIn decls → AllByRecursion ConstraintIn (flat_map constraints_of decls)
-  constraints_in [] h = tt
-  constraints_in (Atomic node constraints ∷ decls) h = all_constraints constraints (flat_map constraints_of decls) (mapped_in (λ c. c.name) constraints h.0.0.1) (constraints_in decls h.1)
-  constraints_in (Signature name ins outs ∷ decls) h = constraints_in decls h.1
-  constraints_in (Flow name patterns members ∷ decls) h = constraints_in decls h.1
-  constraints_in (Source name target ∷ decls) h = constraints_in decls h.1
-  constraints_in (Typedef name function ∷ decls) h = constraints_in decls h.1
-  constraints_in (Handler node codes handler ∷ decls) h = constraints_in decls h.1
-  constraints_in (Session source function ∷ decls) h = constraints_in decls h.1
+  held_in : (decls : List Decl) → DeclsIn decls → AllByRecursion ConstraintIn (flat_map constraints_of decls)
+  held_in [] h = tt
+  held_in (Atomic node constraints ∷ decls) h = all_constraints constraints (flat_map constraints_of decls) (mapped_in (λ c. c.name) constraints h.0.0.1) (held_in decls h.1)
+  held_in (Signature name ins outs ∷ decls) h = held_in decls h.1
+  held_in (Flow name patterns members ∷ decls) h = held_in decls h.1
+  held_in (Source name target ∷ decls) h = held_in decls h.1
+  held_in (Typedef name function ∷ decls) h = held_in decls h.1
+  held_in (Handler node codes handler ∷ decls) h = held_in decls h.1
+  held_in (Session source function ∷ decls) h = held_in decls h.1
 
   classes_in : (before constraints : List Constraint) → AllByRecursion ConstraintIn constraints → AllIn (names.class_words_after before constraints)
   classes_in before [] h = tt
@@ -359,7 +358,7 @@ module _ (n : ℕ) where
                   (
                     flat_in DeclIn _ (λ d i. filter_in _ (names.inner_names d) (inner_in d i)) decls h,
                     (
-                      both_in (drop NODE_LIMIT (first_words decls)) (drop CLASS_LIMIT (names.class_words decls)) (drop_in NODE_LIMIT (first_words decls) (first_in [] decls h)) (drop_in CLASS_LIMIT (names.class_words decls) (classes_in [] (flat_map constraints_of decls) (constraints_in decls h))),
+                      both_in (drop NODE_LIMIT (first_words decls)) (drop CLASS_LIMIT (names.class_words decls)) (drop_in NODE_LIMIT (first_words decls) (first_in [] decls h)) (drop_in CLASS_LIMIT (names.class_words decls) (classes_in [] (flat_map constraints_of decls) (held_in decls h))),
                       (
                         bad_codes_in [] (flat_map names.codes_in decls) (codes_in decls h),
                         tt,
@@ -472,6 +471,41 @@ module _ (n : ℕ) where
   unserved_in decls (Atomic node constraints) h = tt
   unserved_in decls (Session source function) h = tt
 
+  scopes_in : (before ons : List ConstraintOn) → AllByRecursion (λ (o : ConstraintOn). let c = o.constraint in Within c.name) ons → AllIn (both_scopes_after before ons)
+  scopes_in before [] h = tt
+  scopes_in before (own ∷ ons) h =
+      let mine = own.constraint in
+      both_in (names.word_if (list_any (is_other_scope own) before) mine.name) (both_scopes_after (before ++ own ∷ []) ons)
+      (if_in (list_any (is_other_scope own) before) mine.name h.0) (scopes_in (before ++ own ∷ []) ons h.1)
+
+  all_ons : (a b : List ConstraintOn) → AllByRecursion (λ (o : ConstraintOn). let c = o.constraint in Within c.name) a → AllByRecursion (λ (o : ConstraintOn). let c = o.constraint in Within c.name) b
+      → AllByRecursion (λ (o : ConstraintOn). let c = o.constraint in Within c.name) (a ++ b)
+  all_ons [] b x y = y
+  all_ons (o ∷ a) b x y = (x.0, all_ons a b x.1 y)
+
+  ons_with : (node : Word) (constraints : List Constraint) → AllByRecursion ConstraintIn constraints → AllByRecursion (λ (o : ConstraintOn). let c = o.constraint in Within c.name) (map (λ c. record { node = node; constraint = c }) constraints)
+  ons_with node [] h = tt
+  ons_with node (c ∷ constraints) h = (h.0, ons_with node constraints h.1)
+
+  ons_in : (decls : List Decl) → DeclsIn decls → AllByRecursion (λ (o : ConstraintOn). let c = o.constraint in Within c.name) (flat_map constraints_in decls)
+  ons_in [] h = tt
+  ons_in (Atomic node constraints ∷ decls) h = all_ons (constraints_in (Atomic node constraints)) (flat_map constraints_in decls) (ons_with node constraints (mapped_in (λ c. c.name) constraints h.0.0.1)) (ons_in decls h.1)
+  ons_in (Signature name ins outs ∷ decls) h = ons_in decls h.1
+  ons_in (Flow name patterns members ∷ decls) h = ons_in decls h.1
+  ons_in (Source name target ∷ decls) h = ons_in decls h.1
+  ons_in (Typedef name function ∷ decls) h = ons_in decls h.1
+  ons_in (Handler node codes handler ∷ decls) h = ons_in decls h.1
+  ons_in (Session source function ∷ decls) h = ons_in decls h.1
+
+  cells_in : (meaning : LibraryMeaning) (decls : List Decl) (d : Decl) → DeclIn d → AllIn (unprotected_in meaning decls d)
+  cells_in meaning decls (Signature name ins outs) h = if_in _ name h.0.0
+  cells_in meaning decls (Flow name patterns members) h = tt
+  cells_in meaning decls (Source name target) h = tt
+  cells_in meaning decls (Typedef name function) h = tt
+  cells_in meaning decls (Handler node codes handler) h = tt
+  cells_in meaning decls (Atomic node constraints) h = tt
+  cells_in meaning decls (Session source function) h = tt
+
   large_in : (size : Word → ℕ) (total : ℕ) (decls : List Decl) → DeclsIn decls → AllIn (too_large_after size total decls)
   large_in size total [] h = tt
   large_in size total (Source name target ∷ decls) h =
@@ -502,10 +536,13 @@ module _ (n : ℕ) where
                     (
                       flat_in DeclIn _ (functions_in meaning sigs) decls h,
                       (
-                        flat_in DeclIn _ (unserved_in decls) decls h,
+                        scopes_in [] (flat_map constraints_in decls) (ons_in decls h),
                         (
-                          large_in (flow_size decls) 0 decls h,
-                          tt,
+                          flat_in DeclIn _ (cells_in meaning decls) decls h,
+                          (
+                            flat_in DeclIn _ (unserved_in decls) decls h,
+                            tt,
+                          ),
                         ),
                       ),
                     ),
@@ -517,38 +554,17 @@ module _ (n : ℕ) where
         ),
       )
 
-  -- ---- a form that isn't built, and the places of nodes
-
-  constrained_in : (meaning : LibraryMeaning) (d : Decl) → DeclIn d → AllIn (listed (constrained meaning d))
-  constrained_in meaning (Atomic node constraints) h = (h.0.0, tt)
-  constrained_in meaning (Signature name ins outs) h = one (uses_cell (names.library_node meaning name.text))
-    where
-      one : (t : Bool) → AllIn (listed (if t then Some name else None))
-      one true = (h.0.0, tt)
-      one false = tt
-  constrained_in meaning (Flow name patterns members) h = tt
-  constrained_in meaning (Source name target) h = tt
-  constrained_in meaning (Typedef name function) h = tt
-  constrained_in meaning (Handler node codes handler) h = tt
-  constrained_in meaning (Session source function) h = tt
-
-  unbuilt_in : (meaning : LibraryMeaning) (decls : List Decl) (at : ℕ) → DeclsIn decls → first_constrained meaning decls ≡ Some at → at ≤ n
-  unbuilt_in meaning [] at h e = absurd cc
-  unbuilt_in meaning (d ∷ decls) at h e = one (constrained meaning d) (constrained_in meaning d h.0) (unbuilt_in meaning decls at h.1) e
-    where
-      one : (w : Option Word) → AllIn (listed w) → (first_constrained meaning decls ≡ Some at → at ≤ n) → place_or w (first_constrained meaning decls) ≡ Some at → at ≤ n
-      one None i more f = more f
-      one (Some w) i more f = let same : w.at ≡ at = cc in omega (arith, same, i.0)
+  -- ---- the places of nodes
 
   places_in : (words : List Word) → AllIn words → AllByRecursion (λ at. at ≤ n) (places words)
   places_in [] h = tt
   places_in (w ∷ words) h = (h.0, places_in words h.1)
 
   decls_in : (meaning : LibraryMeaning) (decls : List Decl) (fault : StaticFault) → DeclsIn decls → IsDeclsFault meaning decls fault → fault.at ≤ n
-  decls_in meaning decls fault h (inl u) = unbuilt_in meaning decls fault.at h u.at
-  decls_in meaning decls fault h (inr (inl f)) = let first = f.first in fault_in (names.rows meaning decls) fault.kind fault.at (names_in meaning decls h) first.is
-  decls_in meaning decls fault h (inr (inr (inl c))) = let cycle = c.cycle in rows_at (λ at. at ≤ n) (places (first_words decls)) _ fault.at cycle.site (places_in (first_words decls) (first_in [] decls h))
-  decls_in meaning decls fault h (inr (inr (inr l))) = let first = l.first in fault_in (later_rows meaning decls) fault.kind fault.at (later_in meaning decls h) first.is
+  decls_in meaning decls fault h (inl f) = fault_in (names.rows meaning decls) fault.kind fault.at (names_in meaning decls h) f.is
+  decls_in meaning decls fault h (inr (inl c)) = let cycle = c.cycle in rows_at (λ at. at ≤ n) (places (first_words decls)) _ fault.at cycle.site (places_in (first_words decls) (first_in [] decls h))
+  decls_in meaning decls fault h (inr (inr (inl l))) = let first = l.first in fault_in (later_rows meaning decls) fault.kind fault.at (later_in meaning decls h) first.is
+  decls_in meaning decls fault h (inr (inr (inr l))) = let first = l.first in fault_in (size_rows l.locks decls) fault.kind fault.at (large_in (flow_size l.locks decls) 0 decls h, tt) first.is
 
 stand_in : (text : List ℕ) (words : List Word) → AllByRecursion (StandsIn text) words → AllByRecursion (λ w. w.at ≤ length text) words
 stand_in text [] h = tt

@@ -1,11 +1,10 @@
 -- Items come from source nodes, flows come to plain ones, and each signed node is like its library node.
 use Rattle.std.proofs.Common.{◌≡◌, ℕ, Bool, true, false, ◌||◌, not, eqb, if◌then◌else◌, List, [], ◌∷◌, Option, Some, None, IfSome, refl, sym, ap, subst, ◌∙◌, arith}
-use Rattle.std.specs.List.{slice_get, list_any, AllByRecursion}
+use Rattle.std.specs.List.{slice_get, list_any, flat_map, AllByRecursion}
 use Rattle.std.specs.Option.{is_none}
 use Rattle.std.specs.Str.{bytes_eq}
 use Rattle.std.proofs.lemmas.Bool.Decides.{nat_tests}
 use Rattle.flux_values.specs.declared.meanings.Sig.{Sig}
-use Rattle.flux_values.specs.declared.meanings.CellUse.{CellUse}
 use Rattle.flux_values.specs.declared.meanings.Role.{Role}
 use Rattle.flux_values.specs.declared.meanings.Role.TheVariants as roles
 use Rattle.flux_values.specs.Meanings.{LibraryMeaning}
@@ -16,11 +15,11 @@ use Rattle.flux_syntax.specs.declared.declarations.Param.{Param}
 use Rattle.flux_syntax.specs.declared.declarations.Decl.{Decl}
 use Rattle.flux_syntax.specs.declared.declarations.Decl.TheVariants.{Signature, Flow, Source, Typedef, Handler, Atomic, Session}
 use Rattle.flux_syntax.specs.Words.{known, names_of}
-use Rattle.flux_syntax.specs.ProgramOfText.{place_of, library_name, is_signed}
+use Rattle.flux_syntax.specs.ProgramOfText.{place_of, library_name, is_signed, constraints_on}
 use Rattle.flux_syntax.proofs.NumberedNames.{place_at}
 use Rattle.flux_names.specs.Rows.{word_if, library_node, have_kinds, are_like, is_source_role, is_source, source_nodes}
-use Rattle.flux_names.specs.Building.{has_cells, uses_cell}
 use Rattle.flux_types.specs.Signatures.{line_sig, written}
+use Rattle.flux_check.specs.Rows.{are_protected}
 use Rattle.flux_check.proofs.Rowless.{IsClean}
 use Rattle.flux_check.proofs.Spelled.{both_true, params_are}
 use Rattle.flux_check.proofs.Numbered.{same_text, text_back, not_both, first_true, second_true, both_false, place_name}
@@ -109,18 +108,6 @@ module _ (meaning : LibraryMeaning) where
       let both = both_true (have_kinds meaning ins sig.ins) (have_kinds meaning outs sig.outs) like in
       (params_are meaning ins sig.ins both.0, params_are meaning outs sig.outs both.1)
 
-  no_cells : (cells : List CellUse) → has_cells cells ≡ false → cells ≡ []
-  no_cells [] e = refl
-  no_cells (cell ∷ cells) e = absurd cc
-
-  cell_free : (name : Word) (t : Bool) → ◌≡◌ {A = Option Word} (if t then Some name else None) None → t ≡ false
-  cell_free name true e = absurd cc
-  cell_free name false e = refl
-
-  cells_empty : (P : CellUse → Type 0) (found : Option Sig) → uses_cell found ≡ false → IfSome found (λ sig. AllByRecursion P sig.cells)
-  cells_empty P None e = tt
-  cells_empty P (Some sig) e = subst (AllByRecursion P) (sym (no_cells sig.cells e)) tt
-
   module _ (all : List Decl) where
     -- the kinds that a signed node's line writes are those of its library node
     pub written_like : (decls : List Decl) → AllByRecursion (IsClean meaning all) decls → (number : ℕ) (name : List ℕ) → slice_get (names_of all) number ≡ Some name
@@ -151,22 +138,21 @@ module _ (meaning : LibraryMeaning) where
     written_like (Atomic node constraints ∷ decls) clean number name at signed = written_like decls clean.1 number name at signed
     written_like (Session source function ∷ decls) clean number name at signed = written_like decls clean.1 number name at signed
 
-    -- a signed node's library node uses no cells
-    pub signed_free : (P : CellUse → Type 0) (decls : List Decl) → AllByRecursion (IsClean meaning all) decls → (text : List ℕ) → list_any (is_signed text) decls ≡ true
-        → IfSome (meaning.node (library_name text)) (λ sig. AllByRecursion P sig.cells)
-    signed_free P [] clean text signed = absurd cc
-    signed_free P (Signature name ins outs ∷ decls) clean text signed = one (bytes_eq name.text text) refl signed (signed_free P decls clean.1 text)
+    -- the cells of a signed node's library node are protected by the node's constraints
+    pub signed_protected : (decls : List Decl) → AllByRecursion (IsClean meaning all) decls → (text : List ℕ) → list_any (is_signed text) decls ≡ true → are_protected (flat_map (constraints_on text) all) (meaning.node (library_name text)) ≡ true
+    signed_protected [] clean text signed = absurd cc
+    signed_protected (Signature name ins outs ∷ decls) clean text signed = one (bytes_eq name.text text) refl signed (signed_protected decls clean.1 text)
       where
         one : (t : Bool) → bytes_eq name.text text ≡ t → (t || list_any (is_signed text) decls) ≡ true
-            → (list_any (is_signed text) decls ≡ true → IfSome (meaning.node (library_name text)) (λ sig. AllByRecursion P sig.cells)) → IfSome (meaning.node (library_name text)) (λ sig. AllByRecursion P sig.cells)
+            → (list_any (is_signed text) decls ≡ true → are_protected (flat_map (constraints_on text) all) (meaning.node (library_name text)) ≡ true) → are_protected (flat_map (constraints_on text) all) (meaning.node (library_name text)) ≡ true
         one true i signed more =
             let here = clean.0 in
-            subst (λ (n : List ℕ). IfSome (meaning.node (library_name n)) (λ sig. AllByRecursion P sig.cells)) (same_text name.text text i)
-            (cells_empty P (library_node meaning name.text) (cell_free name (uses_cell (library_node meaning name.text)) here.built))
+            subst (λ (n : List ℕ). are_protected (flat_map (constraints_on n) all) (meaning.node (library_name n)) ≡ true) (same_text name.text text i)
+            (held (are_protected (flat_map (constraints_on name.text) all) (library_node meaning name.text)) (no_word (not (are_protected (flat_map (constraints_on name.text) all) (library_node meaning name.text))) name here.protected))
         one false i signed more = more signed
-    signed_free P (Flow name patterns members ∷ decls) clean text signed = signed_free P decls clean.1 text signed
-    signed_free P (Source name target ∷ decls) clean text signed = signed_free P decls clean.1 text signed
-    signed_free P (Typedef name function ∷ decls) clean text signed = signed_free P decls clean.1 text signed
-    signed_free P (Handler node codes handler ∷ decls) clean text signed = signed_free P decls clean.1 text signed
-    signed_free P (Atomic node constraints ∷ decls) clean text signed = signed_free P decls clean.1 text signed
-    signed_free P (Session source function ∷ decls) clean text signed = signed_free P decls clean.1 text signed
+    signed_protected (Flow name patterns members ∷ decls) clean text signed = signed_protected decls clean.1 text signed
+    signed_protected (Source name target ∷ decls) clean text signed = signed_protected decls clean.1 text signed
+    signed_protected (Typedef name function ∷ decls) clean text signed = signed_protected decls clean.1 text signed
+    signed_protected (Handler node codes handler ∷ decls) clean text signed = signed_protected decls clean.1 text signed
+    signed_protected (Atomic node constraints ∷ decls) clean text signed = signed_protected decls clean.1 text signed
+    signed_protected (Session source function ∷ decls) clean text signed = signed_protected decls clean.1 text signed

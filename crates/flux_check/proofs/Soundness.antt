@@ -1,9 +1,15 @@
--- The program of sound declarations is sound for the library.
-use Rattle.std.proofs.Common.{◌≡◌, ℕ, inl, inr, ◌⊎◌, Bool, true, false, if◌then◌else◌, List, [], ◌∷◌, ◌++◌, map, Option, Some, None, refl, sym, ap, subst}
-use Rattle.std.specs.List.{slice_get, list_any, filter_map, flat_map, AllByRecursion}
+-- The program of declarations at which no row up to 26 stands is sound for the library.
+use Rattle.std.proofs.Common.{◌≡◌, ℕ, inl, inr, ◌⊎◌, Bool, true, false, not, if◌then◌else◌, List, [], ◌∷◌, ◌++◌, map, Option, Some, None, IfSome, refl, sym, ap, subst, ◌∙◌, arith}
+use Rattle.std.specs.Bool.{beq}
+use Rattle.std.specs.List.{slice_get, list_any, list_all, filter_map, flat_map, AllByRecursion, Contains}
 use Rattle.std.specs.Str.{bytes_eq}
+use Rattle.flux_values.specs.declared.answers.Mode.{Mode}
+use Rattle.flux_values.specs.declared.answers.Mode.TheVariants.{Reader, Writer}
+use Rattle.flux_values.specs.declared.meanings.Sig.{Sig}
+use Rattle.flux_values.specs.declared.meanings.CellUse.{CellUse}
 use Rattle.flux_values.specs.Meanings.{LibraryMeaning}
 use Rattle.flux_model.specs.declared.programs.Class.{Class}
+use Rattle.flux_model.specs.declared.programs.Hold.{Hold}
 use Rattle.flux_model.specs.declared.programs.NodeNo.{NodeNo}
 use Rattle.flux_model.specs.declared.programs.Node.{Node}
 use Rattle.flux_model.specs.declared.programs.Case.{Case}
@@ -17,43 +23,40 @@ use Rattle.flux_model.specs.Children.{IsIn}
 use Rattle.flux_model.specs.Numbered.{IsNumbered}
 use Rattle.flux_model.specs.Ordering.{IsOrder}
 use Rattle.flux_model.specs.Kinds.{NodeKinds, node_kinds, kinds_at, AreCasesJoined, AreHandlersJoined}
-use Rattle.flux_model.specs.Soundness.{IsLike, IsBodyLike, IsPlain, IsSourceNode, FitBody, IsProtected, AreCellsProtected, HasSession, IsSound}
+use Rattle.flux_model.specs.Modes.{at_least}
+use Rattle.flux_model.specs.Locks.{declared_on}
+use Rattle.flux_model.specs.Soundness.{IsLike, IsBodyLike, IsPlain, IsSourceNode, FitBody, IsProtected, AreCellsProtected, HasOneScope, HasSession, IsSound}
 use Rattle.flux_model.proofs.NodeLists.{in_either}
 use Rattle.flux_syntax.specs.declared.declarations.Word.{Word}
 use Rattle.flux_syntax.specs.declared.declarations.Decl.{Decl}
 use Rattle.flux_syntax.specs.declared.declarations.Decl.TheVariants.{Signature, Flow, Source, Typedef, Handler, Atomic, Session}
 use Rattle.flux_syntax.specs.Words.{defined, known, names_of, texts_of, function_of}
-use Rattle.flux_syntax.specs.ProgramOfText.{place_of, number_of, is_signed, case_of, arm_of, constraints_of, classes_of, classes_among, source_of, library_name, program_of}
+use Rattle.flux_syntax.specs.ProgramOfText.{place_of, number_of, is_signed, case_of, arm_of, class_of, constraints_on, classes_of, declared_by, source_of, library_name, program_of}
 use Rattle.flux_names.specs.Rows.{among, not_among, source_nodes}
 use Rattle.flux_types.specs.Signatures.{written, body_sig, nodes_of, sig_of, AreSigs}
 use Rattle.flux_types.proofs.Written.{sig_rule, sigs_same}
-use Rattle.flux_check.specs.Judgement.{AreSound}
-use Rattle.flux_check.proofs.Rowless.{nil_append, IsClean, all_clean}
-use Rattle.flux_check.proofs.Numbered.{first_known, first_unknown, node_named, map_get, known_node}
-use Rattle.flux_check.proofs.Roles.{signed_plain, source_signed, written_like, signed_free}
+use Rattle.flux_check.specs.Rows.{constraints_in, protects, are_protected}
+use Rattle.flux_check.specs.Judgement.{AreJoined}
+use Rattle.flux_check.proofs.Rowless.{nil_append, IsClean, all_clean, no_crossed}
+use Rattle.flux_check.proofs.Numbered.{same_text, text_same, first_known, first_unknown, node_named, map_get, known_node}
+use Rattle.flux_check.proofs.Roles.{signed_plain, source_signed, written_like, signed_protected}
+use Rattle.flux_check.proofs.Spelled.{both_true as and_true}
+use Rattle.flux_check.proofs.Crossed.{one_scope}
+use Rattle.flux_check.proofs.Constrained.{any_among, on_line, declares, declared_from}
 use Rattle.flux_check.proofs.Joins.{K, cases_joined, cases_fit, handlers_joined, sources_fit, sessions_like}
 
--- no constraint is declared
-unconstrained : (meaning : LibraryMeaning) (all decls : List Decl) → AllByRecursion (IsClean meaning all) decls → flat_map constraints_of decls ≡ []
-unconstrained meaning all [] clean = refl
-unconstrained meaning all (Atomic node constraints ∷ decls) clean = let here = clean.0 in let h : ◌≡◌ {A = Option Word} (Some node) None = here.built in absurd cc
-unconstrained meaning all (Signature own ins outs ∷ decls) clean = unconstrained meaning all decls clean.1
-unconstrained meaning all (Flow own patterns members ∷ decls) clean = unconstrained meaning all decls clean.1
-unconstrained meaning all (Source own target ∷ decls) clean = unconstrained meaning all decls clean.1
-unconstrained meaning all (Typedef own function ∷ decls) clean = unconstrained meaning all decls clean.1
-unconstrained meaning all (Handler node codes handler ∷ decls) clean = unconstrained meaning all decls clean.1
-unconstrained meaning all (Session source function ∷ decls) clean = unconstrained meaning all decls clean.1
+at_least_more : (a b c : Mode) → at_least a b ≡ true → at_least b c ≡ true → at_least a c ≡ true
+at_least_more Writer b c e f = refl
+at_least_more Reader Reader c e f = f
+at_least_more Reader Writer c e f = absurd cc
 
--- so there are no classes
-pub no_classes : (meaning : LibraryMeaning) (decls : List Decl) → AreSound meaning decls → classes_of decls ≡ []
-no_classes meaning decls sound = ap classes_among (unconstrained meaning decls decls (all_clean meaning decls sound))
+same_known : (a b : Bool) → not (beq a b) ≡ false → a ≡ b
+same_known true true e = refl
+same_known true false e = absurd cc
+same_known false true e = absurd cc
+same_known false false e = refl
 
--- and no number has one
-pub no_class : (classes : List Class) (number : ℕ) (class : Class) → classes ≡ [] → slice_get classes number ≡ Some class → ⊥
-no_class [] number class none at = absurd cc
-no_class (c ∷ classes) number class none at = absurd cc
-
-module _ (meaning : LibraryMeaning) (all : List Decl) (order : List NodeNo) (is_order : IsOrder (nodes_of all) order) (sound_all : AreSound meaning all) where
+module _ (meaning : LibraryMeaning) (all : List Decl) (order : List NodeNo) (is_order : IsOrder (nodes_of all) order) (joined_all : AreJoined meaning all) where
   abbrev names : List (List ℕ)
   names = names_of all
 
@@ -67,7 +70,7 @@ module _ (meaning : LibraryMeaning) (all : List Decl) (order : List NodeNo) (is_
   kinds = K meaning all
 
   clean : AllByRecursion (IsClean meaning all) all
-  clean = all_clean meaning all sound_all
+  clean = all_clean meaning all joined_all
 
   -- ---- what words lead to
 
@@ -201,9 +204,35 @@ module _ (meaning : LibraryMeaning) (all : List Decl) (order : List NodeNo) (is_
     body_like true is rule = subst (λ (sig : NodeSig). IsLike (meaning.node (library_name name)) (node_kinds sig)) (sym rule) (written_like meaning all all clean number name at is)
     body_like false is rule = tt
 
-    body_safe : (signed : Bool) → list_any (is_signed name) all ≡ signed → AreCellsProtected meaning (program_of all) number (body name signed)
-    body_safe true is = signed_free meaning all (IsProtected (program_of all) number) all clean name is
-    body_safe false is = tt
+    module _ (here : slice_get nodes number ≡ Some (node_named all name)) where
+      cell_protected : (cell : CellUse) → list_any (protects cell) (flat_map (constraints_on name) all) ≡ true → IsProtected (program_of all) number cell
+      cell_protected cell e =
+          let (c, is, protected) = any_among (protects cell) (flat_map (constraints_on name) all) e in
+          let d = declares all name c is in
+          let both = and_true (bytes_eq c.name.text cell.name) (at_least c.mode cell.mode) protected in
+          let hold = d.hold in
+          record {
+            hold = hold;
+            declares = subst (λ (n : Option Node). Contains (declared_on n) hold) (sym here) d.contains;
+            class = class_of c;
+            is_class = d.numbered;
+            named = same_text c.name.text cell.name both.0;
+            enough = at_least_more hold.mode c.mode cell.mode d.enough both.1;
+          }
+
+      cells_protected : (cells : List CellUse) → list_all (λ cell. list_any (protects cell) (flat_map (constraints_on name) all)) cells ≡ true → AllByRecursion (IsProtected (program_of all) number) cells
+      cells_protected [] e = tt
+      cells_protected (cell ∷ cells) e =
+          let both = and_true (list_any (protects cell) (flat_map (constraints_on name) all)) (list_all (λ cell. list_any (protects cell) (flat_map (constraints_on name) all)) cells) e in
+          (cell_protected cell both.0, cells_protected cells both.1)
+
+      sig_protected : (found : Option Sig) → are_protected (flat_map (constraints_on name) all) found ≡ true → IfSome found (λ sig. AllByRecursion (IsProtected (program_of all) number) sig.cells)
+      sig_protected None e = tt
+      sig_protected (Some sig) e = cells_protected sig.cells e
+
+      body_safe : (signed : Bool) → list_any (is_signed name) all ≡ signed → AreCellsProtected meaning (program_of all) number (body name signed)
+      body_safe true is = sig_protected (meaning.node (library_name name)) (signed_protected meaning all all clean name is)
+      body_safe false is = tt
 
   -- what each node of a number has
   record IsGood (number : ℕ) (node : Node) : Type 0 where
@@ -222,7 +251,7 @@ module _ (meaning : LibraryMeaning) (all : List Decl) (order : List NodeNo) (is_
     handlers = handlers_joined meaning all all clean number name at;
     like = body_like number name at (list_any (is_signed name) all) refl (sig_rule meaning.kind all order is_order number (node_named all name) here);
     fits = body_fits number name at (list_any (is_signed name) all);
-    safe = body_safe number name at (list_any (is_signed name) all) refl;
+    safe = body_safe number name at here (list_any (is_signed name) all) refl;
   }
 
   good : (number : ℕ) (node : Node) → slice_get nodes number ≡ Some node → IsGood number node
@@ -230,17 +259,39 @@ module _ (meaning : LibraryMeaning) (all : List Decl) (order : List NodeNo) (is_
       let image = map_get (node_named all) names number node at in
       subst (IsGood number) image.is (named_good number image.from image.at (subst (λ (n : Node). slice_get nodes number ≡ Some n) (sym image.is) at))
 
-  -- ---- sessions
+  -- ---- scopes
 
-  none_needed : (lines : List SourceLine) → AllByRecursion (HasSession (program_of all)) lines
-  none_needed [] = tt
-  none_needed (line ∷ lines) =
-      ((λ node reached declares. absurd (let hold = declares.hold in let class = hold.class in no_class (classes_of all) class.0 declares.class (no_classes meaning all sound_all) declares.is_class)), none_needed lines)
+  one_name : (name : List ℕ) (classes : ℕ → Option Class) (one other : Hold) (first second : Class) → classes ≡ slice_get (classes_of all)
+      → Contains (declared_by (classes_of all) name all) one → Contains (declared_by (classes_of all) name all) other
+      → (let class = one.class in classes class.0 ≡ Some first) → (let class = other.class in classes class.0 ≡ Some second)
+      → first.name ≡ second.name → first.session ≡ second.session
+  one_name name classes one other first second are has also is_first is_second named =
+      let (c, is, at) = declared_from all name one has in
+      let (d, too, there) = declared_from all name other also in
+      let mine : first ≡ class_of c = (let class = one.class in let e = sym is_first ∙ ap (λ (of : ℕ → Option Class). of class.0) are ∙ at in cc) in
+      let their : second ≡ class_of d = (let class = other.class in let e = sym is_second ∙ ap (λ (of : ℕ → Option Class). of class.0) are ∙ there in cc) in
+      let a = on_line name all c is in
+      let b = on_line name all d too in
+      let nodes_same : bytes_eq a.own.text b.own.text ≡ true = text_same a.own.text b.own.text (same_text a.own.text name a.same ∙ sym (same_text b.own.text name b.same)) in
+      let names_same : bytes_eq c.name.text d.name.text ≡ true = text_same c.name.text d.name.text (sym (ap (λ (k : Class). k.name) mine) ∙ named ∙ ap (λ (k : Class). k.name) their) in
+      let apart = one_scope (flat_map constraints_in all) (no_crossed meaning all joined_all) (record { node = a.own; constraint = c }) (record { node = b.own; constraint = d }) a.among b.among in
+      let scopes_same : c.session ≡ d.session = same_known c.session d.session (let h : not (beq c.session d.session) ≡ false = rw (nodes_same, names_same) at apart in h) in
+      ap (λ (k : Class). k.session) mine ∙ scopes_same ∙ sym (ap (λ (k : Class). k.session) their)
 
-  program_sound : IsNumbered (program_of all) → IsSound meaning (program_of all) kinds
-  program_sound numbered = record {
+  one_scope_each : (number : ℕ) → HasOneScope (program_of all) number
+  one_scope_each number one other first second declares also is_first is_second named = at_node (slice_get nodes number) refl declares also
+    where
+      at_node : (found : Option Node) → slice_get nodes number ≡ found → Contains (declared_on found) one → Contains (declared_on found) other → first.session ≡ second.session
+      at_node None e has too = absurd (omega (arith, has.1))
+      at_node (Some node) e has too =
+          let image = map_get (node_named all) names number node e in
+          let is = ap (λ (n : Node). n.declared) (sym image.is) in
+          one_name image.from (slice_get (classes_of all)) one other first second refl (subst (λ (l : List Hold). Contains l one) is has) (subst (λ (l : List Hold). Contains l other) is too) is_first is_second named
+
+  program_sound : IsNumbered (program_of all) → AllByRecursion (HasSession (program_of all)) (filter_map (source_of names all) all) → IsSound meaning (program_of all) kinds
+  program_sound numbered served = record {
     numbered = numbered;
-    acyclic = sound_all.ordered.acyclic;
+    acyclic = joined_all.ordered.acyclic;
     origins = origins_are all clean;
     targets = targets_are all clean;
     members = λ number node at led is. let g = good number node at in g.plain led is;
@@ -255,13 +306,12 @@ module _ (meaning : LibraryMeaning) (all : List Decl) (order : List NodeNo) (is_
       sessions = sessions_like meaning all clean all;
     };
     protected = λ number node at. let g = good number node at in g.safe;
-    scopes = λ number one other first second declares also is_first is_second named.
-        absurd (let class = one.class in no_class (classes_of all) class.0 first (no_classes meaning all sound_all) is_first);
-    session = none_needed (filter_map (source_of names all) all);
+    scopes = one_scope_each;
+    session = served;
   }
 
--- the program of sound declarations is sound for the library, with its nodes' kinds
-pub sound : (meaning : LibraryMeaning) (decls : List Decl) (order : List NodeNo) (sigs : List NodeSig) → IsNumbered (program_of decls) → IsOrder (nodes_of decls) order → AreSigs meaning.kind decls sigs → AreSound meaning decls
-    → IsSound meaning (program_of decls) (kinds_at sigs)
-sound meaning decls order sigs numbered is_order are all_sound =
-    subst (λ (of : ℕ → NodeSig). IsSound meaning (program_of decls) (λ number. node_kinds (of number))) (sym (sigs_same meaning.kind decls sigs are)) (program_sound meaning decls order is_order all_sound numbered)
+-- the program of declarations at which no row up to 26 stands is sound for the library, with its nodes' kinds
+pub sound : (meaning : LibraryMeaning) (decls : List Decl) (order : List NodeNo) (sigs : List NodeSig) → IsNumbered (program_of decls) → IsOrder (nodes_of decls) order → AreSigs meaning.kind decls sigs → AreJoined meaning decls
+    → (let p = program_of decls in AllByRecursion (HasSession p) p.sources) → IsSound meaning (program_of decls) (kinds_at sigs)
+sound meaning decls order sigs numbered is_order are joined served =
+    subst (λ (of : ℕ → NodeSig). IsSound meaning (program_of decls) (λ number. node_kinds (of number))) (sym (sigs_same meaning.kind decls sigs are)) (program_sound meaning decls order is_order joined numbered served)

@@ -2,17 +2,19 @@
 use Rattle.std.specs.Prelude.{◌≡◌, ◌≤◌, ◌<◌, ◌⊎◌, ℕ, List, [], length, map, Option, Some, None, ⊤}
 use Rattle.std.specs.List.{slice_get}
 use Rattle.flux_values.specs.Meanings.{LibraryMeaning}
-use Rattle.flux_faults.specs.declared.faults.FaultKind.TheVariants.{NotBuilt, Cycle}
+use Rattle.flux_faults.specs.declared.faults.FaultKind.TheVariants.{Cycle}
 use Rattle.flux_faults.specs.declared.faults.StaticFault.{StaticFault}
 use Rattle.flux_faults.specs.declared.faults.CheckFault.{CheckFault}
 use Rattle.flux_faults.specs.declared.faults.CheckFault.TheVariants.{Static, Memory}
 use Rattle.flux_model.specs.declared.programs.Program.{Program}
 use Rattle.flux_model.specs.declared.programs.NodeNo.{NodeNo}
+use Rattle.flux_model.specs.declared.programs.Hold.{Hold}
 use Rattle.flux_model.specs.declared.signatures.NodeSig.{NodeSig}
 use Rattle.flux_model.specs.declared.named.Named.{Named}
 use Rattle.flux_model.specs.Ordering.{IsOrder, HasCycle, IsLowestCycle}
 use Rattle.flux_model.specs.Soundness.{IsSound}
 use Rattle.flux_model.specs.Kinds.{kinds_at}
+use Rattle.flux_model.specs.Locks.{Holds, AreLocks}
 use Rattle.flux_model.specs.Texts.{node_name}
 use Rattle.flux_syntax.specs.declared.declarations.Decl.{Decl}
 use Rattle.flux_syntax.specs.Declares.{Declares}
@@ -20,27 +22,28 @@ use Rattle.flux_syntax.specs.Unexpected.{IsFaulty}
 use Rattle.flux_syntax.specs.ProgramOfText.{program_of, named_of}
 use Rattle.flux_syntax.specs.Least.{Row, first_fault}
 use Rattle.flux_names.specs.Rows.{rows}
-use Rattle.flux_names.specs.Building.{first_constrained}
 use Rattle.flux_types.specs.Signatures.{nodes_of, AreSigs}
 use Rattle.flux_hoist.specs.Keeping.{Keeps}
-use Rattle.flux_check.specs.Rows.{later_rows}
+use Rattle.flux_check.specs.Rows.{later_rows, size_rows}
 
 -- ---- sound declarations
 
--- all forms are built, and no row on names stands
-pub record AreNamed (meaning : LibraryMeaning) (decls : List Decl) : Type 0 where
-  pub built : first_constrained meaning decls ≡ None
-  pub named : first_fault (rows meaning decls) ≡ None
-
--- and there is no cycle
+-- no row on names stands, and there is no cycle
 pub record AreOrdered (meaning : LibraryMeaning) (decls : List Decl) : Type 0 where
-  pub names : AreNamed meaning decls
+  pub named : first_fault (rows meaning decls) ≡ None
   pub acyclic : HasCycle (nodes_of decls) → ⊥
 
--- and no later row stands: the declarations are sound
-pub record AreSound (meaning : LibraryMeaning) (decls : List Decl) : Type 0 where
+-- and none of the rows 16 to 26
+pub record AreJoined (meaning : LibraryMeaning) (decls : List Decl) : Type 0 where
   pub ordered : AreOrdered meaning decls
   pub later : first_fault (later_rows meaning decls) ≡ None
+
+-- and the sizes, with the program's locks, are within the limit: the declarations are sound
+pub record AreSound (meaning : LibraryMeaning) (decls : List Decl) : Type 0 where
+  pub joined : AreJoined meaning decls
+  pub locks : Holds
+  pub are_locks : AreLocks (program_of decls) locks
+  pub sized : first_fault (size_rows locks decls) ≡ None
 
 -- ---- the fault of declarations: of the first group that has one
 
@@ -48,17 +51,6 @@ pub record AreSound (meaning : LibraryMeaning) (decls : List Decl) : Type 0 wher
 pub record IsFirst (rows : List Row) (fault : StaticFault) : Type 0 where
   pub is : first_fault rows ≡ Some (fault.kind, fault.at)
   pub path : fault.path ≡ []
-
--- a form that isn't built
-pub record IsUnbuilt (meaning : LibraryMeaning) (decls : List Decl) (fault : StaticFault) : Type 0 where
-  pub at : first_constrained meaning decls ≡ Some fault.at
-  pub is : fault.kind ≡ NotBuilt
-  pub path : fault.path ≡ []
-
--- 5 to 14, and 28 where none of these stands
-pub record IsNameFault (meaning : LibraryMeaning) (decls : List Decl) (fault : StaticFault) : Type 0 where
-  pub built : first_constrained meaning decls ≡ None
-  pub first : IsFirst (rows meaning decls) fault
 
 -- 15: a cycle through the lowest-numbered node on any, at that node's first naming line; the path has the nodes' names
 pub record IsCycleOf (named : Named) (fault : StaticFault) : Type 0 where
@@ -69,20 +61,28 @@ pub record IsCycleOf (named : Named) (fault : StaticFault) : Type 0 where
   pub site : let first = cycle.cycle.first in slice_get named.sites.nodes first.0 ≡ Some fault.at
 
 pub record IsCycleFault (meaning : LibraryMeaning) (decls : List Decl) (fault : StaticFault) : Type 0 where
-  pub names : AreNamed meaning decls
+  pub named : first_fault (rows meaning decls) ≡ None
   pub cycle : IsCycleOf (named_of decls) fault
 
--- 16 to 27
+-- 16 to 26
 pub record IsLaterFault (meaning : LibraryMeaning) (decls : List Decl) (fault : StaticFault) : Type 0 where
   pub ordered : AreOrdered meaning decls
   pub first : IsFirst (later_rows meaning decls) fault
 
+-- 27
+pub record IsSizeFault (meaning : LibraryMeaning) (decls : List Decl) (fault : StaticFault) : Type 0 where
+  pub joined : AreJoined meaning decls
+  pub locks : Holds
+  pub are_locks : AreLocks (program_of decls) locks
+  pub first : IsFirst (size_rows locks decls) fault
+
+-- 5 to 14, and 28 where none of these stands; and those
 abbrev pub IsDeclsFault : LibraryMeaning → List Decl → StaticFault → Type 0
 IsDeclsFault meaning decls fault =
-    IsUnbuilt meaning decls fault
-    ⊎ (IsNameFault meaning decls fault
+    IsFirst (rows meaning decls) fault
     ⊎ (IsCycleFault meaning decls fault
-    ⊎ IsLaterFault meaning decls fault))
+    ⊎ (IsLaterFault meaning decls fault
+    ⊎ IsSizeFault meaning decls fault))
 
 -- ---- texts
 
@@ -101,19 +101,19 @@ pub record IsSoundText (meaning : LibraryMeaning) (text : List ℕ) : Type 0 whe
 -- what was checked is that of sound declarations: their program, its signatures, and what a checked program keeps; the
 -- program is sound for the library
 pub record AreChecked (meaning : LibraryMeaning) (decls : List Decl) (program : Program) (sigs : List NodeSig)
-    (order : List NodeNo) (sizes : List ℕ) : Type 0 where
+    (order : List NodeNo) (sets : List (List Hold)) (sizes : List ℕ) : Type 0 where
   pub sound : AreSound meaning decls
   pub is : program ≡ program_of decls
   pub sigs_ : AreSigs meaning.kind decls sigs
-  pub keeps : Keeps program sigs order sizes
+  pub keeps : Keeps program sigs order sets sizes
   pub for_library : IsSound meaning program (kinds_at sigs)
 
 -- it is that of the text
 pub record IsChecked (meaning : LibraryMeaning) (text : List ℕ) (program : Program) (sigs : List NodeSig)
-    (order : List NodeNo) (sizes : List ℕ) : Type 0 where
+    (order : List NodeNo) (sets : List (List Hold)) (sizes : List ℕ) : Type 0 where
   pub decls : List Decl
   pub declared : Declares decls text
-  pub checked : AreChecked meaning decls program sigs order sizes
+  pub checked : AreChecked meaning decls program sigs order sets sizes
 
 -- a refusal is of a fault of the text, at a place in it or at its end
 abbrev pub IsRefusalOf : LibraryMeaning → List ℕ → CheckFault → Type 0

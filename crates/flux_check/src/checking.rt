@@ -5,21 +5,21 @@ ghost use Rattle.flux_model.specs.Numbered.{IsNumbered};
 ghost use Rattle.flux_model.specs.Ordering.{IsOrder, HasCycle};
 ghost use Rattle.flux_model.specs.Texts.{node_name};
 ghost use Rattle.flux_syntax.specs.Counted.{words_of};
-ghost use Rattle.flux_names.specs.Building.{first_constrained};
 ghost use Rattle.flux_faults.specs.declared.faults.StaticFault.{StaticFault};
 ghost use Rattle.flux_faults.specs.declared.faults.CheckFault.TheVariants as causes;
 ghost use Rattle.flux_check.specs.Judgement.{AreChecked, IsChecked, IsRefusalOf, IsSoundText, IsTextFault, IsThatFault};
-ghost use Rattle.flux_check.specs.steps.Checking.{IsDeclared, IsUnbuiltRefusal, IsCycleRefusal, IsDeclsRefusal, site_of};
+ghost use Rattle.flux_check.specs.steps.Checking.{IsDeclared, IsCycleRefusal, IsDeclsRefusal, site_of};
 
+use crate::constraints::constraints;
 use crate::sizing::sizes;
 use flux_edges::{handler_types, session_edges};
 use flux_faults::{CheckFault, FaultKind, StaticFault};
 use flux_graph::{GraphFault, Order, order};
-use flux_hoist::Checked;
+use flux_hoist::{Checked, hoist};
 use flux_library::Library;
 use flux_model::{COUNT_LIMIT, Named, NodeNo, Program};
-use flux_names::{first_constrained, resolve};
-use flux_syntax::{Decl, fault_at, read};
+use flux_names::resolve;
+use flux_syntax::{Decl, read};
 use flux_types::{sigs, source_types};
 use flux_values::{List, Memory, TextBytes};
 use std::alloc::Global;
@@ -84,47 +84,37 @@ fn ordered(alloc: Global, named: &Named) -> Result<Order, CheckFault>
     }))
 }
 
-/// That all forms of the declarations are built. Constraints aren't yet, nor are nodes that use a cell.
-fn built<L: Library>(alloc: Global, decls: &List<Decl>, library: &L) -> Result<(), CheckFault>
-    ensures built { OnOk result (first_constrained (L.meaning library.now) decls.now ≡ None) }
-    ensures unbuilt { IfErr result (IsUnbuiltRefusal (L.meaning library.now) decls.now) }
-{
-    match first_constrained(alloc, decls, library)? {
-        Some(at) => Err(fault_at(alloc, FaultKind::NotBuilt, at)),
-        None => Ok(()),
-    }
-}
-
 /// A checked program of declarations, or their fault.
 fn judge<L: Library>(alloc: Global, decls: &List<Decl>, library: &L) -> Result<Checked, CheckFault>
     requires declared { IsDeclared decls.now }
     requires few { words_of decls.now ≤ COUNT_LIMIT }
     ensures checked { IfOk result (λ checked. AreChecked (L.meaning library.now) decls.now
-        checked.program checked.sigs.nodes checked.order.nodes checked.sizes) }
+        checked.program checked.sigs.nodes checked.order.nodes checked.sets.nodes checked.sizes) }
     ensures fault { IfErr result (IsDeclsRefusal (L.meaning library.now) decls.now) }
 {
-    built(alloc, decls, library)?;
     let named = resolve(alloc, decls, library)?;
     let order = ordered(alloc, &named)?;
     let sigs = sigs(alloc, decls, &named, &order, library)?;
     handler_types(alloc, &named, &sigs)?;
     source_types(alloc, decls, &named, &sigs, library)?;
+    constraints(alloc, decls, library)?;
     session_edges(alloc, &named)?;
-    let sizes = sizes(alloc, decls, &named, &order)?;
+    let sets = hoist(alloc, &named.program, &order)?;
+    let sizes = sizes(alloc, decls, &named, &order, &sets)?;
     Ok(Checked {
         program: named.program,
         sigs,
         order,
+        sets,
         sizes,
     })
 }
 
-/// A text's program with what is found of it, or the text's fault. `NotBuilt` is the fault of a form that isn't built
-/// yet; it comes after the faults 1 to 4 and before all others.
+/// A text's program with what is found of it, or the text's fault.
 pub fn check<L: Library>(alloc: Global, text: &[u8], library: &L) -> Result<Checked, CheckFault>
     // What is answered holds of the text,
     ensures checked { IfOk result (λ checked. IsChecked (L.meaning library.now) text.now
-        checked.program checked.sigs.nodes checked.order.nodes checked.sizes) }
+        checked.program checked.sigs.nodes checked.order.nodes checked.sets.nodes checked.sizes) }
     ensures fault { IfErr result (IsRefusalOf (L.meaning library.now) text.now) }
     // and what holds of the text is answered, unless memory is short.
     ensures sound { IsSoundText (L.meaning library.now) text.now

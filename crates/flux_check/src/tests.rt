@@ -118,8 +118,8 @@ fn a_cycle_is_shown_from_its_lowest_node(rt: HostRuntime) {
 fn earlier_groups_are_looked_at_first(rt: HostRuntime) -> Result<(), Fail> {
     let alloc = rt.alloc();
     assert_parts(&rt, alloc, &[b"A = $;"], FaultKind::BadByte, 4)?;
-    let unbuilt = b"A = B; atomic B: {c};";
-    assert_parts(&rt, alloc, &[unbuilt], FaultKind::NotBuilt, 14)?;
+    let unnamed = b"A = $; atomic B: {c};";
+    assert_parts(&rt, alloc, &[unnamed], FaultKind::BadByte, 4)?;
     let unknown = b"A = A; B = C;";
     assert_parts(&rt, alloc, &[unknown], FaultKind::UnknownNode, 11)?;
     let large = joined(alloc, &[TICK, PASS, b"A = A; source Tick => A;"])?;
@@ -129,6 +129,51 @@ fn earlier_groups_are_looked_at_first(rt: HostRuntime) -> Result<(), Fail> {
     assert_parts(&rt, alloc, &parts, FaultKind::JoinTypes, 82)?;
     let parts = [PASS, ECHO, b"A = Pass -> Echo; B = ;"];
     assert_parts(&rt, alloc, &parts, FaultKind::NoSignature, 69)?;
+    Ok(())
+}
+
+#[test]
+fn a_name_in_both_scopes_stands_at_the_constraint_behind_its_other_scope(
+    rt: HostRuntime,
+) -> Result<(), Fail> {
+    let alloc = rt.alloc();
+    let table = [
+        (b"atomic Pass: {x, x(session)};".as_slice(), Some(67)),
+        (b"atomic Pass: {x(session), x};", Some(76)),
+        (b"atomic Pass: {x}; atomic Pass: {x(session)};", Some(82)),
+        (b"atomic Pass: {x(session)}; atomic Pass: {x?};", Some(91)),
+        (b"atomic Pass: {x, y, y(session), x(session)};", Some(70)),
+        (b"atomic Pass: {x?, x, x};", None),
+        (b"atomic Pass: {x}; atomic Pass_2: {x(session)};", None),
+    ];
+    for (lines, at) in table {
+        let text = joined(alloc, &[PASS, b"Pass_2 (int n) => (int n);", lines])?;
+        match at {
+            Some(at) => {
+                let kind = FaultKind::BothScopes;
+                assert_fault(&rt, alloc, text.as_bytes(), kind, at, &[]);
+            }
+            None => assert_sizes(&rt, alloc, text.as_bytes(), &[]),
+        }
+    }
+    Ok(())
+}
+
+#[test]
+fn nodes_hold_what_is_below_them_up_to_their_greatest_class(rt: HostRuntime) -> Result<(), Fail> {
+    let lines =
+        b"Outer = Middle; Middle = Inner; Inner = Pass; atomic Outer: {m}; atomic Inner: {a, z};";
+    let text = joined(rt.alloc(), &[PASS, lines])?;
+    match check(rt.alloc(), text.as_bytes(), &Basic) {
+        Ok(checked) => {
+            let held = [0, 2, 0, 2];
+            for (set, count) in checked.sets.nodes.iter().zip(held) {
+                assert_eq!(rt; set.as_slice().len(), count);
+            }
+            assert_eq!(rt; checked.sets.nodes.len(), 4);
+        }
+        Err(_) => assert!(&rt; false, "refused"),
+    }
     Ok(())
 }
 
@@ -159,6 +204,19 @@ fn sizes_sum_to_at_most_65536(rt: HostRuntime) -> Result<(), Fail> {
     );
     let table = [
         ([TICK, PASS, b"source Tick => Pass;"].as_slice(), 4),
+        (
+            [TICK, PASS, b"source Tick => Pass; atomic Pass: {x, y?};"].as_slice(),
+            8,
+        ),
+        (
+            [
+                TICK,
+                PASS,
+                b"source Tick => A; A = Pass; atomic A: {y}; atomic Pass: {x, z};",
+            ]
+            .as_slice(),
+            15,
+        ),
         (
             [
                 TICK,
