@@ -1,0 +1,9 @@
+pub mod Takes
+pub mod Sections
+pub mod Circles
+pub mod Parts
+pub mod Going
+pub mod Moves
+pub mod Growth
+pub mod Calls
+pub mod Hoisted
