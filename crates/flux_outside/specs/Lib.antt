@@ -1,6 +1,8 @@
 pub mod Causes
 pub mod Sinks
 pub mod Stores
+pub mod Folders
+pub mod MemoryFolders
 pub mod Readers
 pub mod Opening
 pub mod Calls

@@ -9,8 +9,12 @@
 mod asked;
 mod calls;
 mod faults;
+mod folders;
+mod gates;
 mod memory;
+mod memory_folders;
 mod real;
+mod real_folders;
 mod sinks;
 mod stores;
 mod system;
@@ -19,7 +23,11 @@ mod tests;
 
 pub use asked::AskedNames;
 pub use faults::{Failed, StoreFault};
+pub use folders::{Folder, NextDoc};
+pub use gates::{Gate, OpenGate};
 pub use memory::{FileBytes, MemorySink, MemoryStore};
+pub use memory_folders::MemoryFolder;
 pub use real::{RealSink, RealStore};
+pub use real_folders::{RealFolder, SUBFOLDER_LIMIT};
 pub use sinks::Sink;
 pub use stores::{File, Store};

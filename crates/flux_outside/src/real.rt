@@ -90,7 +90,7 @@ impl<R: Files> Store for RealStore<R> {
 }
 
 /// All of a file that was opened, or the answer for one that wasn't.
-fn read_opened<R, F: Read + Drop>(
+pub(crate) fn read_opened<R, F: Read + Drop>(
     files: &mut SystemFiles<R>,
     alloc: Global,
     opened: Result<OpenFile<F>, NotOpened>,

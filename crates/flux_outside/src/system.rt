@@ -3,13 +3,15 @@
 ghost use Rattle.std.specs.Prelude.{◌≡◌, ◌≤◌, []};
 ghost use Rattle.std.specs.Io.{ReadsAtMost};
 ghost use Rattle.std.specs.Io.KnownBytes.{ReadConsumes};
-ghost use Rattle.flux_outside.specs.Causes.{HasCause};
+ghost use Rattle.flux_outside.specs.Causes.{Rose, HasCause, HasStoreCause, CountsFault};
 ghost use Rattle.flux_outside.specs.Stores.{AskedFor};
 ghost use Rattle.flux_outside.specs.Opening.{why_not, CountsOpening};
 
 use crate::asked::AskedNames;
-use crate::faults::{Failed, count};
+use crate::faults::{Failed, StoreFault, count};
+use std::alloc::Global;
 use std::fs;
+use std::fs::{DirEntry, ReadDir};
 use std::io::{ErrorKind, Read};
 use std::rt::Files;
 
@@ -36,7 +38,25 @@ pub enum NotOpened {
     Failed,
 }
 
+/// What an entry of a folder is.
+#[derive(Clone, Copy, Debug)]
+pub enum EntryKind {
+    File,
+    Folder,
+    /// A link, a pipe or whatever else.
+    Other,
+}
+
 impl<R> SystemFiles<R> {
+    /// Counts a failure.
+    pub fn fail(&mut self) -> Failed
+        ensures asked { self.new.asked ≡ self.old.asked }
+        ensures later { self.old.faults ≤ self.new.faults }
+        ensures rose { Rose self.old.faults self.new.faults }
+    {
+        count(&mut self.faults)
+    }
+
     pub fn new(runtime: R) -> SystemFiles<R>
         ensures asked { result.asked.names ≡ [] }
         ensures faultless { result.faults ≡ 0 }
@@ -85,6 +105,81 @@ impl<R: Files> SystemFiles<R> {
             let _ = count(&mut self.faults);
         }
         Err(reason)
+    }
+}
+
+impl<R: Files> SystemFiles<R> {
+    /// Whether there is a folder of a name. It takes no memory.
+    pub fn is_folder(&mut self, name: &[u8]) -> Result<bool, Failed>
+        ensures asked { self.new.asked ≡ self.old.asked }
+        ensures cause { HasCause self.old.faults self.new.faults result }
+    {
+        let Ok(path) = str::from_utf8(name) else {
+            return Err(count(&mut self.faults));
+        };
+        match fs::metadata(&self.runtime, path) {
+            Ok(metadata) => Ok(metadata.is_dir()),
+            Err(e) => match e.kind() {
+                ErrorKind::NotFound | ErrorKind::NotADirectory => Ok(false),
+                _ => Err(count(&mut self.faults)),
+            },
+        }
+    }
+
+    /// A fault for an error of the system.
+    fn refuse(&mut self, kind: ErrorKind) -> StoreFault
+        ensures asked { self.new.asked ≡ self.old.asked }
+        ensures later { self.old.faults ≤ self.new.faults }
+        ensures cause { CountsFault self.old.faults self.new.faults result }
+    {
+        match kind {
+            ErrorKind::OutOfMemory => StoreFault::Memory,
+            _ => count(&mut self.faults).into(),
+        }
+    }
+}
+
+impl<R: Files + AllocGlobal + Clone + Drop> SystemFiles<R> {
+    /// The entries of a folder.
+    pub fn read_folder(&mut self, name: &[u8]) -> Result<ReadDir<R, Global>, StoreFault>
+        ensures asked { self.new.asked ≡ self.old.asked }
+        ensures cause { HasStoreCause self.old.faults self.new.faults result }
+    {
+        let Ok(path) = str::from_utf8(name) else {
+            return Err(count(&mut self.faults).into());
+        };
+        match fs::read_dir(&self.runtime, path) {
+            Ok(entries) => Ok(entries),
+            Err(e) => Err(self.refuse(e.kind())),
+        }
+    }
+
+    /// The next entry of a folder. A name that is no UTF-8 fails, since std gives texts alone.
+    pub fn next_entry(
+        &mut self,
+        entries: &mut ReadDir<R, Global>,
+    ) -> Result<Option<DirEntry<R, Global>>, StoreFault>
+        ensures asked { self.new.asked ≡ self.old.asked }
+        ensures cause { HasStoreCause self.old.faults self.new.faults result }
+    {
+        match entries.next() {
+            None => Ok(None),
+            Some(Ok(entry)) => Ok(Some(entry)),
+            Some(Err(e)) => Err(self.refuse(e.kind())),
+        }
+    }
+
+    /// What an entry is itself, wherever a link may lead.
+    pub fn kind_of(&mut self, entry: &DirEntry<R, Global>) -> Result<EntryKind, StoreFault>
+        ensures asked { self.new.asked ≡ self.old.asked }
+        ensures cause { HasStoreCause self.old.faults self.new.faults result }
+    {
+        match entry.file_type() {
+            Ok(kind) if kind.is_file() => Ok(EntryKind::File),
+            Ok(kind) if kind.is_dir() => Ok(EntryKind::Folder),
+            Ok(_) => Ok(EntryKind::Other),
+            Err(e) => Err(self.refuse(e.kind())),
+        }
     }
 }
 

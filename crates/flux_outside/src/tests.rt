@@ -1,5 +1,6 @@
 //! The forms in memory fail where they are asked to.
 
+mod folders;
 mod real;
 
 use crate::{File, FileBytes, MemorySink, MemoryStore, Sink, Store, StoreFault};
