@@ -7,22 +7,11 @@ use Rattle.flux_values.specs.Cells.{CellMap}
 use Rattle.flux_values.specs.declared.values.Value.{Value}
 use Rattle.flux_values.specs.declared.values.Value.TheVariants.{Int, Bool, Text}
 use Rattle.flux_values.specs.declared.answers.Answer.{Answer}
-use Rattle.flux_values.specs.declared.answers.CallResult.TheVariants.{Good, Bad}
+use Rattle.flux_values.specs.declared.answers.CallResult.TheVariants.{Good}
+use Rattle.flux_library.specs.Answers.{ok, fails, emits, the_text}
 use Rattle.nodes_counter.specs.declared.nodes.Node.{Node}
 use Rattle.nodes_counter.specs.declared.nodes.Node.TheVariants as nodes
 use Rattle.nodes_counter.specs.Numbers.{fits, int_spelled}
-
--- ok with values, and nothing else
-abbrev pub ok : List Value → Answer
-ok values = record { result = Good values; puts = []; emits = [] }
-
--- fails with a code, and nothing else
-abbrev pub fails : ℕ → Answer
-fails code = record { result = Bad code; puts = []; emits = [] }
-
--- ok without values, and emits
-abbrev pub emits : List ℕ → Answer
-emits bytes = record { result = Good []; puts = []; emits = bytes }
 
 -- puts a number under a name of a cell, and is ok with another
 abbrev pub puts : List ℕ → List ℕ → ℤ → ℤ → Answer
@@ -51,11 +40,6 @@ number_under name (cell ∷ next ∷ cells) = pos 0
 abbrev pub the_number : List Value → ℤ
 the_number (Int number ∷ []) = number
 the_number values = pos 0
-
--- the text of a number and a text
-abbrev pub the_text : List Value → List ℕ
-the_text (number ∷ Text text ∷ []) = text
-the_text values = []
 
 -- the number of a text and a number
 abbrev pub the_amount : List Value → ℤ

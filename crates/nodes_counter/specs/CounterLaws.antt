@@ -1,40 +1,27 @@
 -- The library keeps the laws of a library (an `impl` takes its laws' proofs from here).
-use Rattle.std.proofs.Common.{◌≡◌, ◌≤◌, ℕ, ℤ, ◌+ℤ◌, pos, negsuc, suc, nat_abs, Bool, true, false, List, [], ◌∷◌, ◌++◌, length, codes, take, drop, Option, Some, None, IfSome, refl, sym, subst, arith, length-append, ◌&&◌, int_le, rules}
+use Rattle.std.proofs.Common.{◌≡◌, ◌≤◌, ℕ, ℤ, ◌+ℤ◌, pos, negsuc, suc, nat_abs, Bool, true, false, List, [], ◌∷◌, ◌++◌, length, codes, take, drop, Option, Some, None, refl, arith, length-append, ◌&&◌, int_le, rules}
 use Rattle.std.specs.List.{AllByRecursion}
 use Rattle.std.specs.Str.{bytes_eq}
 use Rattle.std.specs.Fmt.{signed_decimal}
 use Rattle.std.specs.FinMap.{get}
 use Rattle.std.proofs.lemmas.Fmt.{length-decimal-le}
 use Rattle.std.proofs.lemmas.Bool.Decides.{nat_tests}
-use Rattle.std.proofs.lemmas.Slice.Eq.{bytes_eq-Decides}
 use Rattle.flux_values.specs.declared.values.Value.{Value}
 use Rattle.flux_values.specs.declared.values.Value.TheVariants as values
 use Rattle.flux_values.specs.declared.answers.Mode.TheVariants.{Writer}
 use Rattle.flux_values.specs.Reading.{IsValue}
 use Rattle.flux_values.specs.Cells.{CellMap}
 use Rattle.flux_library.specs.Libraries.{IsLawfulNode, IsAnswerOf, IsLawful}
+use Rattle.flux_library.specs.TypeLaws.{types_short}
+use Rattle.flux_library.specs.Answers.{the_text}
+use Rattle.flux_library.specs.AnswerLaws.{text_valid}
 use Rattle.nodes_counter.specs.declared.nodes.Node.{Node}
 use Rattle.nodes_counter.specs.declared.nodes.Node.TheVariants as nodes
 use Rattle.nodes_counter.specs.Numbers.{fits, int_spelled}
 use Rattle.nodes_counter.specs.Nodes.{node_named, sig_of, sig_named}
-use Rattle.nodes_counter.specs.Calls.{number_or_zero, number_under, the_number, the_text, the_amount, fail_call, added, add_command, command_call, add_call, bump_call, answer_named}
-use Rattle.nodes_counter.specs.Counters.{kind_spelled, counter_meaning}
+use Rattle.nodes_counter.specs.Calls.{number_or_zero, number_under, the_number, the_amount, fail_call, added, add_command, command_call, add_call, bump_call, answer_named}
+use Rattle.nodes_counter.specs.Counters.{counter_meaning}
 use Rattle.nodes_counter.specs.SpellingLaws.{fits_sound, int_sound}
-
-is_word : (ty word : List ℕ) → bytes_eq ty word ≡ true → length word ≤ 65536 → length ty ≤ 65536
-is_word ty word e le = subst (λ (l : List ℕ). length l ≤ 65536) (sym ((bytes_eq-Decides ty word).0 e)) le
-
-types_short : (ty : List ℕ) → IfSome (kind_spelled ty) (λ _. length ty ≤ 65536)
-types_short ty = cases (bytes_eq ty (codes "int")) refl (bytes_eq ty (codes "long")) refl (bytes_eq ty (codes "bool")) refl (bytes_eq ty (codes "text")) refl (bytes_eq ty (codes "char*")) refl
-  where
-    cases : (a : Bool) → bytes_eq ty (codes "int") ≡ a → (b : Bool) → bytes_eq ty (codes "long") ≡ b → (c : Bool) → bytes_eq ty (codes "bool") ≡ c → (d : Bool) → bytes_eq ty (codes "text") ≡ d → (e : Bool) → bytes_eq ty (codes "char*") ≡ e
-        → IfSome (kind_spelled ty) (λ _. length ty ≤ 65536)
-    cases true p b q c r d s e t = rw p (is_word ty (codes "int") p (omega arith))
-    cases false p true q c r d s e t = rw (p, q) (is_word ty (codes "long") q (omega arith))
-    cases false p false q true r d s e t = rw (p, q, r) (is_word ty (codes "bool") r (omega arith))
-    cases false p false q false r true s e t = rw (p, q, r, s) (is_word ty (codes "text") s (omega arith))
-    cases false p false q false r false s true t = rw (p, q, r, s, t) (is_word ty (codes "char*") t (omega arith))
-    cases false p false q false r false s false t = rw (p, q, r, s, t) tt
 
 -- ---- what nodes read is a value
 
@@ -59,16 +46,6 @@ amount_valid (v ∷ values.Text t ∷ []) all = zero_valid
 amount_valid (v ∷ values.Int z ∷ w ∷ more) all = zero_valid
 amount_valid (v ∷ values.Bool b ∷ w ∷ more) all = zero_valid
 amount_valid (v ∷ values.Text t ∷ w ∷ more) all = zero_valid
-
-text_short : (args : List Value) → AllByRecursion IsValue args → length (the_text args) ≤ 1049600
-text_short [] all = omega arith
-text_short (v ∷ []) all = omega arith
-text_short (v ∷ values.Int n ∷ []) all = omega arith
-text_short (v ∷ values.Bool b ∷ []) all = omega arith
-text_short (v ∷ values.Text t ∷ []) all = omega (arith, all.1.0.1)
-text_short (v ∷ values.Int n ∷ w ∷ more) all = omega arith
-text_short (v ∷ values.Bool b ∷ w ∷ more) all = omega arith
-text_short (v ∷ values.Text t ∷ w ∷ more) all = omega arith
 
 held_valid : (value : Option Value) → IsValue (values.Int (number_or_zero value))
 held_valid None = zero_valid
@@ -154,7 +131,7 @@ node_lawful (Some nodes.Listen) = record { source = refl; answers = λ args cell
 node_lawful (Some nodes.Pass) = record { source = tt; answers = λ args cells fits_ all. record { result = (fits_.kinds, all); puts = tt; emits = omega arith } }
 node_lawful (Some nodes.Fail) = record { source = tt; answers = λ args cells fits_ all. fail_lawful (the_number args) (number_valid args all) }
 node_lawful (Some nodes.Show) = record { source = tt; answers = λ args cells fits_ all. record { result = (refl, tt); puts = tt; emits = shown_short (the_number args) (number_valid args all) } }
-node_lawful (Some nodes.Echo) = record { source = tt; answers = λ args cells fits_ all. record { result = (refl, tt); puts = tt; emits = text_short args all } }
+node_lawful (Some nodes.Echo) = record { source = tt; answers = λ args cells fits_ all. record { result = (refl, tt); puts = tt; emits = let short = (text_valid args all).1 in omega arith } }
 node_lawful (Some nodes.Refuse) = record { source = tt; answers = λ args cells fits_ all. record { result = (refl, tt); puts = tt; emits = omega arith } }
 node_lawful (Some nodes.Command) = record { source = tt; answers = λ args cells fits_ all. command_lawful (the_text args) }
 node_lawful (Some nodes.Amount) = record { source = tt; answers = λ args cells fits_ all. record { result = (refl, (amount_valid args all, tt)); puts = tt; emits = omega arith } }

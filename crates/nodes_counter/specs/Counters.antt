@@ -6,16 +6,11 @@ use Rattle.flux_values.specs.declared.values.Kind.{Kind}
 use Rattle.flux_values.specs.declared.values.Kind.TheVariants as kinds
 use Rattle.flux_values.specs.declared.values.Value.{Value}
 use Rattle.flux_values.specs.declared.values.Value.TheVariants.{Int, Bool, Text}
-use Rattle.nodes_counter.specs.Numbers.{is_zero, is_below_zero, as_u64}
+use Rattle.flux_library.specs.Types.{kind_spelled}
+use Rattle.flux_library.specs.Sessions.{first_as_u64}
+use Rattle.nodes_counter.specs.Numbers.{is_zero, is_below_zero}
 use Rattle.nodes_counter.specs.Nodes.{node_named, sig_named}
 use Rattle.nodes_counter.specs.Calls.{answer_named}
-
--- `int` and `long` are numbers, `text` and `char*` are texts
-abbrev pub kind_spelled : List ℕ → Option Kind
-kind_spelled ty =
-    if bytes_eq ty (codes "int") || bytes_eq ty (codes "long") then Some kinds.Int else
-    if bytes_eq ty (codes "bool") then Some kinds.Bool else
-    if bytes_eq ty (codes "text") || bytes_eq ty (codes "char*") then Some kinds.Text else None
 
 -- `IsZero` and `IsNegative` are asked of a number, `IsAdd` of a text
 abbrev pub asked : List ℕ → Option Kind
@@ -39,16 +34,11 @@ holds name (Int number) = holds_of_number name number
 holds name (Text text) = holds_of_text name text
 holds name (Bool truth) = false
 
--- `ByConn` takes a number and a text, `ByNumber` a number
+-- `ByConn` takes a number and a text, `ByNumber` a number; both give their number as u64
 abbrev pub session_kinds : List ℕ → Option (List Kind)
 session_kinds name =
     if bytes_eq name (codes "ByConn") then Some (kinds.Int ∷ kinds.Text ∷ []) else
     if bytes_eq name (codes "ByNumber") then Some (kinds.Int ∷ []) else None
-
--- both session functions give their number as u64
-abbrev pub session_number : List ℕ → List Value → ℕ
-session_number name (Int number ∷ values) = as_u64 number
-session_number name values = 0
 
 -- the meaning of the library
 abbrev pub counter_meaning : LibraryMeaning
@@ -59,5 +49,5 @@ counter_meaning = record {
   session = session_kinds;
   call = λ name. answer_named (node_named name);
   test = holds;
-  id = session_number;
+  id = λ name. first_as_u64;
 }

@@ -1,14 +1,11 @@
 -- The nodes of the library by name, and their signatures.
 use Rattle.std.specs.Prelude.{ℕ, if◌then◌else◌, List, [], ◌∷◌, Option, Some, None, codes}
 use Rattle.std.specs.Str.{bytes_eq}
-use Rattle.flux_values.specs.declared.values.Kind.{Kind}
 use Rattle.flux_values.specs.declared.values.Kind.TheVariants.{Int, Text}
-use Rattle.flux_values.specs.declared.answers.Mode.{Mode}
 use Rattle.flux_values.specs.declared.answers.Mode.TheVariants.{Reader, Writer}
 use Rattle.flux_values.specs.declared.meanings.Sig.{Sig}
-use Rattle.flux_values.specs.declared.meanings.CellUse.{CellUse}
-use Rattle.flux_values.specs.declared.meanings.Role.{Role}
-use Rattle.flux_values.specs.declared.meanings.Role.TheVariants.{Plain, Source, LineSource}
+use Rattle.flux_values.specs.declared.meanings.Role.TheVariants.{Source, LineSource}
+use Rattle.flux_library.specs.Signatures.{source_sig, plain_sig, uses}
 use Rattle.nodes_counter.specs.declared.nodes.Node.{Node}
 use Rattle.nodes_counter.specs.declared.nodes.Node.TheVariants as nodes
 
@@ -27,18 +24,6 @@ node_named name =
     if bytes_eq name (codes "Add") then Some nodes.Add else
     if bytes_eq name (codes "Read") then Some nodes.Read else
     if bytes_eq name (codes "Bump") then Some nodes.Bump else None
-
--- a source gives values, and takes none
-abbrev pub source_sig : Role → List Kind → Sig
-source_sig role outs = record { ins = []; outs = outs; cells = []; role = role }
-
--- an inner node, with the cells that it uses
-abbrev pub plain_sig : List Kind → List Kind → List CellUse → Sig
-plain_sig ins outs cells = record { ins = ins; outs = outs; cells = cells; role = Plain }
-
--- the use of one cell
-abbrev pub uses : List ℕ → Mode → List CellUse
-uses name mode = record { name = name; mode = mode } ∷ []
 
 -- a node's signature
 abbrev pub sig_of : Node → Sig

@@ -1,5 +1,5 @@
 -- Numbers of 64 bits, and the bytes that spell one.
-use Rattle.std.specs.Prelude.{ℕ, ◌+◌, ◌-◌, ◌^◌, nat_lt, ◌==◌, ◌&&◌, if◌then◌else◌, Bool, true, false, ℤ, pos, negsuc, List, [], ◌∷◌, drop, slice_index, Option, Some, None}
+use Rattle.std.specs.Prelude.{ℕ, ◌^◌, nat_lt, ◌==◌, ◌&&◌, if◌then◌else◌, Bool, true, false, ℤ, pos, negsuc, List, [], ◌∷◌, drop, slice_index, Option, Some, None}
 use Rattle.std.specs.List.{list_all}
 use Rattle.std.specs.Char.{is_ascii_digit}
 use Rattle.std.specs.Str.Parse.{digits_value}
@@ -21,11 +21,6 @@ is_zero (negsuc n) = false
 abbrev pub is_below_zero : ℤ → Bool
 is_below_zero (pos n) = false
 is_below_zero (negsuc n) = true
-
--- a number as u64: 2^64 is added to a negative one
-abbrev pub as_u64 : ℤ → ℕ
-as_u64 (pos n) = n
-as_u64 (negsuc n) = 2 ^ 64 - (n + 1)
 
 -- ---- spellings
 

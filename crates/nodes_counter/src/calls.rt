@@ -3,11 +3,13 @@
 ghost use Rattle.std.specs.Prelude.{◌≡◌, ◌≤◌, [], ◌∷◌, IfOk, pos, ◌+ℤ◌, length, option_copied};
 ghost use Rattle.flux_values.specs.declared.values.Value.TheVariants.{Int, Text};
 ghost use Rattle.flux_values.specs.declared.texts.TheConstants.{TEXT_LIMIT};
+ghost use Rattle.flux_library.specs.Answers as answers;
 ghost use Rattle.nodes_counter.specs.Calls as calls;
 
 use crate::commands::amount;
-use crate::nodes::{Node, word};
-use flux_values::{Answer, Bytes, CallResult, Cell, List, Memory, Put, Value, append_value};
+use crate::nodes::Node;
+use flux_library::answers::{copies, emits, fails, good, text_in, word};
+use flux_values::{Answer, Bytes, Cell, List, Memory, Put, Value, append_value};
 use std::alloc::Global;
 
 impl Node {
@@ -42,15 +44,6 @@ fn number_in(args: &[Value]) -> i64
     }
 }
 
-fn text_in(args: &[Value]) -> &[u8]
-    ensures { result.now ≡ calls.the_text args.now }
-{
-    match args {
-        [_, Value::Text(text)] => text.as_bytes(),
-        _ => b"",
-    }
-}
-
 fn amount_in(args: &[Value]) -> i64
     ensures { result ≡ calls.the_amount args.now }
 {
@@ -81,42 +74,12 @@ fn number_or_zero(value: Option<&Value>) -> i64
 
 // Answers
 
-fn good(alloc: Global, values: List<Value>) -> Result<Answer, Memory>
-    ensures { IfOk result (λ answer. answer ≡ calls.ok values) }
-{
-    Ok(Answer {
-        result: CallResult::Good(values),
-        puts: List::new(alloc),
-        emits: Bytes::new(alloc),
-    })
-}
-
 fn good_number(alloc: Global, number: i64) -> Result<Answer, Memory>
-    ensures { IfOk result (λ answer. answer ≡ calls.ok (Int number ∷ [])) }
+    ensures { IfOk result (λ answer. answer ≡ answers.ok (Int number ∷ [])) }
 {
     let mut values = List::new(alloc);
     values.add(Value::Int(number))?;
     good(alloc, values)
-}
-
-fn fails(alloc: Global, code: u16) -> Result<Answer, Memory>
-    ensures { IfOk result (λ answer. answer ≡ calls.fails code) }
-{
-    Ok(Answer {
-        result: CallResult::Bad(code),
-        puts: List::new(alloc),
-        emits: Bytes::new(alloc),
-    })
-}
-
-fn emits(alloc: Global, emits: Bytes) -> Result<Answer, Memory>
-    ensures { IfOk result (λ answer. answer ≡ calls.emits emits) }
-{
-    Ok(Answer {
-        result: CallResult::Good(List::new(alloc)),
-        puts: List::new(alloc),
-        emits,
-    })
 }
 
 /// Puts a number under a name of a cell, and is ok with another.
@@ -130,16 +93,6 @@ fn puts(alloc: Global, cell: &[u8], name: &[u8], number: i64, given: i64) -> Res
     let value = Some(Value::Int(number));
     answer.puts.add(Put { cell, name, value })?;
     Ok(answer)
-}
-
-fn copies(alloc: Global, values: &[Value]) -> Result<List<Value>, Memory>
-    ensures { IfOk result (λ copied. copied ≡ values.now) }
-{
-    let mut copied = List::new(alloc);
-    for value in values {
-        copied.add(value.copy(alloc)?)?;
-    }
-    Ok(copied)
 }
 
 // Nodes
@@ -177,7 +130,7 @@ fn command(alloc: Global, text: &[u8]) -> Result<Answer, Memory>
 
 fn word_and_number(alloc: Global, text: &[u8], number: i64) -> Result<Answer, Memory>
     requires { length text.now ≤ TEXT_LIMIT }
-    ensures { IfOk result (λ answer. answer ≡ calls.ok (Text text.now ∷ Int number ∷ [])) }
+    ensures { IfOk result (λ answer. answer ≡ answers.ok (Text text.now ∷ Int number ∷ [])) }
 {
     let mut values = List::new(alloc);
     values.add(Value::Text(word(alloc, text)?))?;

@@ -2,6 +2,9 @@
 
 use crate::nodes::Node;
 use flux_library::Library;
+use flux_library::sessions::first_as_u64;
+use flux_library::signatures::kinds;
+use flux_library::types::kind_spelled;
 use flux_values::{Answer, Bytes, CallResult, Cell, Kind, List, Meaning, Memory, Sig, Value};
 use std::alloc::Global;
 
@@ -20,15 +23,7 @@ impl Library for Counter {
     ghost use Rattle.nodes_counter.specs.CounterLaws.{counter_lawful};
 
     fn kind(&self, ty: &[u8]) -> Option<Kind> {
-        if ty == b"int".as_slice() || ty == b"long".as_slice() {
-            Some(Kind::Int)
-        } else if ty == b"bool".as_slice() {
-            Some(Kind::Bool)
-        } else if ty == b"text".as_slice() || ty == b"char*".as_slice() {
-            Some(Kind::Text)
-        } else {
-            None
-        }
+        kind_spelled(ty)
     }
 
     fn node(&self, alloc: Global, name: &[u8]) -> Result<Option<Sig>, Memory> {
@@ -49,14 +44,10 @@ impl Library for Counter {
     }
 
     fn session(&self, alloc: Global, name: &[u8]) -> Result<Option<List<Kind>>, Memory> {
-        let mut kinds = List::new(alloc);
         if name == b"ByConn".as_slice() {
-            kinds.add(Kind::Int)?;
-            kinds.add(Kind::Text)?;
-            Ok(Some(kinds))
+            Ok(Some(kinds(alloc, &[Kind::Int, Kind::Text])?))
         } else if name == b"ByNumber".as_slice() {
-            kinds.add(Kind::Int)?;
-            Ok(Some(kinds))
+            Ok(Some(kinds(alloc, &[Kind::Int])?))
         } else {
             Ok(None)
         }
@@ -90,10 +81,7 @@ impl Library for Counter {
     }
 
     fn id(&self, _name: &[u8], args: &[Value]) -> u64 {
-        match args {
-            [Value::Int(number), ..] => number.cast_unsigned(),
-            _ => 0,
-        }
+        first_as_u64(args)
     }
 
     ghost lawful = { counter_lawful };

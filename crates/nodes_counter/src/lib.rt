@@ -13,3 +13,4 @@ mod tests;
 
 pub use commands::spelled_int;
 pub use counter::Counter;
+pub use nodes::Node;

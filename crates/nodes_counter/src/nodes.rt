@@ -1,10 +1,10 @@
 //! The nodes by name, and their signatures.
 
-ghost use Rattle.std.specs.Prelude.{◌≡◌, ◌≤◌, IfOk, length};
-ghost use Rattle.flux_values.specs.declared.texts.TheConstants.{TEXT_LIMIT};
-ghost use Rattle.nodes_counter.specs.Nodes.{node_named, sig_of, source_sig, plain_sig, uses};
+ghost use Rattle.std.specs.Prelude.{◌≡◌, IfOk};
+ghost use Rattle.nodes_counter.specs.Nodes.{node_named, sig_of};
 
-use flux_values::{CellUse, Kind, List, Memory, Mode, Role, Sig, TextBytes};
+use flux_library::signatures::{cell, plain, source};
+use flux_values::{Kind, List, Memory, Mode, Role, Sig};
 use std::alloc::Global;
 
 /// A node of the library.
@@ -76,55 +76,4 @@ impl Node {
             Node::Bump => plain(alloc, int, int, cell(alloc, b"visits", Mode::Writer)?),
         }
     }
-}
-
-fn source(alloc: Global, role: Role, outs: &[Kind]) -> Result<Sig, Memory>
-    ensures { IfOk result (λ sig. sig ≡ source_sig role outs.now) }
-{
-    Ok(Sig {
-        ins: List::new(alloc),
-        outs: kinds(alloc, outs)?,
-        cells: List::new(alloc),
-        role,
-    })
-}
-
-fn plain(alloc: Global, ins: &[Kind], outs: &[Kind], cells: List<CellUse>) -> Result<Sig, Memory>
-    ensures { IfOk result (λ sig. sig ≡ plain_sig ins.now outs.now cells) }
-{
-    Ok(Sig {
-        ins: kinds(alloc, ins)?,
-        outs: kinds(alloc, outs)?,
-        cells,
-        role: Role::Plain,
-    })
-}
-
-fn kinds(alloc: Global, kinds: &[Kind]) -> Result<List<Kind>, Memory>
-    ensures { IfOk result (λ copied. copied ≡ kinds.now) }
-{
-    let mut copied = List::new(alloc);
-    for kind in kinds {
-        copied.add(*kind)?;
-    }
-    Ok(copied)
-}
-
-/// The use of one cell.
-fn cell(alloc: Global, name: &[u8], mode: Mode) -> Result<List<CellUse>, Memory>
-    requires { length name.now ≤ TEXT_LIMIT }
-    ensures { IfOk result (λ cells. cells ≡ uses name.now mode) }
-{
-    let mut cells = List::new(alloc);
-    let name = word(alloc, name)?;
-    cells.add(CellUse { name, mode })?;
-    Ok(cells)
-}
-
-/// A short word as a text.
-pub(crate) fn word(alloc: Global, bytes: &[u8]) -> Result<TextBytes, Memory>
-    requires { length bytes.now ≤ TEXT_LIMIT }
-    ensures { IfOk result (λ text. text ≡ bytes.now) }
-{
-    Ok(TextBytes::from_vec(Vec::from_slice(alloc, bytes)?))
 }

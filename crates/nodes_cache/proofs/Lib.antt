@@ -1,0 +1,2 @@
+mod LeavingLemmas
+mod EntryLemmas

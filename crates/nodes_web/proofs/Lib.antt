@@ -1,0 +1,4 @@
+mod Front
+mod Endings
+mod Parts
+mod Joined

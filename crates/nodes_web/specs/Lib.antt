@@ -1,0 +1,11 @@
+pub mod Heads
+pub mod Requests
+pub mod Names
+pub mod Replies
+pub mod Nodes
+pub mod Calls
+pub mod Webs
+pub mod HeadLaws
+pub mod ReplyLaws
+pub mod WebLaws
+pub mod steps

@@ -1,0 +1,2 @@
+-- Steps that nobody has to believe, since what they give carries its own proof.
+pub mod Deciding
