@@ -1,0 +1,8 @@
+mod Skipped
+mod Named
+mod Laid
+mod Valued
+mod NamedLines
+mod LineReads
+mod ItemReads
+mod OneAnswer

@@ -1,0 +1,6 @@
+pub mod Lines
+pub mod Spelled
+pub mod Rules
+pub mod Items
+pub mod Faults
+pub mod steps

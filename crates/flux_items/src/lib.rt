@@ -1,0 +1,19 @@
+//! The items text: one item on a line, in any spelling of its values.
+//!
+//! `read_items` gives exactly the items of the text, in order, or the fault of its first faulty line
+//! with that line's number. Which lines spell an item, which are passed over and where each fault
+//! stands is said by relations on the text's lines, in both directions; want of memory alone is free.
+#![tactic(auto)]
+
+mod blanks;
+mod items;
+mod lines;
+mod names;
+mod rules;
+mod spellings;
+#[cfg(test)]
+mod tests;
+mod words;
+
+pub use items::read_items;
+pub use rules::{ITEM_LIMIT, ItemFault, ItemRules, SIZE_LIMIT};
