@@ -1,0 +1,9 @@
+pub mod Machine
+pub mod Runs
+pub mod Moves
+pub mod Flows
+pub mod Reading
+pub mod Leading
+pub mod Faulty
+pub mod Holding
+pub mod steps

@@ -1,0 +1,29 @@
+//! Plans: what a flow does, as flat instructions that all flows share, and one flow's place in them.
+//!
+//! `specs/Machine` says what each instruction does, one step of a machine with a stack; `specs/Runs` what a plan does
+//! from its beginning, and when it is the plan of a walk.
+#![tactic(auto)]
+
+mod carried;
+mod checks;
+mod handlers;
+mod laws;
+mod locals;
+mod machines;
+mod moving;
+mod orders;
+mod plans;
+mod reaching;
+mod shapes;
+mod stacks;
+mod takes;
+#[cfg(test)]
+mod tests;
+mod verified;
+mod verifying;
+
+pub use laws::verified_plans_take_in_order;
+pub use locals::{Local, Next};
+pub use moving::{advance, answered, next};
+pub use plans::{Arm, Instr, Plan, Segment, Segments};
+pub use verified::{VerifiedPlan, VerifyFault, verify};

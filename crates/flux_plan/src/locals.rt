@@ -1,0 +1,158 @@
+//! One flow's place in a plan.
+
+ghost use Rattle.std.specs.Prelude.{◌≡◌, Some, IsSome, IfOk, OnOk, OnErr};
+ghost use Rattle.flux_model.specs.Matching.{patterns_match};
+ghost use Rattle.flux_plan.specs.Machine.{fresh, values_at, state_in};
+ghost use Rattle.flux_plan.specs.Moves.{next_in, IsEvent, called_in, Advances, answered_in};
+ghost use Rattle.flux_plan.specs.Faulty.{IsVerified, IsSized};
+ghost use Rattle.flux_plan.specs.steps.Placed.{AreAllPlaced};
+ghost use Rattle.flux_plan.specs.steps.Turns.{IsFirst};
+
+use crate::carried::Carried;
+use crate::machines::Machine;
+use crate::plans::{Instr, Plan};
+use crate::stacks::Stack;
+use flux_library::Library;
+use flux_model::{ClassNo, Mode, NodeNo, Outcome};
+use flux_values::{Answer, List, Memory, Value};
+use std::alloc::Global;
+use std::marker::Model;
+
+/// One flow's place in a plan, seen as a `Position`: either the flow has just its values, or it is in a state.
+#[derive(Debug, Drop)]
+pub struct Local {
+    begun: bool,
+    stack: Stack,
+}
+
+impl Model for Local {
+    ghost use Rattle.flux_plan.specs.Machine.{Position};
+    ghost use Rattle.flux_plan.specs.steps.Stacks.{position_of, IsLocal};
+
+    ghost Value = { Position };
+
+    ghost view = { position_of };
+
+    ghost invariant = { IsLocal };
+}
+
+/// What a flow does next.
+#[derive(Clone, Copy, Debug, PartialEq, Eq)]
+pub enum Next {
+    Take(ClassNo, Mode),
+    Enter(NodeNo),
+    /// The chosen case, from 1.
+    Choose(u32),
+    Call(NodeNo),
+    Exit(NodeNo, Outcome),
+    Drop(ClassNo),
+    End(Outcome),
+    /// Nothing: the flow has had its `End`.
+    Ended,
+}
+
+impl Local {
+    /// A flow that has just its values.
+    pub fn new(alloc: Global, values: List<Value>) -> Result<Local, Memory>
+        ensures { IfOk result (λ local. local ≡ fresh values) }
+    {
+        Ok(Local {
+            begun: false,
+            stack: Stack::new(alloc, Carried::new(alloc, values)?),
+        })
+    }
+
+    /// The inputs of the node that comes next or is being called: the values at hand.
+    pub fn args(&self) -> &[Value]
+        ensures { result.now ≡ values_at self.now }
+    {
+        self.stack.values.as_slice()
+    }
+
+    /// The same place once more.
+    pub fn copy(&self) -> Result<Local, Memory>
+        ensures { IfOk result (λ copied. copied ≡ self.now) }
+    {
+        Ok(Local {
+            begun: self.begun,
+            stack: self.stack.copy()?,
+        })
+    }
+
+    /// What comes next, at rest.
+    pub fn next<L: Library>(&self, machine: &Machine<'_, L>) -> Next
+        requires verified { IsVerified machine.now.plan.now }
+        requires sized { IsSized machine.now.plan.now }
+        requires placed { AreAllPlaced machine.now.plan.now (state_in machine.now.plan.now self.now) }
+        requires rests { let meaning = L.meaning machine.now.library.now in
+            let matches = patterns_match meaning machine.now.program.now.predicates in
+            IsSome (next_in machine.now.plan.now matches self.now) }
+        ensures { let meaning = L.meaning machine.now.library.now in
+            let matches = patterns_match meaning machine.now.program.now.predicates in
+            next_in machine.now.plan.now matches self.now ≡ Some result }
+    {
+        if self.begun {
+            self.stack.next(machine)
+        } else {
+            first(machine.plan)
+        }
+    }
+
+    /// Makes the event that comes next.
+    pub fn advance<L: Library>(&mut self, machine: &Machine<'_, L>) -> Result<(), Memory>
+        requires verified { IsVerified machine.now.plan.now }
+        requires sized { IsSized machine.now.plan.now }
+        requires placed { AreAllPlaced machine.now.plan.now (state_in machine.now.plan.now self.old) }
+        requires event { let meaning = L.meaning machine.now.library.now in
+            let matches = patterns_match meaning machine.now.program.now.predicates in
+            IsEvent (next_in machine.now.plan.now matches self.old) }
+        ensures ok { let meaning = L.meaning machine.now.library.now in
+            let matches = patterns_match meaning machine.now.program.now.predicates in
+            OnOk result (Advances machine.now.plan.now matches self.old self.new) }
+        ensures err { OnErr result (self.new ≡ self.old) }
+    {
+        if self.begun {
+            return self.stack.advance(machine);
+        }
+        self.stack.begin(machine.plan.target)?;
+        self.begun = true;
+        match self.stack.advance(machine) {
+            Ok(()) => Ok(()),
+            Err(memory) => {
+                self.stack.frames.clear();
+                self.begun = false;
+                Err(memory)
+            }
+        }
+    }
+
+    /// Takes the answer of the call that comes next.
+    pub fn answer(&mut self, plan: &Plan, answer: &Answer) -> Result<(), Memory>
+        requires verified { IsVerified plan.now }
+        requires sized { IsSized plan.now }
+        requires placed { AreAllPlaced plan.now (state_in plan.now self.old) }
+        requires call { IsSome (called_in plan.now self.old) }
+        ensures ok { OnOk result (self.new ≡ answered_in plan.now self.old answer.now) }
+        ensures err { OnErr result (self.new ≡ self.old) }
+    {
+        if self.begun {
+            self.stack.answer(plan, answer)
+        } else {
+            unreachable!()
+        }
+    }
+}
+
+/// What comes next at the beginning.
+fn first(plan: &Plan) -> Next
+    requires verified { IsVerified plan.now }
+    requires sized { IsSized plan.now }
+    ensures { IsFirst plan.now result }
+{
+    let (_, instr) = plan.at(plan.target, 0);
+    match instr {
+        Instr::Take(class, mode) => Next::Take(*class, *mode),
+        Instr::Enter => Next::Enter(plan.target),
+        _ => unreachable!(),
+    }
+}

@@ -1,0 +1,59 @@
+//! What a flow does next, and its place afterwards.
+
+ghost use Rattle.std.specs.Prelude.{◌≡◌, Some, IsSome, OnOk, OnErr};
+ghost use Rattle.flux_model.specs.Matching.{patterns_match};
+ghost use Rattle.flux_plan.specs.Moves.{next_in, IsEvent, called_in, IsReached, IsReachedBySome, Advances, IsAnswered};
+
+use crate::locals::{Local, Next};
+use crate::machines::Machine;
+use crate::verified::VerifiedPlan;
+use flux_library::Library;
+use flux_model::Program;
+use flux_values::{Answer, Memory};
+
+/// What a flow does next. A pattern's number points into the program's predicates; one that points at nothing there, or
+/// at a name that the library doesn't have, matches nothing.
+pub fn next<L: Library>(p: &Program, plan: &VerifiedPlan, local: &Local, library: &L) -> Next
+    requires reached { let matches = patterns_match (L.meaning library.now) p.now.predicates in
+        IsReached plan.now matches local.now }
+    ensures { let matches = patterns_match (L.meaning library.now) p.now.predicates in
+        next_in plan.now matches local.now ≡ Some result }
+{
+    local.next(&Machine {
+        plan: plan.as_plan(),
+        program: p,
+        library,
+    })
+}
+
+/// Makes the event that comes next, which is no call. It takes memory for the frame of a node that is entered.
+pub fn advance<L: Library>(
+    p: &Program,
+    plan: &VerifiedPlan,
+    local: &mut Local,
+    library: &L,
+) -> Result<(), Memory>
+    requires reached { let matches = patterns_match (L.meaning library.now) p.now.predicates in
+        IsReached plan.now matches local.old }
+    requires event { let matches = patterns_match (L.meaning library.now) p.now.predicates in
+        IsEvent (next_in plan.now matches local.old) }
+    ensures ok { let matches = patterns_match (L.meaning library.now) p.now.predicates in
+        OnOk result (Advances plan.now matches local.old local.new) }
+    ensures err { OnErr result (local.new ≡ local.old) }
+{
+    local.advance(&Machine {
+        plan: plan.as_plan(),
+        program: p,
+        library,
+    })
+}
+
+/// Takes the answer of the call that comes next.
+pub fn answered(plan: &VerifiedPlan, local: &mut Local, answer: &Answer) -> Result<(), Memory>
+    requires reached { IsReachedBySome plan.now local.old }
+    requires call { IsSome (called_in plan.now local.old) }
+    ensures ok { OnOk result (IsAnswered plan.now local.old answer.now local.new) }
+    ensures err { OnErr result (local.new ≡ local.old) }
+{
+    local.answer(plan.as_plan(), answer)
+}

@@ -1,0 +1,322 @@
+//! The state of a flow that has begun.
+
+ghost use Rattle.std.specs.Prelude.{◌≡◌, ◌<◌, ◌≤◌, [], ◌∷◌, ◌++◌, length, take, reverse, Some, IsSome, IfOk, OnOk, OnErr};
+ghost use Rattle.flux_model.specs.declared.journals.Outcome.TheVariants as outcomes;
+ghost use Rattle.flux_model.specs.Matching.{patterns_match};
+ghost use Rattle.flux_plan.specs.Machine.{step, answered, entering};
+ghost use Rattle.flux_plan.specs.Moves.{next_by, IsEvent, called_over};
+ghost use Rattle.flux_plan.specs.Faulty.{IsVerified, IsSized};
+ghost use Rattle.flux_plan.specs.steps.Placed.{ArePlaced};
+ghost use Rattle.flux_plan.specs.steps.Stacks.{state_of, IsBlank};
+ghost use Rattle.flux_plan.specs.steps.Turns.{landed, cursor, entered_over, with_place, IsBehind, MovesOn, IsTaken};
+
+use crate::carried::Carried;
+use crate::locals::Next;
+use crate::machines::{Entering, Landing, Machine};
+use crate::plans::{Instr, Plan};
+use flux_library::Library;
+use flux_model::{NodeNo, Outcome};
+use flux_values::{Answer, CallResult, List, Memory, Value};
+use std::alloc::Global;
+
+/// A node that was entered, the place of the instruction that comes next in its segment, and the values with which it
+/// was entered.
+#[derive(Debug, Drop)]
+pub struct Frame {
+    pub node: NodeNo,
+    pub place: u32,
+    pub inputs: Carried,
+}
+
+/// The frames of the nodes that were entered and not left, the outermost first; the values at hand; and how all came
+/// out so far.
+#[derive(Debug, Drop)]
+pub struct Stack {
+    pub alloc: Global,
+    pub frames: Vec<Frame>,
+    pub values: Carried,
+    pub outcome: Outcome,
+}
+
+impl Stack {
+    /// No frames, and values at hand.
+    pub fn new(alloc: Global, values: Carried) -> Stack
+        ensures blank { IsBlank result }
+        ensures values { result.values ≡ values }
+    {
+        Stack {
+            alloc,
+            frames: Vec::new(alloc),
+            values,
+            outcome: Outcome::Good,
+        }
+    }
+
+    /// Enters a node over so many frames, with its inputs at hand and all being well.
+    fn enter(&mut self, depth: usize, frame: Frame) -> Result<(), Memory>
+        requires { depth ≤ length self.old.frames.items }
+        ensures frames { OnOk result
+            (self.new.frames.items ≡ take depth self.old.frames.items ++ frame ∷ []) }
+        ensures values { OnOk result (self.new.values ≡ frame.inputs) }
+        ensures outcome { OnOk result (self.new.outcome ≡ outcomes.Good) }
+        ensures err { OnErr result (state_of self.new ≡ state_of self.old) }
+    {
+        let values = frame.inputs.share()?;
+        self.frames.insert(depth, frame)?;
+        self.frames.truncate(depth + 1);
+        self.values = values;
+        self.outcome = Outcome::Good;
+        Ok(())
+    }
+
+    /// Enters the target, with the values at hand.
+    pub fn begin(&mut self, target: NodeNo) -> Result<(), Memory>
+        requires { IsBlank self.old }
+        ensures ok { OnOk result (state_of self.new ≡ entering target self.old.values []) }
+        ensures err { OnErr result (state_of self.new ≡ state_of self.old) }
+    {
+        let inputs = self.values.share()?;
+        let frame = Frame {
+            node: target,
+            place: 0,
+            inputs,
+        };
+        self.enter(0, frame)
+    }
+
+    /// Enters a node over so many frames, the innermost of which goes to a place.
+    fn enter_over(
+        &mut self,
+        depth: usize,
+        place: u32,
+        node: NodeNo,
+        inputs: Carried,
+    ) -> Result<(), Memory>
+        requires some { 0 < depth }
+        requires most { depth ≤ length self.old.frames.items }
+        ensures ok { OnOk result (state_of self.new ≡
+            entered_over node inputs place (reverse (take depth self.old.frames.items))) }
+        ensures err { OnErr result (state_of self.new ≡ state_of self.old) }
+    {
+        let frame = Frame {
+            node,
+            place: 0,
+            inputs,
+        };
+        self.enter(depth, frame)?;
+        go_to(&mut self.frames, depth - 1, place);
+        Ok(())
+    }
+
+    /// Leaves all but so many frames, the innermost of which goes to a place.
+    fn leave(&mut self, depth: usize, place: u32, outcome: Outcome)
+        requires some { 0 < depth }
+        requires most { depth ≤ length self.old.frames.items }
+        ensures { state_of self.new ≡
+            cursor (take depth self.old.frames.items) place self.old.values outcome }
+    {
+        self.frames.truncate(depth);
+        go_to(&mut self.frames, depth - 1, place);
+        self.outcome = outcome;
+    }
+
+    /// Goes where silent steps lead to.
+    fn settle(&mut self, landing: Landing) -> Result<(), Memory>
+        requires some { 0 < landing.depth }
+        requires most { landing.depth ≤ length self.old.frames.items }
+        ensures ok { OnOk result
+            (state_of self.new ≡ landed landing self.old.frames.items self.old.values) }
+        ensures err { OnErr result (state_of self.new ≡ state_of self.old) }
+    {
+        let Landing { depth, place, .. } = landing;
+        match landing.entering {
+            Entering::Nothing => {
+                self.leave(depth, place, landing.outcome);
+                Ok(())
+            }
+            Entering::Node(node) => {
+                let inputs = self.values.share()?;
+                self.enter_over(depth, place, node, inputs)
+            }
+            Entering::Handler(node) => {
+                let inputs = self.frames[depth - 1].inputs.share()?;
+                self.enter_over(depth, place, node, inputs)
+            }
+        }
+    }
+
+    /// The place of the innermost frame behind the event that comes next; none where the flow ends.
+    fn behind<L: Library>(&self, machine: &Machine<'_, L>) -> Option<u32>
+        requires verified { IsVerified machine.now.plan.now }
+        requires sized { IsSized machine.now.plan.now }
+        requires placed { ArePlaced machine.now.plan.now (reverse self.now.frames.items) }
+        requires event { let meaning = L.meaning machine.now.library.now in
+            let matches = patterns_match meaning machine.now.program.now.predicates in
+            IsEvent (next_by (step machine.now.plan.now.segments matches (state_of self.now))) }
+        ensures { let meaning = L.meaning machine.now.library.now in
+            let matches = patterns_match meaning machine.now.program.now.predicates in
+            IsBehind self.now.frames.items self.now.values self.now.outcome
+            (step machine.now.plan.now.segments matches (state_of self.now)) result }
+    {
+        let Some(top) = self.frames.last() else {
+            unreachable!()
+        };
+        let (_, instr) = machine.plan.at(top.node, top.place);
+        match instr {
+            Instr::Take(_, _) | Instr::Enter | Instr::Exit | Instr::Drop(_) => Some(top.place + 1),
+            Instr::Choose(arms) => match machine.first_arm(
+                arms.as_slice(),
+                self.values.as_slice(),
+            ) {
+                Some((_, to)) => Some(to),
+                None => unreachable!(),
+            },
+            Instr::Return => None,
+            Instr::Go(_) | Instr::Leave | Instr::Call | Instr::Handle(_) | Instr::EndHandle => {
+                unreachable!()
+            }
+        }
+    }
+
+    /// Makes the event that comes next, and the silent steps behind it.
+    pub fn advance<L: Library>(&mut self, machine: &Machine<'_, L>) -> Result<(), Memory>
+        requires verified { IsVerified machine.now.plan.now }
+        requires sized { IsSized machine.now.plan.now }
+        requires placed { ArePlaced machine.now.plan.now (reverse self.old.frames.items) }
+        requires event { let meaning = L.meaning machine.now.library.now in
+            let matches = patterns_match meaning machine.now.program.now.predicates in
+            IsEvent (next_by (step machine.now.plan.now.segments matches (state_of self.old))) }
+        ensures ok { let meaning = L.meaning machine.now.library.now in
+            let matches = patterns_match meaning machine.now.program.now.predicates in
+            OnOk result (MovesOn machine.now.plan.now matches (state_of self.old) (state_of self.new)) }
+        ensures err { OnErr result (state_of self.new ≡ state_of self.old) }
+    {
+        match self.behind(machine) {
+            Some(place) => {
+                let values = self.values.as_slice();
+                let landing = machine.land(&self.frames, place, values, self.outcome);
+                self.settle(landing)
+            }
+            None => {
+                self.frames.clear();
+                Ok(())
+            }
+        }
+    }
+
+    /// What comes next, at rest.
+    pub fn next<L: Library>(&self, machine: &Machine<'_, L>) -> Next
+        requires verified { IsVerified machine.now.plan.now }
+        requires sized { IsSized machine.now.plan.now }
+        requires placed { ArePlaced machine.now.plan.now (reverse self.now.frames.items) }
+        requires rests { let meaning = L.meaning machine.now.library.now in
+            let matches = patterns_match meaning machine.now.program.now.predicates in
+            IsSome (next_by (step machine.now.plan.now.segments matches (state_of self.now))) }
+        ensures { let meaning = L.meaning machine.now.library.now in
+            let matches = patterns_match meaning machine.now.program.now.predicates in
+            next_by (step machine.now.plan.now.segments matches (state_of self.now)) ≡ Some result }
+    {
+        let Some(top) = self.frames.last() else {
+            return Next::Ended;
+        };
+        let (_, instr) = machine.plan.at(top.node, top.place);
+        match instr {
+            Instr::Take(class, mode) => Next::Take(*class, *mode),
+            Instr::Enter => Next::Enter(top.node),
+            Instr::Choose(arms) => match machine.first_arm(
+                arms.as_slice(),
+                self.values.as_slice(),
+            ) {
+                Some((number, _)) => Next::Choose(number),
+                None => unreachable!(),
+            },
+            Instr::Call => Next::Call(top.node),
+            Instr::Exit => Next::Exit(top.node, self.outcome),
+            Instr::Drop(class) => Next::Drop(*class),
+            Instr::Return => Next::End(self.outcome),
+            Instr::Go(_) | Instr::Leave | Instr::Handle(_) | Instr::EndHandle => unreachable!(),
+        }
+    }
+
+    /// Takes the values of a call, or its failure.
+    fn take_result(&mut self, ending: &CallResult) -> Result<(), Memory>
+        ensures frames { self.new.frames.items ≡ self.old.frames.items }
+        ensures ok { OnOk result (IsTaken ending.now self.old self.new) }
+        ensures err { OnErr result (state_of self.new ≡ state_of self.old) }
+    {
+        match ending {
+            CallResult::Good(values) => {
+                let copied = copies(self.alloc, values.as_slice())?;
+                self.values = Carried::new(self.alloc, copied)?;
+            }
+            CallResult::Bad(code) => self.outcome = Outcome::Bad(*code),
+        }
+        Ok(())
+    }
+
+    /// Takes the answer of the call that comes next. Behind it stands `Exit`.
+    pub fn answer(&mut self, plan: &Plan, answer: &Answer) -> Result<(), Memory>
+        requires verified { IsVerified plan.now }
+        requires sized { IsSized plan.now }
+        requires placed { ArePlaced plan.now (reverse self.old.frames.items) }
+        requires call { IsSome (called_over plan.now.segments (reverse self.old.frames.items)) }
+        ensures ok { OnOk result (state_of self.new ≡ answered (state_of self.old) answer.now) }
+        ensures err { OnErr result (state_of self.new ≡ state_of self.old) }
+    {
+        let Some(top) = self.frames.last() else {
+            unreachable!()
+        };
+        let (exit, _) = plan.at(top.node, top.place);
+        self.take_result(&answer.result)?;
+        let innermost = self.frames.len() - 1;
+        go_to(&mut self.frames, innermost, exit);
+        Ok(())
+    }
+}
+
+fn copies(alloc: Global, values: &[Value]) -> Result<List<Value>, Memory>
+    ensures { IfOk result (λ copied. copied ≡ values.now) }
+{
+    let mut copied = List::new(alloc);
+    for value in values {
+        copied.add(value.copy(alloc)?)?;
+    }
+    Ok(copied)
+}
+
+fn go_to(frames: &mut Vec<Frame>, at: usize, place: u32)
+    requires { at < length frames.old.items }
+    ensures { frames.new.items ≡ with_place frames.old.items at place }
+{
+    frames[at].place = place;
+}
+
+impl Stack {
+    /// The same stack once more.
+    pub fn copy(&self) -> Result<Stack, Memory>
+        ensures frames { IfOk result (λ copied. copied.frames.items ≡ self.now.frames.items) }
+        ensures values { IfOk result (λ copied. copied.values ≡ self.now.values) }
+        ensures outcome { IfOk result (λ copied. copied.outcome ≡ self.now.outcome) }
+    {
+        Ok(Stack {
+            alloc: self.alloc,
+            frames: copy_frames(self.alloc, &self.frames)?,
+            values: self.values.share()?,
+            outcome: self.outcome,
+        })
+    }
+}
+
+fn copy_frames(alloc: Global, frames: &[Frame]) -> Result<Vec<Frame>, Memory>
+    ensures { IfOk result (λ copied. copied.items ≡ frames.now) }
+{
+    let mut copied = Vec::new(alloc);
+    for frame in frames {
+        copied.push(Frame {
+            node: frame.node,
+            place: frame.place,
+            inputs: frame.inputs.share()?,
+        })?;
+    }
+    Ok(copied)
+}
