@@ -1,0 +1,61 @@
+-- The code of bodies, arm by arm, and the segments, node by node.
+use Rattle.std.proofs.Common.{◌≡◌, ℕ, zero, suc, ◌+◌, ◌<◌, ◌≤◌, List, [], ◌∷◌, ◌++◌, length, map, drop, get_or, sym, ap, ◌∙◌, append_assoc, length-append, add-one, arith, drop-cons}
+use Rattle.std.specs.List.{AllByRecursion}
+use Rattle.std.proofs.Math.Seq.{drop-nil}
+use Rattle.std.proofs.lemmas.List.{length-map}
+use Rattle.flux_model.specs.declared.programs.Hold.{Hold}
+use Rattle.flux_model.specs.declared.programs.Case.{Case}
+use Rattle.flux_model.specs.declared.programs.Node.{Node}
+use Rattle.flux_hoist.specs.Sets.{held_by}
+use Rattle.flux_plan.specs.declared.plans.Segment.{Segment}
+use Rattle.flux_plan.specs.declared.plans.Instr.{Instr}
+use Rattle.flux_plan.specs.declared.plans.Instr.TheVariants.{Enter, Go, Leave}
+use Rattle.flux_compile.specs.steps.Segments.{taking, arms_from, members_code, segment_of, segments_of}
+
+-- the arm of the next case, and those behind it
+pub arms_next : (place : ℕ) (cases : List Case) (i : ℕ) (case : Case) → i < length cases → case ≡ get_or cases i case
+    → arms_from place (drop i cases)
+    ≡ record { patterns = case.patterns; to = place } ∷ arms_from (place + length case.members + 1) (drop (suc i) cases)
+arms_next place cases i case lt is =
+    ap (arms_from place) (drop-cons cases i case lt)
+    ∙ ap (λ (c : Case). record { patterns = c.patterns; to = place } ∷ arms_from (place + length c.members + 1) (drop (suc i) cases)) (sym is)
+
+-- the code of the next case's members, and of those behind it
+pub members_next : (cases : List Case) (i : ℕ) (case : Case) → i < length cases → case ≡ get_or cases i case
+    → members_code (drop i cases) ≡ members_code (case ∷ []) ++ members_code (drop (suc i) cases)
+members_next cases i case lt is =
+    ap members_code (drop-cons cases i case lt)
+    ∙ ap (λ (c : Case). members_code (c ∷ drop (suc i) cases)) (sym is)
+    ∙ sym (append_assoc (map Go case.members) (Leave ∷ []) (members_code (drop (suc i) cases)))
+
+-- the takes and `Enter`
+pub length-opening : (holds : List Hold) (code : List Instr) → code ≡ map taking holds ++ Enter ∷ [] → length code ≡ length holds + 1
+length-opening holds code is = rw is (grind (arith, length-append, length-map))
+
+-- the segment of the next node, and those behind it
+pub segments_next : (sets : List (List Hold)) (nodes : List Node) (i : ℕ) (node : Node) → i < length nodes → node ≡ get_or nodes i node
+    → segments_of (drop i sets) (drop i nodes)
+    ≡ segment_of (held_by sets i) node ∷ segments_of (drop (suc i) sets) (drop (suc i) nodes)
+segments_next sets [] i node lt is = absurd (omega (arith, lt))
+segments_next [] (n ∷ nodes) zero node lt is = ap (λ (m : Node). segment_of [] m ∷ segments_of [] nodes) (sym is)
+segments_next (own ∷ sets) (n ∷ nodes) zero node lt is = ap (λ (m : Node). segment_of own m ∷ segments_of sets nodes) (sym is)
+segments_next [] (n ∷ nodes) (suc i) node lt is =
+    ap (λ (s : List (List Hold)). segments_of s (drop i nodes)) (sym (drop-nil i))
+    ∙ segments_next [] nodes i node (omega (arith, lt)) is
+    ∙ ap (λ (s : List (List Hold)). segment_of [] node ∷ segments_of s (drop (suc i) nodes)) (drop-nil (suc i))
+segments_next (own ∷ sets) (n ∷ nodes) (suc i) node lt is = segments_next sets nodes i node (omega (arith, lt)) is
+
+pub segments_more : (sets : List (List Hold)) (nodes : List Node) (i : ℕ) (node : Node) (made : List Segment) → i < length nodes → node ≡ get_or nodes i node
+    → made ++ segments_of (drop i sets) (drop i nodes) ≡ segments_of sets nodes
+    → (made ++ segment_of (held_by sets i) node ∷ []) ++ segments_of (drop (i + 1) sets) (drop (i + 1) nodes) ≡ segments_of sets nodes
+segments_more sets nodes i node made lt is so_far =
+    rw (add-one i)
+    (append_assoc made (segment_of (held_by sets i) node ∷ []) (segments_of (drop (suc i) sets) (drop (suc i) nodes))
+    ∙ ap (λ (rest : List Segment). made ++ rest) (sym (segments_next sets nodes i node lt is))
+    ∙ so_far)
+
+-- where all sets are small, so is what each node holds
+pub held_few : (count : ℕ) (sets : List (List Hold)) → AllByRecursion (λ holds. length holds ≤ count) sets → (node : ℕ) → length (held_by sets node) ≤ count
+held_few count [] all node = omega arith
+held_few count (own ∷ sets) (first, all) zero = first
+held_few count (own ∷ sets) (first, all) (suc node) = held_few count sets all node

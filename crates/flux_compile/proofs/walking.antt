@@ -1,0 +1,4 @@
+pub mod Arriving
+pub mod Places
+pub mod Nodes
+pub mod Nested
