@@ -7,14 +7,14 @@ use Rattle.flux_faults.specs.declared.faults.StaticFault.{StaticFault}
 use Rattle.flux_syntax.specs.declared.declarations.Decl.{Decl}
 use Rattle.flux_syntax.specs.Declares.{Declares}
 use Rattle.flux_syntax.proofs.Texts.{one_list, no_decls}
-use Rattle.flux_names.specs.Building.{first_patterned}
+use Rattle.flux_names.specs.Building.{first_unbuilt}
 use Rattle.flux_check.specs.Judgement.{IsTextFault}
 use Rattle.flux_check.proofs.Exclusive.{not_both}
 use Rattle.flux_driver.specs.declared.files.TheConstants.{PROGRAM_FILE_LIMIT, ITEMS_FILE_LIMIT}
 use Rattle.flux_driver.specs.declared.statuses.Status.{Status}
 use Rattle.flux_driver.specs.declared.statuses.Status.TheVariants as statuses
 use Rattle.flux_driver.specs.Worlds.{Files, Gives, IsLost}
-use Rattle.flux_driver.specs.Commands.{Command, check, format, run, help, Asks, ReadsProgram}
+use Rattle.flux_driver.specs.Commands.{Command, check, plan, format, run, help, Asks, ReadsProgram}
 use Rattle.flux_driver.specs.Inputs.{HasDecls, HasProgram, CanBeRun, HasItems}
 use Rattle.flux_driver.specs.Printed.{IsPrinted}
 use Rattle.flux_driver.specs.Causes.{IsNotRun, IsStaticOf, IsStatic, IsItems, AreItemsLost, IsMissing}
@@ -59,14 +59,15 @@ module _ (meaning : LibraryMeaning) (files : Told) where
       let program = h.program in
       let form = n.form in
       let same : form.decls ≡ decls = one_list text form.decls decls form.declared (declared_here file text decls program.has gives) in
-      let none = sym h.built ∙ sym (ap first_patterned same) ∙ form.first in absurd cc
+      let none = sym h.built ∙ sym (ap first_unbuilt same) ∙ form.first in absurd cc
 
   not_static : (file text : List ℕ) (fault : StaticFault) (decls : List Decl) → CanBeRun meaning (Some files) file decls → Gives (Some files) file PROGRAM_FILE_LIMIT (Found text) → IsTextFault meaning text fault ⊎ IsNotRun meaning text fault → ⊥
   not_static file text fault decls h gives (inl stands) = not_faulty file text fault decls h.program gives stands
   not_static file text fault decls h gives (inr stands) = not_unbuilt file text fault decls h gives stands
 
   printed_static : (command : Command) (text line : List ℕ) → IsPrinted meaning command (Some files) text → IsStatic meaning command (Some files) line → ⊥
-  printed_static (check file) text line (decls, h, is) s = not_faulty file s.text s.fault decls h (gives_here file s.file s.text s.reads s.gives) s.stands
+  printed_static (check file) text line p s = not_faulty file s.text s.fault p.decls p.has (gives_here file s.file s.text s.reads s.gives) s.stands
+  printed_static (plan file) text line p s = not_faulty file s.text s.fault p.decls p.has (gives_here file s.file s.text s.reads s.gives) s.stands
   printed_static (format file) text line (decls, h, is) s =
       let fault = s.fault in no_decls fault.kind fault.at s.text decls s.stands.0 (declared_here file s.text decls h (gives_here file s.file s.text s.reads s.gives))
   printed_static (run file items) text line p s = let has = p.has in not_static file s.text s.fault has.decls has.source (gives_here file s.file s.text s.reads s.gives) s.stands
@@ -74,6 +75,7 @@ module _ (meaning : LibraryMeaning) (files : Told) where
 
   items_static : (command : Command) (said line : List ℕ) → IsItems meaning command (Some files) said → IsStatic meaning command (Some files) line → ⊥
   items_static (check file) said line i s = i
+  items_static (plan file) said line i s = i
   items_static (format file) said line i s = i
   items_static (run file items) said line i s = let has = i.has in not_static file s.text s.fault has.decls has.source (gives_here file s.file s.text s.reads s.gives) s.stands
   items_static help said line i s = i
@@ -89,12 +91,13 @@ module _ (meaning : LibraryMeaning) (files : Told) where
       one (inl (same, lost)) = let source = h.source in let program = source.program in let has = program.has in file_there file m.name has.text has.gives same lost
       one (inr (same, lost, decls, source)) = not_lost files items ITEMS_FILE_LIMIT h.text h.gives lost
 
+  program_there : (file : List ℕ) (decls : List Decl) → HasProgram meaning (Some files) file decls → (name : List ℕ) → ((name ≡ file) × IsLost (Some files) name PROGRAM_FILE_LIMIT) ⊎ ⊥ → ⊥
+  program_there file decls h name (inl (same, lost)) = let has = h.has in file_there file name has.text has.gives same lost
+  program_there file decls h name (inr none) = none
+
   printed_missing : (command : Command) (text line : List ℕ) → IsPrinted meaning command (Some files) text → IsMissing meaning command (Some files) line → ⊥
-  printed_missing (check file) text line (decls, h, is) m = one m.lost
-    where
-      one : ((m.name ≡ file) × IsLost (Some files) m.name PROGRAM_FILE_LIMIT) ⊎ AreItemsLost meaning (check file) (Some files) m.name → ⊥
-      one (inl (same, lost)) = let has = h.has in file_there file m.name has.text has.gives same lost
-      one (inr none) = none
+  printed_missing (check file) text line p m = program_there file p.decls p.has m.name m.lost
+  printed_missing (plan file) text line p m = program_there file p.decls p.has m.name m.lost
   printed_missing (format file) text line (decls, h, is) m = one m.lost
     where
       one : ((m.name ≡ file) × IsLost (Some files) m.name PROGRAM_FILE_LIMIT) ⊎ AreItemsLost meaning (format file) (Some files) m.name → ⊥
@@ -109,6 +112,7 @@ module _ (meaning : LibraryMeaning) (files : Told) where
 
   items_missing : (command : Command) (said line : List ℕ) → IsItems meaning command (Some files) said → IsMissing meaning command (Some files) line → ⊥
   items_missing (check file) said line i m = i
+  items_missing (plan file) said line i m = i
   items_missing (format file) said line i m = i
   items_missing (run file items) said line i m = items_there file items line i.has m
   items_missing help said line i m = i
@@ -116,6 +120,7 @@ module _ (meaning : LibraryMeaning) (files : Told) where
   -- both names are the program's
   same_program : (command : Command) (a b : List ℕ) → ReadsProgram command a → ReadsProgram command b → a ≡ b
   same_program (check file) a b x y = x ∙ sym y
+  same_program (plan file) a b x y = x ∙ sym y
   same_program (format file) a b x y = x ∙ sym y
   same_program (run file items) a b x y = x ∙ sym y
   same_program help a b x y = absurd x
@@ -126,6 +131,7 @@ module _ (meaning : LibraryMeaning) (files : Told) where
       one : (command : Command) → ReadsProgram command s.file → IsStaticOf meaning command s.text s.fault → (ReadsProgram command m.name × IsLost (Some files) m.name PROGRAM_FILE_LIMIT) ⊎ AreItemsLost meaning command (Some files) m.name → ⊥
       one command reads stands (inl (name, lost)) = file_there s.file m.name s.text s.gives (same_program command m.name s.file name reads) lost
       one (check file) reads stands (inr none) = none
+      one (plan file) reads stands (inr none) = none
       one (format file) reads stands (inr none) = none
       one (run file items) reads stands (inr (name, lost, decls, source)) = not_static file s.text s.fault decls source (gives_here file s.file s.text reads s.gives) stands
       one help reads stands (inr none) = none
@@ -174,22 +180,33 @@ module _ (meaning : LibraryMeaning) (files : Told) (command : Command) where
 
 one_command : (words : List (List ℕ)) (a b : Command) → Asks words a → Asks words b → a ≡ b
 one_command words (check file) (check other) x y = let e = sym x.0 ∙ y.0 in cc
+one_command words (check file) (plan other) x y = let e = sym x.0 ∙ y.0 in absurd cc
 one_command words (check file) (format other) x y = let e = sym x.0 ∙ y.0 in absurd cc
 one_command words (check file) (run other others) x y = let e = sym x.0 ∙ y.0 in absurd cc
 one_command words (check file) help x (inl y) = let e = sym x.0 ∙ y in absurd cc
 one_command words (check file) help x (inr y) = let e = sym x.0 ∙ y in absurd cc
+one_command words (plan file) (check other) x y = let e = sym x.0 ∙ y.0 in absurd cc
+one_command words (plan file) (plan other) x y = let e = sym x.0 ∙ y.0 in cc
+one_command words (plan file) (format other) x y = let e = sym x.0 ∙ y.0 in absurd cc
+one_command words (plan file) (run other others) x y = let e = sym x.0 ∙ y.0 in absurd cc
+one_command words (plan file) help x (inl y) = let e = sym x.0 ∙ y in absurd cc
+one_command words (plan file) help x (inr y) = let e = sym x.0 ∙ y in absurd cc
 one_command words (format file) (check other) x y = let e = sym x.0 ∙ y.0 in absurd cc
+one_command words (format file) (plan other) x y = let e = sym x.0 ∙ y.0 in absurd cc
 one_command words (format file) (format other) x y = let e = sym x.0 ∙ y.0 in cc
 one_command words (format file) (run other others) x y = let e = sym x.0 ∙ y.0 in absurd cc
 one_command words (format file) help x (inl y) = let e = sym x.0 ∙ y in absurd cc
 one_command words (format file) help x (inr y) = let e = sym x.0 ∙ y in absurd cc
 one_command words (run file items) (check other) x y = let e = sym x.0 ∙ y.0 in absurd cc
+one_command words (run file items) (plan other) x y = let e = sym x.0 ∙ y.0 in absurd cc
 one_command words (run file items) (format other) x y = let e = sym x.0 ∙ y.0 in absurd cc
 one_command words (run file items) (run other others) x y = let e = sym x.0 ∙ y.0 in cc
 one_command words (run file items) help x (inl y) = let e = sym x.0 ∙ y in absurd cc
 one_command words (run file items) help x (inr y) = let e = sym x.0 ∙ y in absurd cc
 one_command words help (check other) (inl x) y = let e = sym x ∙ y.0 in absurd cc
 one_command words help (check other) (inr x) y = let e = sym x ∙ y.0 in absurd cc
+one_command words help (plan other) (inl x) y = let e = sym x ∙ y.0 in absurd cc
+one_command words help (plan other) (inr x) y = let e = sym x ∙ y.0 in absurd cc
 one_command words help (format other) (inl x) y = let e = sym x ∙ y.0 in absurd cc
 one_command words help (format other) (inr x) y = let e = sym x ∙ y.0 in absurd cc
 one_command words help (run other others) (inl x) y = let e = sym x ∙ y.0 in absurd cc

@@ -11,18 +11,25 @@ use Rattle.flux_syntax.specs.Unexpected.{IsFaulty}
 use Rattle.flux_syntax.specs.ProgramOfText.{program_of}
 use Rattle.flux_model.specs.declared.programs.Program.{Program}
 use Rattle.flux_model.specs.declared.programs.NodeNo.{NodeNo}
+use Rattle.flux_model.specs.declared.programs.Hold.{Hold}
 use Rattle.flux_model.specs.declared.signatures.NodeSig.{NodeSig}
 use Rattle.flux_model.specs.declared.journals.Item.{Item}
 use Rattle.flux_model.specs.Kinds.{NodeKinds, node_kinds, kinds_at}
+use Rattle.flux_model.specs.Ordering.{IsOrder}
+use Rattle.flux_model.specs.Locks.{Holds, AreLocks}
 use Rattle.flux_model.specs.Texts.{printed_journal}
-use Rattle.flux_names.specs.Building.{first_patterned}
+use Rattle.flux_model.proofs.Hoisting.{locks_once}
+use Rattle.flux_hoist.specs.Sets.{held_by}
+use Rattle.flux_hoist.specs.Reports.{IsReport}
+use Rattle.flux_hoist.specs.Plans.{printed_plan}
+use Rattle.flux_names.specs.Building.{first_unbuilt}
 use Rattle.flux_types.proofs.Written.{sigs_same}
 use Rattle.flux_check.specs.Judgement.{IsTextFault, IsSoundText, IsChecked}
 use Rattle.flux_driver.specs.declared.files.TheConstants.{PROGRAM_FILE_LIMIT, ITEMS_FILE_LIMIT}
 use Rattle.flux_driver.specs.declared.refusals.Refusal.{Refusal}
 use Rattle.flux_driver.specs.declared.refusals.Refusal.TheVariants as refusals
 use Rattle.flux_driver.specs.Worlds.{Files, Gives, IsLost}
-use Rattle.flux_driver.specs.Commands.{Command, check, format, run, ReadsProgram}
+use Rattle.flux_driver.specs.Commands.{Command, check, plan, format, run, ReadsProgram}
 use Rattle.flux_driver.specs.Inputs.{HasProgram, CanBeRun, HasItems, kinds_in}
 use Rattle.flux_driver.specs.Items.{AreItemsOf, IsItemFault}
 use Rattle.flux_driver.specs.Headline.{IsTrueRun}
@@ -30,11 +37,11 @@ use Rattle.flux_driver.specs.Printed.{IsPrinted}
 use Rattle.flux_driver.specs.Causes.{IsUnbuilt, IsStaticOf}
 use Rattle.flux_driver.specs.Top.{AsksFor}
 use Rattle.flux_driver.specs.steps.ItemLines.{AreNamedSources}
-use Rattle.flux_driver.specs.steps.Running.{IsSimple, IsRunnable}
+use Rattle.flux_driver.specs.steps.Running.{IsFree, IsRunnable}
 use Rattle.flux_driver.specs.steps.Refusals.{status_of, IsUnread, CountsRefusal, SaysOrMemory, IsFaultLine, IsTextRefused, IsCheckRefused, IsRunRefused, IsRefused}
 use Rattle.flux_driver.specs.steps.Preparing.{IsWritten, AreRefused, prepared_status, IsFirm}
 use Rattle.flux_driver.proofs.Named.{are_named}
-use Rattle.flux_driver.proofs.Simple.{nodes_simple}
+use Rattle.flux_driver.proofs.Unconstrained.{nodes_free}
 use Rattle.flux_driver.proofs.Once.{Told, text_is, decls_is}
 
 -- ---- counts of failures
@@ -95,6 +102,9 @@ module _ (meaning : LibraryMeaning) (told : Files) where
   pub check_refused : (file text : List ℕ) (refusal : Refusal) → Gives told file PROGRAM_FILE_LIMIT (Found text) → IsCheckRefused meaning text refusal → IsRefused meaning (check file) told refusal
   check_refused file text refusal gives says = says_refused (check file) file text (IsTextFault meaning text) refl gives (λ fault stands. stands) refusal says
 
+  pub plan_refused : (file text : List ℕ) (refusal : Refusal) → Gives told file PROGRAM_FILE_LIMIT (Found text) → IsCheckRefused meaning text refusal → IsRefused meaning (plan file) told refusal
+  plan_refused file text refusal gives says = says_refused (plan file) file text (IsTextFault meaning text) refl gives (λ fault stands. stands) refusal says
+
   pub format_refused : (file text : List ℕ) (refusal : Refusal) → Gives told file PROGRAM_FILE_LIMIT (Found text) → IsTextRefused text refusal → IsRefused meaning (format file) told refusal
   format_refused file text refusal gives says = says_refused (format file) file text (λ fault. IsFaulty fault.kind fault.at text × (fault.path ≡ [])) refl gives (λ fault stands. stands) refusal says
 
@@ -124,9 +134,24 @@ pub passed_firm : (meaning : LibraryMeaning) (command : Command) (told : Files) 
 passed_firm meaning command told Says own (Ok text) is says = absurd is
 passed_firm meaning command told Says own (Err e) is says = text_firm meaning command told Says e (subst (SaysOrMemory Says) (sym is) says)
 
--- ---- a program that can be run
+-- so is that of a file that wasn't read
+unread_is_firm : (meaning : LibraryMeaning) (command : Command) (told : Files) (name : List ℕ) (max : ℕ) (refusal : Refusal) → IsUnread told name max refusal → IfSome told (λ files. IsFirm meaning command (Some files) (status_of refusal))
+unread_is_firm meaning command None name max refusal unread = tt
+unread_is_firm meaning command (Some files) name max (refusals.Missing lost) unread = tt
+unread_is_firm meaning command (Some files) name max refusals.Read unread = tt
+unread_is_firm meaning command (Some files) name max refusals.Memory unread = tt
+unread_is_firm meaning command (Some files) name max refusals.Usage unread = absurd unread
+unread_is_firm meaning command (Some files) name max (refusals.Static line) unread = absurd unread
+unread_is_firm meaning command (Some files) name max (refusals.Items place) unread = absurd unread
 
-module _ (meaning : LibraryMeaning) (text : List ℕ) (program : Program) (sigs : List NodeSig) (order : List NodeNo) (sizes : List ℕ) (c : IsChecked meaning text program sigs order sizes) where
+pub unread_firm : (meaning : LibraryMeaning) (command : Command) (told : Files) (name : List ℕ) (max : ℕ) (own : Refusal) (result : Result (List ℕ) Refusal)
+    → IsErrAnd result (λ e. e ≡ own) → IsUnread told name max own → IfSome told (λ files. IsFirm meaning command (Some files) (prepared_status result))
+unread_firm meaning command told name max own (Ok text) is unread = absurd is
+unread_firm meaning command told name max own (Err e) is unread = unread_is_firm meaning command told name max e (subst (IsUnread told name max) (sym is) unread)
+
+-- ---- a checked program
+
+module _ (meaning : LibraryMeaning) (text : List ℕ) (program : Program) (sigs : List NodeSig) (order : List NodeNo) (sets : List (List Hold)) (sizes : List ℕ) (c : IsChecked meaning text program sigs order sets sizes) where
   abbrev decls : List Decl
   decls = c.decls
 
@@ -137,16 +162,47 @@ module _ (meaning : LibraryMeaning) (text : List ℕ) (program : Program) (sigs 
   text_sound = record { decls = c.decls; declared = c.declared; sound = c.checked.sound }
 
   pub sources_are_named : AreNamedSources program
-  sources_are_named = subst AreNamedSources (sym c.checked.is) (are_named meaning text c.decls c.declared c.checked.sound.ordered.names.named)
+  sources_are_named = subst AreNamedSources (sym c.checked.is) (are_named meaning text c.decls c.declared c.checked.sound.joined.ordered.named)
 
   pub has_program : (told : Files) (file : List ℕ) → Gives told file PROGRAM_FILE_LIMIT (Found text) → HasProgram meaning told file decls
   has_program told file gives = record { has = record { text = text; gives = gives; declared = c.declared }; sound = c.checked.sound }
 
+  -- ---- the report and the plan
+
+  pub is_ordered : IsOrder program.nodes order
+  is_ordered = c.checked.keeps.ordered
+
+  pub are_locks : AreLocks program (held_by sets)
+  are_locks = c.checked.keeps.locks
+
+  own_locks : held_by sets ≡ c.checked.sound.locks
+  own_locks = locks_once (program_of decls) (held_by sets) c.checked.sound.locks (subst (λ (p : Program). AreLocks p (held_by sets)) c.checked.is are_locks) c.checked.sound.are_locks
+
+  pub is_reported : (told : Files) (file printed : List ℕ) → Gives told file PROGRAM_FILE_LIMIT (Found text) → IsReport program (held_by sets) printed → IsPrinted meaning (check file) told printed
+  unfolding has_program
+  is_reported told file printed gives r = record {
+    decls = decls;
+    has = has_program told file gives;
+    report = subst (λ (locks : Holds). IsReport (program_of decls) locks printed) own_locks (subst (λ (p : Program). IsReport p (held_by sets) printed) c.checked.is r);
+  }
+
+  pub is_planned : (told : Files) (file printed : List ℕ) → Gives told file PROGRAM_FILE_LIMIT (Found text) → printed ≡ printed_plan meaning program sigs (held_by sets) → IsPrinted meaning (plan file) told printed
+  unfolding has_program
+  is_planned told file printed gives is = record {
+    decls = decls;
+    has = has_program told file gives;
+    sigs = sigs;
+    are_sigs = c.checked.sigs_;
+    is = is ∙ ap (λ (p : Program). printed_plan meaning p sigs (held_by sets)) c.checked.is ∙ ap (printed_plan meaning (program_of decls) sigs) own_locks;
+  }
+
+  -- ---- runs
+
   own_kinds : kinds_at sigs ≡ kinds_in meaning decls
   own_kinds = λ i number. node_kinds (sigs_same meaning.kind decls sigs c.checked.sigs_ i number)
 
-  module _ (built : (ds : List Decl) → Declares ds text → first_patterned ds ≡ None) where
-    own_built : first_patterned decls ≡ None
+  module _ (built : (ds : List Decl) → Declares ds text → first_unbuilt ds ≡ None) where
+    own_built : first_unbuilt decls ≡ None
     own_built = built c.decls c.declared
 
     pub can_be_run : (told : Files) (file : List ℕ) → Gives told file PROGRAM_FILE_LIMIT (Found text) → CanBeRun meaning told file decls
@@ -163,9 +219,7 @@ module _ (meaning : LibraryMeaning) (text : List ℕ) (program : Program) (sigs 
     pub runnable : IsRunnable meaning program (kinds_at sigs)
     runnable = record {
       sound = c.checked.for_library;
-      order = order;
-      ordered = c.checked.keeps.ordered;
-      simple = subst (λ (p : Program). AllByRecursion IsSimple p.nodes) (sym c.checked.is) (nodes_simple meaning decls own_built c.checked.sound.ordered.names.built);
+      free = subst (λ (p : Program). AllByRecursion IsFree p.nodes) (sym c.checked.is) (nodes_free decls own_built);
     }
 
     module _ (told : Files) (file items items_text : List ℕ) (gives : Gives told file PROGRAM_FILE_LIMIT (Found text)) (more : Gives told items ITEMS_FILE_LIMIT (Found items_text)) where

@@ -7,7 +7,7 @@ use Rattle.flux_syntax.specs.declared.declarations.Decl.TheVariants.{Signature, 
 use Rattle.flux_syntax.specs.Declares.{Declares}
 use Rattle.flux_syntax.proofs.Standing.{AllStandIn, all_stand}
 use Rattle.flux_syntax.proofs.Texts.{one_list, no_decls}
-use Rattle.flux_names.specs.Building.{first_patterned}
+use Rattle.flux_names.specs.Building.{first_unbuilt}
 use Rattle.flux_driver.specs.declared.refusals.Refusal.{Refusal}
 use Rattle.flux_driver.specs.declared.refusals.Refusal.TheVariants as refusals
 use Rattle.flux_driver.specs.Causes.{fault_text}
@@ -15,18 +15,17 @@ use Rattle.flux_driver.specs.steps.Refusals.{SaysOrMemory, IsTextRefused, IsRunR
 
 -- ---- where the form stands
 
-placed : (text : List ℕ) (decls : List Decl) (at : ℕ) → AllStandIn text decls → first_patterned decls ≡ Some at → at ≤ length text
+placed : (text : List ℕ) (decls : List Decl) (at : ℕ) → AllStandIn text decls → first_unbuilt decls ≡ Some at → at ≤ length text
 placed text [] at all e = absurd cc
-placed text (Flow name (Some patterns) members ∷ decls) at all e = let own = all.0.0.0 in let same : name.at ≡ at = cc in omega (arith, own.within, same)
-placed text (Handler node codes handler ∷ decls) at all e = let own = all.0.0.0 in let same : node.at ≡ at = cc in omega (arith, own.within, same)
-placed text (Flow name None members ∷ decls) at all e = placed text decls at all.1 e
+placed text (Flow name patterns members ∷ decls) at all e = placed text decls at all.1 e
+placed text (Handler node codes handler ∷ decls) at all e = placed text decls at all.1 e
 placed text (Signature name ins outs ∷ decls) at all e = placed text decls at all.1 e
 placed text (Source name target ∷ decls) at all e = placed text decls at all.1 e
 placed text (Typedef name function ∷ decls) at all e = placed text decls at all.1 e
-placed text (Atomic node constraints ∷ decls) at all e = placed text decls at all.1 e
+placed text (Atomic node constraints ∷ decls) at all e = let own = all.0.0.0 in let same : node.at ≡ at = cc in omega (arith, own.within, same)
 placed text (Session source function ∷ decls) at all e = placed text decls at all.1 e
 
-module _ (text : List ℕ) (decls : List Decl) (declared : Declares decls text) (at : ℕ) (first : first_patterned decls ≡ Some at) where
+module _ (text : List ℕ) (decls : List Decl) (declared : Declares decls text) (at : ℕ) (first : first_unbuilt decls ≡ Some at) where
   pub place_inside : at ≤ length text
   place_inside = placed text decls at (all_stand decls text declared) first
 
@@ -46,10 +45,10 @@ module _ (text : List ℕ) where
   never_read (refusals.Missing name) has says = absurd says
 
   module _ (decls : List Decl) (declared : Declares decls text) where
-    pub all_built : first_patterned decls ≡ None → (others : List Decl) → Declares others text → first_patterned others ≡ None
-    all_built none others theirs = ap first_patterned (one_list text others decls theirs declared) ∙ none
+    pub all_built : first_unbuilt decls ≡ None → (others : List Decl) → Declares others text → first_unbuilt others ≡ None
+    all_built none others theirs = ap first_unbuilt (one_list text others decls theirs declared) ∙ none
 
-    pub form_refused : (at : ℕ) (path : List (List ℕ)) (refusal : Refusal) → first_patterned decls ≡ Some at → path ≡ []
+    pub form_refused : (at : ℕ) (path : List (List ℕ)) (refusal : Refusal) → first_unbuilt decls ≡ Some at → path ≡ []
         → SaysOrMemory (λ line. line ≡ fault_text text (record { kind = NotBuilt; at = at; path = path })) refusal → IsRunRefused text refusal
     form_refused at path (refusals.Static line) first none says = record {
       fault = record { kind = NotBuilt; at = at; path = path };

@@ -10,11 +10,11 @@ use Rattle.flux_syntax.specs.declared.declarations.Decl.{Decl}
 use Rattle.flux_syntax.specs.Declares.{Declares}
 use Rattle.flux_syntax.specs.Unexpected.{IsFaulty}
 use Rattle.flux_syntax.specs.ProgramOfText.{program_of}
-use Rattle.flux_names.specs.Building.{first_patterned}
+use Rattle.flux_names.specs.Building.{first_unbuilt}
 use Rattle.flux_check.specs.Judgement.{IsSoundText, IsTextFault}
 use Rattle.flux_driver.specs.declared.files.TheConstants.{PROGRAM_FILE_LIMIT, ITEMS_FILE_LIMIT}
 use Rattle.flux_driver.specs.Worlds.{Files, Gives, IsLost}
-use Rattle.flux_driver.specs.Commands.{Command, check, format, run, help, ReadsProgram}
+use Rattle.flux_driver.specs.Commands.{Command, check, plan, format, run, help, ReadsProgram}
 use Rattle.flux_driver.specs.Inputs.{CanBeRun, HasItems, kinds_in}
 use Rattle.flux_driver.specs.Items.{IsItemFault}
 
@@ -40,11 +40,11 @@ lost_line name = codes "flux: missing or too long: " ++ name ++ codes "\n"
 
 -- ---- the program's text has a fault
 
--- a text has a flow with patterns or a `handle` line, which aren't run yet: at the first one's name
+-- a text has an `atomic` line, which isn't run yet: at the first one's name
 pub record IsUnbuilt (text : List ℕ) (fault : StaticFault) : Type 0 where
   pub decls : List Decl
   pub declared : Declares decls text
-  pub first : first_patterned decls ≡ Some fault.at
+  pub first : first_unbuilt decls ≡ Some fault.at
   pub kind : fault.kind ≡ NotBuilt
   pub path : fault.path ≡ []
 
@@ -56,6 +56,7 @@ pub record IsNotRun (meaning : LibraryMeaning) (text : List ℕ) (fault : Static
 -- the fault of a program's text that a command looks for: `format` looks for faults 1 to 4 alone
 abbrev pub IsStaticOf : LibraryMeaning → Command → List ℕ → StaticFault → Type 0
 IsStaticOf meaning (check file) text fault = IsTextFault meaning text fault
+IsStaticOf meaning (plan file) text fault = IsTextFault meaning text fault
 IsStaticOf meaning (format file) text fault = IsFaulty fault.kind fault.at text × (fault.path ≡ [])
 IsStaticOf meaning (run file items) text fault =
     IsTextFault meaning text fault ⊎ IsNotRun meaning text fault
@@ -82,6 +83,7 @@ pub record IsItemsText (meaning : LibraryMeaning) (told : Files) (file items lin
 
 abbrev pub IsItems : LibraryMeaning → Command → Files → List ℕ → Type 0
 IsItems meaning (check file) told line = ⊥
+IsItems meaning (plan file) told line = ⊥
 IsItems meaning (format file) told line = ⊥
 IsItems meaning (run file items) told line = IsItemsText meaning told file items line
 IsItems meaning help told line = ⊥
@@ -91,6 +93,7 @@ IsItems meaning help told line = ⊥
 -- the items file of a program that can be run
 abbrev pub AreItemsLost : LibraryMeaning → Command → Files → List ℕ → Type 0
 AreItemsLost meaning (check file) told name = ⊥
+AreItemsLost meaning (plan file) told name = ⊥
 AreItemsLost meaning (format file) told name = ⊥
 AreItemsLost meaning (run file items) told name = (name ≡ items)
     × IsLost told items ITEMS_FILE_LIMIT × (decls : List Decl) × CanBeRun meaning told file decls

@@ -5,7 +5,7 @@ use Rattle.flux_outside.specs.declared.stores.File.TheVariants.{Found}
 use Rattle.flux_syntax.specs.declared.declarations.Decl.{Decl}
 use Rattle.flux_syntax.specs.Declares.{Declares}
 use Rattle.flux_model.specs.Kinds.{NodeKinds, node_kinds}
-use Rattle.flux_names.specs.Building.{first_patterned}
+use Rattle.flux_names.specs.Building.{first_unbuilt}
 use Rattle.flux_types.specs.Signatures.{sig_of}
 use Rattle.flux_check.specs.Judgement.{AreSound}
 use Rattle.flux_driver.specs.declared.files.TheConstants.{PROGRAM_FILE_LIMIT, ITEMS_FILE_LIMIT}
@@ -23,11 +23,11 @@ pub record HasProgram (meaning : LibraryMeaning) (told : Files) (file : List ℕ
   pub has : HasDecls told file decls
   pub sound : AreSound meaning decls
 
--- and no form stands in them that isn't run yet: a flow with patterns, or a `handle` line
+-- and no form stands in them that isn't run yet: an `atomic` line
 pub record CanBeRun (meaning : LibraryMeaning) (told : Files) (file : List ℕ) (decls : List Decl)
     : Type 0 where
   pub program : HasProgram meaning told file decls
-  pub built : first_patterned decls ≡ None
+  pub built : first_unbuilt decls ≡ None
 
 -- and the items file is there too, within its limit
 pub record HasItems (meaning : LibraryMeaning) (told : Files) (file items : List ℕ) : Type 0 where

@@ -6,7 +6,7 @@ use Rattle.flux_syntax.specs.declared.declarations.Decl.{Decl}
 use Rattle.flux_driver.specs.declared.statuses.Status.{Status}
 use Rattle.flux_driver.specs.declared.statuses.Status.TheVariants as statuses
 use Rattle.flux_driver.specs.Worlds.{Files, Seen, Wrote, Broke, WroteOrBroke}
-use Rattle.flux_driver.specs.Commands.{Command, check, format, run, help, Asks, AsksNothing}
+use Rattle.flux_driver.specs.Commands.{Command, check, plan, format, run, help, Asks, AsksNothing}
 use Rattle.flux_driver.specs.Inputs.{CanBeRun}
 use Rattle.flux_driver.specs.Answers.{IsDue, IsAnswer, OrMemory}
 
@@ -16,6 +16,7 @@ use Rattle.flux_driver.specs.Answers.{IsDue, IsAnswer, OrMemory}
 -- that can be run
 abbrev pub AreAsked : LibraryMeaning → Command → Files → List (List ℕ) → Type 0
 AreAsked meaning (check file) told names = names ≡ file ∷ []
+AreAsked meaning (plan file) told names = names ≡ file ∷ []
 AreAsked meaning (format file) told names = names ≡ file ∷ []
 AreAsked meaning (run file items) told names = (names ≡ file ∷ [])
     ⊎ ((names ≡ file ∷ items ∷ []) × (decls : List Decl) × CanBeRun meaning told file decls)

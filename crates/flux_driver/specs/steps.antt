@@ -1,7 +1,6 @@
 pub mod ItemLines
 pub mod Running
 pub mod Flows
-pub mod Tasks
 pub mod Refusals
 pub mod Preparing
 pub mod Telling

@@ -4,7 +4,7 @@ ghost use Rattle.std.specs.Prelude.{◌≡◌, ◌≤◌, List, ℕ, [], IfOk, I
 ghost use Rattle.flux_model.specs.Kinds.{kinds_at};
 ghost use Rattle.flux_model.specs.declared.journals.Item.{Item};
 ghost use Rattle.flux_driver.specs.declared.refusals.Refusal.TheVariants as refusals;
-ghost use Rattle.flux_driver.specs.Commands.{Command, check, format, run, help, Asks};
+ghost use Rattle.flux_driver.specs.Commands.{Command, check, plan, format, run, help, Asks};
 ghost use Rattle.flux_driver.specs.Items.{AreItemsOf, IsItemFault};
 ghost use Rattle.flux_driver.specs.Printed.{IsPrinted, help_text};
 ghost use Rattle.flux_driver.specs.Answers.{IsAnswer};
@@ -21,7 +21,8 @@ use crate::refusals::Refusal;
 use crate::running::run;
 use crate::texts::{check_text, expect_built, read_text};
 use crate::words::{Asked, read_words};
-use flux_hoist::Checked;
+use flux_compile::compile;
+use flux_hoist::{Checked, print_plan, report};
 use flux_library::Library;
 use flux_outside::Store;
 use flux_syntax::format;
@@ -30,7 +31,7 @@ use std::alloc::Global;
 
 /// What `help` prints: a line for each command that is built.
 const HELP: &[u8] =
-    b"flux check FILE\nflux format FILE\nflux run FILE ITEMS\nflux help or --help\n";
+    b"flux check FILE\nflux plan FILE\nflux format FILE\nflux run FILE ITEMS\nflux help or --help\n";
 
 /// The printed journal of an items text's flows.
 fn run_text<'a, L: Library>(
@@ -56,13 +57,20 @@ fn run_text<'a, L: Library>(
     match read_items(alloc, checked, text)? {
         ItemsRead::Fault(place) => Err(Refusal::Items(place)),
         ItemsRead::Items(items) => {
-            let journal = run(alloc, library, &checked.program, items.as_slice())?;
+            let plans = compile(alloc, checked)?;
+            let journal = run(
+                alloc,
+                library,
+                &checked.program,
+                plans.as_slice(),
+                items.as_slice(),
+            )?;
             Ok(print_journal(alloc, &checked.program, &journal)?)
         }
     }
 }
 
-/// What `check` prints.
+/// The report that `check` prints.
 fn prepare_check<'a, L: Library, S: Store>(
     alloc: Global,
     library: &L,
@@ -82,8 +90,32 @@ fn prepare_check<'a, L: Library, S: Store>(
         (check file.now) (Some told) (prepared_status result)) }
 {
     let text = load(alloc, store, file, PROGRAM_FILE_LIMIT)?;
-    check_text(alloc, library, text.as_bytes())?;
-    Ok(Bytes::copy(alloc, b"ok\n")?)
+    let checked = check_text(alloc, library, text.as_bytes())?;
+    Ok(report(alloc, &checked.program, &checked.order, &checked.sets)?)
+}
+
+/// The plan that `plan` prints.
+fn prepare_plan<'a, L: Library, S: Store>(
+    alloc: Global,
+    library: &L,
+    store: &mut S,
+    file: &'a [u8],
+) -> Result<Bytes, Refusal<'a>>
+    ensures kept { S.files store.new ≡ S.files store.old }
+    ensures later { S.faults store.old ≤ S.faults store.new }
+    ensures asked { AsksFor (L.meaning library.now) (plan file.now) (S.files store.old)
+        (S.asked store.old) (S.asked store.new) }
+    ensures done { IfOk result (IsPrinted (L.meaning library.now) (plan file.now)
+        (S.files store.old)) }
+    ensures refused { IfErr result (IsRefused (L.meaning library.now) (plan file.now)
+        (S.files store.old)) }
+    ensures counts { Counts result (S.faults store.old) (S.faults store.new) }
+    ensures firm { IfSome (S.files store.old) (λ told. IsFirm (L.meaning library.now)
+        (plan file.now) (Some told) (prepared_status result)) }
+{
+    let text = load(alloc, store, file, PROGRAM_FILE_LIMIT)?;
+    let checked = check_text(alloc, library, text.as_bytes())?;
+    Ok(print_plan(alloc, &checked, library)?)
 }
 
 /// The text that `format` prints.
@@ -167,6 +199,7 @@ pub fn prepare<'a, L: Library, S: Store>(
 {
     match read_words(words) {
         Some(Asked::Check { file }) => prepare_check(alloc, library, store, file),
+        Some(Asked::Plan { file }) => prepare_plan(alloc, library, store, file),
         Some(Asked::Format { file }) => prepare_format(alloc, library, store, file),
         Some(Asked::Run { file, items }) => prepare_run(alloc, library, store, file, items),
         Some(Asked::Help) => Ok(prepare_help(alloc)?),

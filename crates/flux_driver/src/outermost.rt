@@ -53,7 +53,8 @@ fn carry_out<L: Library, S: Store, O: Sink, E: Sink>(
 
 /// Does what the words say, and answers how it ended.
 ///
-/// The words are those behind the program's own name. `check FILE` says whether a program is sound,
+/// The words are those behind the program's own name. `check FILE` says whether a program is sound
+/// and reports on its locks, `plan FILE` prints what its nodes take, give, hold and count,
 /// `format FILE` prints its formatted text, `run FILE ITEMS` runs the items of one file through the program
 /// of another and prints the journal of their flows, and `help` prints the commands. The clause speaks of
 /// what is seen of the world before and after the call.

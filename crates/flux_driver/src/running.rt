@@ -1,55 +1,29 @@
-//! The flows of items, run one after the other. What a flow has still to do stands on a list, so nested
-//! flows take no room of the machine's stack.
+//! The flows of items, run one after the other: each goes by the plan of its item's source line, event by event.
 
-ghost use Rattle.std.specs.Prelude.{◌≡◌, ◌++◌, [], ◌∷◌, ◌<◌, ◌≤◌, IfOk, OnOk, Some, length, slice_get};
-ghost use Rattle.flux_library.specs.Libraries.{IsCallable};
-ghost use Rattle.flux_model.specs.declared.journals.Event.TheVariants.{Enter, Call, Exit};
+ghost use Rattle.std.specs.Prelude.{◌≡◌, ◌≢◌, ◌++◌, ◌∷◌, [], ◌<◌, ◌≤◌, Some, IfOk, OnOk, length, slice_get};
 ghost use Rattle.flux_model.specs.Locks.{no_locks};
-ghost use Rattle.flux_model.specs.Serial.{entries_of};
+ghost use Rattle.flux_model.specs.Matching.{patterns_match};
+ghost use Rattle.flux_plan.specs.declared.locals.Next.TheVariants as nexts;
+ghost use Rattle.flux_plan.specs.Runs.{ArePlansOf};
+ghost use Rattle.flux_plan.specs.Moves.{next_in, IsReached};
 ghost use Rattle.flux_driver.specs.Headline.{setup_of, IsTrueRun};
 ghost use Rattle.flux_driver.specs.steps.Running.{CanRun};
-ghost use Rattle.flux_driver.specs.steps.Flows.{HasRun};
-ghost use Rattle.flux_driver.specs.steps.Tasks.{outcome_of, values_of, visits_back, called, case_events, case_progress, body_events, body_progress, visit_events, visit_progress, IsReadyBody, IsReadyFor, begun};
+ghost use Rattle.flux_driver.specs.steps.Flows.{IsReady, IsReply, IsComing, IsEventNext, MayBegin, IsOnWay, HasGoneOn, HasRun};
 
 use flux_library::Library;
-use flux_model::{
-    Body, CallMade, CallResult, Case, Entry, Event, FlowNo, Item, Journal, Node, NodeNo, Outcome,
-    Program,
-};
-use flux_values::{List, Memory, Value};
+use flux_model::{Body, CallMade, Entry, Event, FlowNo, Item, Journal, NodeNo, Program};
+use flux_plan::{Local, Next, VerifiedPlan, advance, answered, next};
+use flux_values::{Answer, List, Memory, Value};
 use std::alloc::Global;
 
-/// What a flow has still to do.
-#[derive(Clone, Copy, Debug)]
-pub enum Task {
-    Visit(NodeNo),
-    Leave(NodeNo),
-}
-
-/// How far a flow is: what it has still to do, the next thing last; how it stands; and its values.
+/// An item's flow, with the plan that it goes by.
 #[derive(Drop)]
-struct Progress {
-    tasks: List<Task>,
-    outcome: Outcome,
-    values: List<Value>,
-}
-
-fn outcome_of(answered: &CallResult) -> Outcome
-    ensures { result ≡ outcome_of answered.now }
-{
-    match answered {
-        CallResult::Good(_) => Outcome::Good,
-        CallResult::Bad(code) => Outcome::Bad(*code),
-    }
-}
-
-fn values_of(alloc: Global, answered: &CallResult) -> Result<List<Value>, Memory>
-    ensures { IfOk result (λ values. values ≡ values_of answered.now) }
-{
-    match answered {
-        CallResult::Good(values) => copy_values(alloc, values.as_slice()),
-        CallResult::Bad(_) => Ok(List::new(alloc)),
-    }
+struct Flow<'a, L: Library> {
+    library: &'a L,
+    program: &'a Program,
+    items: &'a [Item],
+    plan: &'a VerifiedPlan,
+    number: FlowNo,
 }
 
 fn copy_values(alloc: Global, values: &[Value]) -> Result<List<Value>, Memory>
@@ -62,241 +36,165 @@ fn copy_values(alloc: Global, values: &[Value]) -> Result<List<Value>, Memory>
     Ok(copies)
 }
 
-/// Adds an event of a flow.
-fn record_event(entries: &mut List<Entry>, flow: FlowNo, event: Event) -> Result<(), Memory>
-    ensures { OnOk result (entries.new ≡ entries.old
-        ++ record { flow = flow; event = event } ∷ []) }
-{
-    entries.add(Entry { flow, event })
-}
-
-/// Adds the events of a concrete node.
-fn record_call(
-    entries: &mut List<Entry>,
-    flow: FlowNo,
-    made: CallMade,
-    outcome: Outcome,
-) -> Result<(), Memory>
-    ensures { OnOk result (entries.new ≡ entries.old ++ entries_of flow.0
-        (Enter made.node ∷ Call made ∷ Exit made.node outcome ∷ [])) }
-{
-    let node = made.node;
-    record_event(entries, flow, Event::Enter(node))?;
-    record_event(entries, flow, Event::Call(made))?;
-    record_event(entries, flow, Event::Exit(node, outcome))
-}
-
-/// Adds visits of members, so that the first is made first.
-fn add_visits(tasks: &mut List<Task>, members: &[NodeNo]) -> Result<(), Memory>
-    ensures { OnOk result (tasks.new ≡ tasks.old ++ visits_back members.now) }
-{
-    let mut place = members.len();
-    while place > 0 {
-        place -= 1;
-        tasks.add(Task::Visit(members[place]))?;
+impl<L: Library> Flow<'_, L> {
+    /// What comes next; None where the flow has ended.
+    fn coming(&self, local: &Local) -> Option<Next>
+        requires { let matches = patterns_match (L.meaning self.now.library.now)
+            self.now.program.now.predicates in
+            IsReached self.now.plan.now matches local.now }
+        ensures { let matches = patterns_match (L.meaning self.now.library.now)
+            self.now.program.now.predicates in
+            IsComing self.now.plan.now matches local.now result }
+    {
+        match next(self.program, self.plan, local, self.library) {
+            Next::Ended => None,
+            coming => Some(coming),
+        }
     }
-    Ok(())
-}
 
-impl Progress {
-    /// Calls a concrete node.
-    fn call<L: Library>(
-        &mut self,
+    fn record(&self, event: Event, entries: &mut List<Entry>) -> Result<(), Memory>
+        ensures { OnOk result (entries.new ≡ entries.old
+            ++ record { flow = self.now.number; event = event } ∷ []) }
+    {
+        entries.add(Entry {
+            flow: self.number,
+            event,
+        })
+    }
+
+    /// The answer of a concrete node. Where no node declares a constraint, none uses a cell.
+    fn ask(&self, alloc: Global, node: NodeNo, args: &[Value]) -> Result<Answer, Memory>
+        requires { IsReady (L.meaning self.now.library.now)
+            (slice_get self.now.program.now.nodes node.0) args.now }
+        ensures { IfOk result (IsReply (L.meaning self.now.library.now)
+            (slice_get self.now.program.now.nodes node.0) args.now) }
+    {
+        let Some(found) = self.program.nodes.get(node.0 as usize) else {
+            unreachable!();
+        };
+        match &found.body {
+            Body::Concrete(name) => self.library.call(alloc, name.as_bytes(), args, &[]),
+            Body::Abstract(_) => unreachable!(),
+        }
+    }
+
+    /// Calls a node, and takes its answer.
+    fn call(
+        &self,
         alloc: Global,
-        library: &L,
-        flow: FlowNo,
         node: NodeNo,
-        name: &[u8],
+        local: &mut Local,
         entries: &mut List<Entry>,
     ) -> Result<(), Memory>
-        requires { IsCallable ((L.meaning library.now).node name.now) self.old.values [] }
-        ensures entries { OnOk result (entries.new ≡ entries.old
-            ++ entries_of flow.0 (called (L.meaning library.now) name.now self.old.values node)) }
-        ensures progress { OnOk result (self.new
-            ≡ (let answer = (L.meaning library.now).call name.now self.old.values [] in record {
-              tasks = self.old.tasks;
-              outcome = outcome_of answer.result;
-              values = values_of answer.result;
-            })) }
+        requires can { CanRun self.now.program.now self.now.items.now
+            (L.meaning self.now.library.now) }
+        requires on_way { IsOnWay (setup_of self.now.program.now no_locks self.now.items.now
+            (L.meaning self.now.library.now))
+            self.now.plan.now entries.old self.now.number.0 local.old }
+        requires coming { let matches = patterns_match (L.meaning self.now.library.now)
+            self.now.program.now.predicates in
+            next_in self.now.plan.now matches local.old ≡ Some (nexts.Call node) }
+        ensures { OnOk result (HasGoneOn (setup_of self.now.program.now no_locks
+            self.now.items.now (L.meaning self.now.library.now))
+            self.now.plan.now self.now.number.0 entries.old entries.new local.new) }
     {
-        let answer = library.call(alloc, name, self.values.as_slice(), &[])?;
-        let outcome = outcome_of(&answer.result);
-        let values = values_of(alloc, &answer.result)?;
-        let made = CallMade {
-            node,
-            args: copy_values(alloc, self.values.as_slice())?,
-            answer,
-        };
-        record_call(entries, flow, made, outcome)?;
-        self.outcome = outcome;
-        self.values = values;
+        let args = copy_values(alloc, local.args())?;
+        let answer = self.ask(alloc, node, args.as_slice())?;
+        answered(self.plan, local, &answer)?;
+        self.record(Event::Call(CallMade { node, args, answer }), entries)
+    }
+
+    /// Makes the event that comes next.
+    fn make(&self, event: Event, local: &mut Local, entries: &mut List<Entry>) -> Result<(), Memory>
+        requires on_way { IsOnWay (setup_of self.now.program.now no_locks self.now.items.now
+            (L.meaning self.now.library.now))
+            self.now.plan.now entries.old self.now.number.0 local.old }
+        requires coming { let matches = patterns_match (L.meaning self.now.library.now)
+            self.now.program.now.predicates in
+            IsEventNext self.now.plan.now matches local.old event }
+        ensures { OnOk result (HasGoneOn (setup_of self.now.program.now no_locks
+            self.now.items.now (L.meaning self.now.library.now))
+            self.now.plan.now self.now.number.0 entries.old entries.new local.new) }
+    {
+        advance(self.program, self.plan, local, self.library)?;
+        self.record(event, entries)
+    }
+
+    /// Does what comes next. Where no node declares a constraint, nothing is taken or dropped.
+    fn go_on(
+        &self,
+        alloc: Global,
+        coming: Next,
+        local: &mut Local,
+        entries: &mut List<Entry>,
+    ) -> Result<(), Memory>
+        requires can { CanRun self.now.program.now self.now.items.now
+            (L.meaning self.now.library.now) }
+        requires on_way { IsOnWay (setup_of self.now.program.now no_locks self.now.items.now
+            (L.meaning self.now.library.now))
+            self.now.plan.now entries.old self.now.number.0 local.old }
+        requires coming { let matches = patterns_match (L.meaning self.now.library.now)
+            self.now.program.now.predicates in
+            IsComing self.now.plan.now matches local.old (Some coming) }
+        ensures { OnOk result (HasGoneOn (setup_of self.now.program.now no_locks
+            self.now.items.now (L.meaning self.now.library.now))
+            self.now.plan.now self.now.number.0 entries.old entries.new local.new) }
+    {
+        match coming {
+            Next::Enter(node) => self.make(Event::Enter(node), local, entries),
+            Next::Choose(number) => self.make(Event::Choose(number), local, entries),
+            Next::Call(node) => self.call(alloc, node, local, entries),
+            Next::Exit(node, outcome) => self.make(Event::Exit(node, outcome), local, entries),
+            Next::End(outcome) => self.make(Event::End(outcome), local, entries),
+            Next::Take(_, _) | Next::Drop(_) | Next::Ended => unreachable!(),
+        }
+    }
+
+    /// Runs the flow to its end.
+    fn run(&self, alloc: Global, entries: &mut List<Entry>) -> Result<(), Memory>
+        requires can { CanRun self.now.program.now self.now.items.now
+            (L.meaning self.now.library.now) }
+        requires number { self.now.number.0 < length self.now.items.now }
+        requires begins { MayBegin (setup_of self.now.program.now no_locks self.now.items.now
+            (L.meaning self.now.library.now)) self.now.plan.now entries.old self.now.number.0 }
+        ensures { OnOk result (HasRun (setup_of self.now.program.now no_locks self.now.items.now
+            (L.meaning self.now.library.now)) self.now.number.0 entries.old entries.new) }
+    {
+        let item = &self.items[self.number.0 as usize];
+        let values = copy_values(alloc, item.values.as_slice())?;
+        let mut local = Local::new(alloc, values)?;
+        while let Some(coming) = self.coming(&local) {
+            self.go_on(alloc, coming, &mut local, entries)?;
+        }
         Ok(())
     }
-
-    /// Enters an abstract node: its first case is chosen, since no case with patterns is run yet.
-    fn choose(
-        &mut self,
-        alloc: Global,
-        flow: FlowNo,
-        node: NodeNo,
-        cases: &[Case],
-        entries: &mut List<Entry>,
-    ) -> Result<(), Memory>
-        ensures entries { OnOk result (entries.new ≡ entries.old ++ entries_of flow.0
-            (case_events node cases.now)) }
-        ensures progress { OnOk result (self.new ≡ case_progress self.old node cases.now) }
-    {
-        record_event(entries, flow, Event::Enter(node))?;
-        match cases {
-            [case, ..] => {
-                record_event(entries, flow, Event::Choose(1))?;
-                self.tasks.add(Task::Leave(node))?;
-                add_visits(&mut self.tasks, case.members.as_slice())
-            }
-            [] => {
-                record_event(entries, flow, Event::Exit(node, Outcome::Bad(256)))?;
-                self.outcome = Outcome::Bad(256);
-                self.values = List::new(alloc);
-                Ok(())
-            }
-        }
-    }
-
-    fn enter<L: Library>(
-        &mut self,
-        alloc: Global,
-        library: &L,
-        flow: FlowNo,
-        node: NodeNo,
-        body: &Body,
-        entries: &mut List<Entry>,
-    ) -> Result<(), Memory>
-        requires { IsReadyBody (L.meaning library.now) body.now self.old.values }
-        ensures entries { OnOk result (entries.new ≡ entries.old ++ entries_of flow.0 (body_events
-            (L.meaning library.now) node self.old.values body.now)) }
-        ensures progress { OnOk result (self.new ≡ body_progress
-            (L.meaning library.now) self.old node body.now) }
-    {
-        match body {
-            Body::Concrete(name) => self.call(alloc, library, flow, node, name.as_bytes(), entries),
-            Body::Abstract(cases) => self.choose(alloc, flow, node, cases.as_slice(), entries),
-        }
-    }
-
-    /// Enters a node, where all went well so far; otherwise it is passed over.
-    fn pass<L: Library>(
-        &mut self,
-        alloc: Global,
-        library: &L,
-        flow: FlowNo,
-        node: NodeNo,
-        found: &Node,
-        entries: &mut List<Entry>,
-    ) -> Result<(), Memory>
-        requires { IsReadyFor (L.meaning library.now) self.old.outcome self.old.values
-            (Some found.now) }
-        ensures entries { OnOk result (entries.new ≡ entries.old ++ entries_of flow.0
-            (visit_events (L.meaning library.now) self.old node (Some found.now))) }
-        ensures progress { OnOk result (self.new ≡ visit_progress
-            (L.meaning library.now) self.old node (Some found.now)) }
-    {
-        match self.outcome {
-            Outcome::Good => self.enter(alloc, library, flow, node, &found.body, entries),
-            Outcome::Over => Ok(()),
-            Outcome::Bad(_) => Ok(()),
-        }
-    }
-
-    /// Visits a node.
-    fn visit<L: Library>(
-        &mut self,
-        alloc: Global,
-        library: &L,
-        nodes: &[Node],
-        flow: FlowNo,
-        node: NodeNo,
-        entries: &mut List<Entry>,
-    ) -> Result<(), Memory>
-        requires { IsReadyFor (L.meaning library.now) self.old.outcome self.old.values
-            (slice_get nodes.now node.0) }
-        ensures entries { OnOk result (entries.new ≡ entries.old ++ entries_of flow.0
-            (visit_events (L.meaning library.now) self.old node (slice_get nodes.now node.0))) }
-        ensures progress { OnOk result (self.new ≡ visit_progress
-            (L.meaning library.now) self.old node (slice_get nodes.now node.0)) }
-    {
-        match nodes.get(node.0 as usize) {
-            Some(found) => self.pass(alloc, library, flow, node, found, entries),
-            None => Ok(()),
-        }
-    }
 }
 
-/// A flow that is to visit its source's target.
-fn begin(alloc: Global, program: &Program, item: &Item) -> Result<Progress, Memory>
-    ensures { IfOk result (λ progress. progress ≡ begun item.now
-        (slice_get program.now.sources item.now.source.0)) }
-{
-    let mut tasks = List::new(alloc);
-    if let Some(line) = program.sources.get(item.source.0 as usize) {
-        tasks.add(Task::Visit(line.target))?;
-    }
-    Ok(Progress {
-        tasks,
-        outcome: Outcome::Good,
-        values: copy_values(alloc, item.values.as_slice())?,
-    })
-}
-
-/// Runs an item's flow to its end.
-fn run_item<L: Library>(
-    alloc: Global,
-    library: &L,
-    program: &Program,
-    items: &[Item],
-    flow: FlowNo,
-    entries: &mut List<Entry>,
-) -> Result<(), Memory>
-    requires can { CanRun program.now items.now (L.meaning library.now) }
-    requires flow { flow.0 < length items.now }
-    ensures { OnOk result (HasRun (setup_of program.now no_locks items.now
-        (L.meaning library.now)) flow.0 entries.old entries.new) }
-{
-    let nodes = program.nodes.as_slice();
-    let item = &items[flow.0 as usize];
-    let mut progress = begin(alloc, program, item)?;
-    while let Some(task) = progress.tasks.pop() {
-        match task {
-            Task::Visit(node) => progress.visit(alloc, library, nodes, flow, node, entries)?,
-            Task::Leave(node) => {
-                record_event(entries, flow, Event::Exit(node, progress.outcome))?;
-            }
-        }
-    }
-    record_event(entries, flow, Event::End(progress.outcome))
-}
-
-/// The journal of the items' flows, one after the other.
+/// The journal of the items' flows, one after the other, by the plans of the program.
 pub fn run<L: Library>(
     alloc: Global,
     library: &L,
     program: &Program,
+    plans: &[VerifiedPlan],
     items: &[Item],
 ) -> Result<Journal, Memory>
     requires can { CanRun program.now items.now (L.meaning library.now) }
+    requires plans { ArePlansOf program.now plans.now }
     requires few { length items.now ≤ 64 }
     ensures { IfOk result (λ journal. IsTrueRun program.now items.now
         (L.meaning library.now) journal.entries) }
 {
     let mut entries = List::new(alloc);
-    for flow in 0..items.len() {
-        run_item(
-            alloc,
+    for number in 0..items.len() {
+        let source = items[number].source;
+        let flow = Flow {
             library,
             program,
             items,
-            FlowNo(flow as u32),
-            &mut entries,
-        )?;
+            plan: &plans[source.0 as usize],
+            number: FlowNo(number as u32),
+        };
+        flow.run(alloc, &mut entries)?;
     }
     Ok(Journal { entries })
 }

@@ -2,6 +2,9 @@
 
 ghost use Rattle.std.specs.Prelude.{◌<◌};
 
+mod flows;
+mod judged;
+
 use super::{Status, World, top};
 use flux_outside::{FileBytes, MemorySink, MemoryStore};
 use flux_values::{Bytes, List, Memory};
@@ -27,18 +30,19 @@ const WALKED: &str =
 const SOURCES: &str =
     "source Tick => Show; source Listen => Echo; source Tick_2 => Show;\nTick () => (int n); Tick_2 () => (int n); Listen () => (int l, text w);\nShow (int n) => (); Echo (int l, text w) => ();\n";
 
-/// A flow with a pattern list, which `check` takes and `run` doesn't yet.
+/// A flow with a pattern list.
 const PATTERNED: &str =
     "Tick () => (int n);\nPass (int n) => (int n);\nsource Tick => A;\nA:[_] = Pass;\n";
 
-/// A handler, which `check` takes and `run` doesn't yet.
+/// A handler that isn't needed.
 const HANDLED: &str =
     "Tick () => (int n);\nPass (int n) => (int n);\nsource Tick => Pass;\nhandle error Pass => Show;\nShow (int n) => ();\n";
 
 const FORMATTED: &str =
     "Read (int socket, char* line) => (int socket, bool close);\nPage = Read -> Write;\nPage_two:[_, hit] = ;\nsource Listen => Page;\ntypedef hit TestInCache;\nhandle error Read => FourOhFour;\natomic Write:{cache, users?(session)};\nsession Listen => ByConn;\n";
 
-const HELP: &str = "flux check FILE\nflux format FILE\nflux run FILE ITEMS\nflux help or --help\n";
+const HELP: &str =
+    "flux check FILE\nflux plan FILE\nflux format FILE\nflux run FILE ITEMS\nflux help or --help\n";
 
 const USAGE: &str = "flux: bad command line, try flux --help\n";
 
@@ -272,17 +276,17 @@ fn commands_answer_as_the_table_says(rt: HostRuntime) -> Result<(), Fail> {
         run_of(
             PATTERNED,
             "Tick (1)\n",
-            Status::Static,
+            Status::Done,
+            "0 enter A\n0 choose 1\n0 enter Pass\n0 call Pass (1) ok (1)\n0 exit Pass ok\n0 exit A ok\n0 end done\n",
             "",
-            "4:1: fault 0 NotBuilt\n",
         ),
         check_of(HANDLED, Status::Done, "ok\n", ""),
         run_of(
             HANDLED,
             "Tick (1)\n",
-            Status::Static,
+            Status::Done,
+            "0 enter Pass\n0 call Pass (1) ok (1)\n0 exit Pass ok\n0 end done\n",
             "",
-            "4:14: fault 0 NotBuilt\n",
         ),
         check_of(
             "A = Pass;\nPass (int a) => (int b);\ntypedef some Function;",

@@ -4,7 +4,7 @@ ghost use Rattle.std.specs.Prelude.{◌≡◌, ◌≤◌, ◌<◌, List, IfOk, I
 ghost use Rattle.flux_faults.specs.declared.places.TheConstants.{PLACE_LIMIT};
 ghost use Rattle.flux_syntax.specs.declared.declarations.Decl.{Decl};
 ghost use Rattle.flux_syntax.specs.Declares.{Declares};
-ghost use Rattle.flux_names.specs.Building.{first_patterned};
+ghost use Rattle.flux_names.specs.Building.{first_unbuilt};
 ghost use Rattle.flux_check.specs.Judgement.{IsChecked};
 ghost use Rattle.flux_driver.specs.Causes.{fault_text};
 ghost use Rattle.flux_driver.specs.steps.Refusals.{SaysOrMemory, IsTextRefused, IsCheckRefused, IsRunRefused};
@@ -14,7 +14,7 @@ use flux_check::check;
 use flux_faults::{CheckFault, FaultKind, StaticFault, fault_line};
 use flux_hoist::Checked;
 use flux_library::Library;
-use flux_names::first_patterned;
+use flux_names::first_unbuilt;
 use flux_syntax::{Decl, read};
 use flux_values::{Bytes, List, Memory};
 use std::alloc::Global;
@@ -60,7 +60,7 @@ pub fn check_text<'a, L: Library>(
     text: &[u8],
 ) -> Result<Checked, Refusal<'a>>
     ensures checked { IfOk result (λ checked. IsChecked (L.meaning library.now) text.now
-        checked.program checked.sigs.nodes checked.order.nodes checked.sizes) }
+        checked.program checked.sigs.nodes checked.order.nodes checked.sets.nodes checked.sizes) }
     ensures refused { IfErr result (IsCheckRefused (L.meaning library.now) text.now) }
 {
     match check(alloc, text, library) {
@@ -70,15 +70,15 @@ pub fn check_text<'a, L: Library>(
     }
 }
 
-/// Refuses a text with a flow with patterns or a `handle` line: these aren't run yet.
+/// Refuses a text with an `atomic` line: these aren't run yet.
 pub fn expect_built<'a>(alloc: Global, text: &[u8]) -> Result<(), Refusal<'a>>
     requires { (decls : List Decl) × Declares decls text.now }
     ensures built { OnOk result ((decls : List Decl) → Declares decls text.now
-        → first_patterned decls ≡ None) }
+        → first_unbuilt decls ≡ None) }
     ensures refused { IfErr result (IsRunRefused text.now) }
 {
     let decls = read_text(alloc, text)?;
-    match first_patterned(&decls) {
+    match first_unbuilt(&decls) {
         None => Ok(()),
         Some(at) => {
             let fault = StaticFault {

@@ -10,6 +10,7 @@ use flux_values::Bytes;
 #[derive(Clone, Copy, Debug)]
 pub enum Asked<'a> {
     Check { file: &'a [u8] },
+    Plan { file: &'a [u8] },
     Format { file: &'a [u8] },
     Run { file: &'a [u8], items: &'a [u8] },
     Help,
@@ -44,6 +45,8 @@ fn read_one<'a>(command: &[u8], file: &'a [u8]) -> Option<Asked<'a>>
         None
     } else if command == b"check".as_slice() {
         Some(Asked::Check { file })
+    } else if command == b"plan".as_slice() {
+        Some(Asked::Plan { file })
     } else if command == b"format".as_slice() {
         Some(Asked::Format { file })
     } else {

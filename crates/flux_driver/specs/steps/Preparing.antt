@@ -12,9 +12,9 @@ use Rattle.flux_driver.specs.declared.refusals.Refusal.TheVariants.{Usage, Stati
 use Rattle.flux_driver.specs.declared.statuses.Status.{Status}
 use Rattle.flux_driver.specs.declared.statuses.Status.TheVariants as statuses
 use Rattle.flux_driver.specs.declared.words.Asked.{Asked}
-use Rattle.flux_driver.specs.declared.words.Asked.TheVariants.{Check, Format, Run, Help}
+use Rattle.flux_driver.specs.declared.words.Asked.TheVariants.{Check, Plan, Format, Run, Help}
 use Rattle.flux_driver.specs.Worlds.{Files}
-use Rattle.flux_driver.specs.Commands.{Command, check, format, run, help}
+use Rattle.flux_driver.specs.Commands.{Command, check, plan, format, run, help}
 use Rattle.flux_driver.specs.Items.{AreItemsOf, IsItemFault}
 use Rattle.flux_driver.specs.Headline.{IsTrueRun}
 use Rattle.flux_driver.specs.Printed.{IsPrinted}
@@ -24,6 +24,7 @@ use Rattle.flux_driver.specs.steps.Refusals.{status_of}
 -- the command that was asked for
 abbrev pub asked : Asked → Command
 asked (Check file) = check file.now
+asked (Plan file) = plan file.now
 asked (Format file) = format file.now
 asked (Run file items) = run file.now items.now
 asked Help = help

@@ -1,3 +1,4 @@
+use Rattle.flux_driver.specs.declared.files.TheConstants.{ITEMS_FILE_LIMIT}
 use Rattle.flux_driver.specs.Commands.{run}
 use Rattle.flux_driver.specs.Printed.{IsPrinted}
 use Rattle.flux_driver.specs.Causes.{IsUnbuilt}
@@ -5,7 +6,7 @@ use Rattle.flux_driver.specs.steps.Refusals.{IsFaultLine, IsRefused}
 use Rattle.flux_driver.specs.steps.Preparing.{IsWritten, AreRefused}
 use Rattle.flux_driver.proofs.Steps.{if_ok, if_err}
 use Rattle.flux_driver.proofs.Passed.{passed}
-use Rattle.flux_driver.proofs.Prepared.{unread_items, run_refused, unbuilt_refused, passed_firm, has_decls, text_sound, sources_are_named, can_be_run, asks_both, runnable, is_printed, items_refused, firm}
+use Rattle.flux_driver.proofs.Prepared.{unread_items, run_refused, unbuilt_refused, passed_firm, unread_firm, has_decls, text_sound, sources_are_named, can_be_run, asks_both, runnable, is_printed, items_refused, firm}
 use Rattle.flux_driver.proofs.commands.prepare_run.Goals as goal
 
 -- ---- the text has a fault
@@ -23,7 +24,7 @@ returns-in_err-expect_built-clause-refused g c =
     let meaning = g.L.Meaning.meaning c.args.library.now in
     let told = g.S.Store.files c.args.store.now in
     let checked = rw c.as_bytes.ensures at c.in_ok-checked.ensures.checked in
-    let sound = text_sound meaning c.in_ok-text.text c.in_ok-checked.checked.program c.in_ok-checked.checked.sigs.nodes c.in_ok-checked.checked.order.nodes c.in_ok-checked.checked.sizes checked in
+    let sound = text_sound meaning c.in_ok-text.text c.in_ok-checked.checked.program c.in_ok-checked.checked.sigs.nodes c.in_ok-checked.checked.order.nodes c.in_ok-checked.checked.sets.nodes c.in_ok-checked.checked.sizes checked in
     let refused = rw c.as_bytes-2.ensures at c.in_err-expect_built.ensures.refused in
     passed (IsRefused meaning (run c.args.file.now c.args.items.now) told) c.in_err-expect_built.field-0.0 c.from_residual-in_err-expect_built.result c.from_residual-in_err-expect_built.ensures.1
     (unbuilt_refused meaning told c.args.file.now c.args.items.now c.in_ok-text.text c.in_err-expect_built.field-0.0 sound c.in_ok-text.ensures.found refused)
@@ -40,7 +41,7 @@ pub expect_built-requires : goal.expect_built-requires
 expect_built-requires g c =
     let checked = rw c.as_bytes.ensures at c.in_ok-checked.ensures.checked in
     rw c.as_bytes-2.ensures
-    (has_decls (g.L.Meaning.meaning c.args.library.now) c.in_ok-text.text c.in_ok-checked.checked.program c.in_ok-checked.checked.sigs.nodes c.in_ok-checked.checked.order.nodes c.in_ok-checked.checked.sizes checked)
+    (has_decls (g.L.Meaning.meaning c.args.library.now) c.in_ok-text.text c.in_ok-checked.checked.program c.in_ok-checked.checked.sigs.nodes c.in_ok-checked.checked.order.nodes c.in_ok-checked.checked.sets.nodes c.in_ok-checked.checked.sizes checked)
 
 -- ---- the items file isn't read
 
@@ -48,7 +49,7 @@ pub returns-in_err-items_text-clause-asked : goal.returns-in_err-items_text-clau
 returns-in_err-items_text-clause-asked g c =
     let checked = rw c.as_bytes.ensures at c.in_ok-checked.ensures.checked in
     let built = rw c.as_bytes-2.ensures at c.in_ok-expect_built.ensures.built in
-    asks_both (g.L.Meaning.meaning c.args.library.now) c.in_ok-text.text c.in_ok-checked.checked.program c.in_ok-checked.checked.sigs.nodes c.in_ok-checked.checked.order.nodes c.in_ok-checked.checked.sizes checked built
+    asks_both (g.L.Meaning.meaning c.args.library.now) c.in_ok-text.text c.in_ok-checked.checked.program c.in_ok-checked.checked.sigs.nodes c.in_ok-checked.checked.order.nodes c.in_ok-checked.checked.sets.nodes c.in_ok-checked.checked.sizes checked built
     (g.S.Store.files c.args.store.now) c.args.file.now c.args.items.now (g.S.Store.asked c.args.store.now) (g.S.Store.asked c.load.new.store) (g.S.Store.asked c.load-2.new.store)
     c.in_ok-text.ensures.found c.load.ensures.asked c.load-2.ensures.asked
 
@@ -61,7 +62,13 @@ returns-in_err-items_text-clause-refused g c =
     let unread = rw c.load.ensures.kept at c.in_err-items_text.ensures.unread in
     passed (IsRefused meaning (run c.args.file.now c.args.items.now) told) c.in_err-items_text.field-0.0 c.from_residual-in_err-items_text.result c.from_residual-in_err-items_text.ensures.1
     (unread_items meaning told c.args.file.now c.args.items.now _ c.in_err-items_text.field-0.0
-    (can_be_run meaning c.in_ok-text.text c.in_ok-checked.checked.program c.in_ok-checked.checked.sigs.nodes c.in_ok-checked.checked.order.nodes c.in_ok-checked.checked.sizes checked built told c.args.file.now c.in_ok-text.ensures.found) unread)
+    (can_be_run meaning c.in_ok-text.text c.in_ok-checked.checked.program c.in_ok-checked.checked.sigs.nodes c.in_ok-checked.checked.order.nodes c.in_ok-checked.checked.sets.nodes c.in_ok-checked.checked.sizes checked built told c.args.file.now c.in_ok-text.ensures.found) unread)
+
+pub returns-in_err-items_text-clause-firm : goal.returns-in_err-items_text-clause-firm
+returns-in_err-items_text-clause-firm g c =
+    let unread = rw c.load.ensures.kept at c.in_err-items_text.ensures.unread in
+    unread_firm (g.L.Meaning.meaning c.args.library.now) (run c.args.file.now c.args.items.now) (g.S.Store.files c.args.store.now) c.args.items.now ITEMS_FILE_LIMIT c.in_err-items_text.field-0.0
+    c.from_residual-in_err-items_text.result c.from_residual-in_err-items_text.ensures.1 unread
 
 -- ---- the items are run
 
@@ -69,18 +76,18 @@ pub run_text-requires-clause-runs : goal.run_text-requires-clause-runs
 run_text-requires-clause-runs g c κs within =
     let checked = rw c.as_bytes.ensures at c.in_ok-checked.ensures.checked in
     let built = rw c.as_bytes-2.ensures at c.in_ok-expect_built.ensures.built in
-    runnable (g.L.Meaning.meaning c.args.library.now) c.in_ok-text.text c.in_ok-checked.checked.program c.in_ok-checked.checked.sigs.nodes c.in_ok-checked.checked.order.nodes c.in_ok-checked.checked.sizes checked built
+    runnable (g.L.Meaning.meaning c.args.library.now) c.in_ok-text.text c.in_ok-checked.checked.program c.in_ok-checked.checked.sigs.nodes c.in_ok-checked.checked.order.nodes c.in_ok-checked.checked.sets.nodes c.in_ok-checked.checked.sizes checked built
 
 pub run_text-requires-clause-named : goal.run_text-requires-clause-named
 run_text-requires-clause-named g c κs within =
     let checked = rw c.as_bytes.ensures at c.in_ok-checked.ensures.checked in
-    sources_are_named (g.L.Meaning.meaning c.args.library.now) c.in_ok-text.text c.in_ok-checked.checked.program c.in_ok-checked.checked.sigs.nodes c.in_ok-checked.checked.order.nodes c.in_ok-checked.checked.sizes checked
+    sources_are_named (g.L.Meaning.meaning c.args.library.now) c.in_ok-text.text c.in_ok-checked.checked.program c.in_ok-checked.checked.sigs.nodes c.in_ok-checked.checked.order.nodes c.in_ok-checked.checked.sets.nodes c.in_ok-checked.checked.sizes checked
 
 pub returns-clause-asked : goal.returns-clause-asked
 returns-clause-asked g c =
     let checked = rw c.as_bytes.ensures at c.in_ok-checked.ensures.checked in
     let built = rw c.as_bytes-2.ensures at c.in_ok-expect_built.ensures.built in
-    asks_both (g.L.Meaning.meaning c.args.library.now) c.in_ok-text.text c.in_ok-checked.checked.program c.in_ok-checked.checked.sigs.nodes c.in_ok-checked.checked.order.nodes c.in_ok-checked.checked.sizes checked built
+    asks_both (g.L.Meaning.meaning c.args.library.now) c.in_ok-text.text c.in_ok-checked.checked.program c.in_ok-checked.checked.sigs.nodes c.in_ok-checked.checked.order.nodes c.in_ok-checked.checked.sets.nodes c.in_ok-checked.checked.sizes checked built
     (g.S.Store.files c.args.store.now) c.args.file.now c.args.items.now (g.S.Store.asked c.args.store.now) (g.S.Store.asked c.load.new.store) (g.S.Store.asked c.load-2.new.store)
     c.in_ok-text.ensures.found c.load.ensures.asked c.load-2.ensures.asked
 
@@ -93,7 +100,7 @@ returns-clause-done g c =
     let more = rw c.load.ensures.kept at c.in_ok-items_text.ensures.found in
     let printed = rw c.as_bytes-3.ensures at c.run_text.ensures.printed in
     if_ok (IsWritten meaning c.in_ok-checked.checked.program c.in_ok-checked.checked.sigs.nodes c.in_ok-items_text.items_text) (IsPrinted meaning (run c.args.file.now c.args.items.now) told) c.run_text.result
-    (is_printed meaning c.in_ok-text.text c.in_ok-checked.checked.program c.in_ok-checked.checked.sigs.nodes c.in_ok-checked.checked.order.nodes c.in_ok-checked.checked.sizes checked built
+    (is_printed meaning c.in_ok-text.text c.in_ok-checked.checked.program c.in_ok-checked.checked.sigs.nodes c.in_ok-checked.checked.order.nodes c.in_ok-checked.checked.sets.nodes c.in_ok-checked.checked.sizes checked built
     told c.args.file.now c.args.items.now c.in_ok-items_text.items_text c.in_ok-text.ensures.found more) printed
 
 pub returns-clause-refused : goal.returns-clause-refused
@@ -105,7 +112,7 @@ returns-clause-refused g c =
     let more = rw c.load.ensures.kept at c.in_ok-items_text.ensures.found in
     let refused = rw c.as_bytes-3.ensures at c.run_text.ensures.refused in
     if_err (AreRefused c.in_ok-checked.checked.program c.in_ok-checked.checked.sigs.nodes c.in_ok-items_text.items_text) (IsRefused meaning (run c.args.file.now c.args.items.now) told) c.run_text.result
-    (items_refused meaning c.in_ok-text.text c.in_ok-checked.checked.program c.in_ok-checked.checked.sigs.nodes c.in_ok-checked.checked.order.nodes c.in_ok-checked.checked.sizes checked built
+    (items_refused meaning c.in_ok-text.text c.in_ok-checked.checked.program c.in_ok-checked.checked.sigs.nodes c.in_ok-checked.checked.order.nodes c.in_ok-checked.checked.sets.nodes c.in_ok-checked.checked.sizes checked built
     told c.args.file.now c.args.items.now c.in_ok-items_text.items_text c.in_ok-text.ensures.found more) refused
 
 pub returns-clause-firm : goal.returns-clause-firm
@@ -115,5 +122,5 @@ returns-clause-firm g c =
     let more = rw c.load.ensures.kept at c.in_ok-items_text.ensures.found in
     let items = rw c.as_bytes-3.ensures at c.run_text.ensures.items in
     let fault = rw c.as_bytes-3.ensures at c.run_text.ensures.fault in
-    firm (g.L.Meaning.meaning c.args.library.now) c.in_ok-text.text c.in_ok-checked.checked.program c.in_ok-checked.checked.sigs.nodes c.in_ok-checked.checked.order.nodes c.in_ok-checked.checked.sizes checked built
+    firm (g.L.Meaning.meaning c.args.library.now) c.in_ok-text.text c.in_ok-checked.checked.program c.in_ok-checked.checked.sigs.nodes c.in_ok-checked.checked.order.nodes c.in_ok-checked.checked.sets.nodes c.in_ok-checked.checked.sizes checked built
     (g.S.Store.files c.args.store.now) c.args.file.now c.args.items.now c.in_ok-items_text.items_text c.run_text.result c.in_ok-text.ensures.found more items fault
