@@ -1,21 +1,30 @@
-// A small web server, with every form of the language. For now it can be formatted and not yet run.
-Listen () => (int socket, text request);
-ReadRequest (int socket, text request) => (text method, char* path);
-CheckCache (text method, char* path) => (text method, char* path);
-ReadFile (text method, char* path) => (text method, char* path);
-Write (text method, char* path) => ();
-FourOhFour (text method, char* path) => ();
+// A server that counts: it answers each line of a link. It has every form of the language, and can be checked,
+// planned and formatted. It can't be run yet.
+Listen () => (int link, text request);
+Command (int link, text request) => (text word, int amount);
+Amount (text word, int amount) => (int amount);
+Bump (int amount) => (int amount);
+Add (int amount) => (int sum);
+Read (int amount) => (int sum);
+Show (int sum) => ();
+Refuse (int link, text request) => ();
+Refuse_unknown (int link, text request) => ();
 
-source Listen => Page;
-session Listen => BySocket;
+source Listen => Serve;
+session Listen => ByConn;
 
-Page = ReadRequest -> CheckCache -> Handler -> Write;
+Serve = Command -> Answer;
 
-typedef hit TestInCache;
-Handler:[_, hit] = ;              /* it is at hand */
-Handler:[_, _] = ReadFile;
+typedef add IsAdd;
+Answer:[add, _] = Amount -> Total -> Show;
+Answer:[_, _] = Amount -> Read -> Show;   /* it asks for the sum */
 
-handle error ReadFile => FourOhFour;
+Total = Bump -> Add;
 
-atomic CheckCache:{ cache?, users (session) ! };
-atomic ReadFile:{cache,files?(session)};
+handle error Command => Refuse;
+handle error Command:(2) => Refuse_unknown;
+
+atomic Read:{counter?};
+atomic Add:{counter};
+atomic Bump:{ visits (session) ! };
+atomic Total:{visits?(session)};   /* each link has its own visits */
