@@ -1,5 +1,5 @@
-use Rattle.std.proofs.Common.{◌≡◌, sym, true, false}
-use Rattle.flux_table.proofs.Sets.{set_is, against_more, against_past}
+use Rattle.std.proofs.Common.{sym, true}
+use Rattle.flux_table.proofs.Sets.{set_is, against_more}
 use Rattle.flux_table.proofs.lines.add.Goals as goal
 
 pub returns-in_ok-insert-clause-ok : goal.returns-in_ok-insert-clause-ok

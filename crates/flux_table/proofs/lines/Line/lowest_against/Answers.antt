@@ -1,5 +1,4 @@
-use Rattle.std.proofs.Common.{◌≡◌, ◌∙◌, sym, subst, Option}
-use Rattle.flux_values.specs.declared.answers.Mode.{Mode}
+use Rattle.std.proofs.Common.{◌∙◌, sym, subst}
 use Rattle.flux_values.specs.declared.answers.Mode.TheVariants.{Reader, Writer}
 use Rattle.flux_table.specs.Locks.{StandsNowhere}
 use Rattle.flux_table.specs.Blockers.{StandsAgainst, IsLowestOf, line_before}
