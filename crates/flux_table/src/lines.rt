@@ -17,7 +17,8 @@ use std::alloc::Global;
 use std::collections::BTreeSet;
 use std::marker::Model;
 
-/// Those that wait for a key, first come first. Each flow stands there once.
+/// Those that wait for a key, first come first. Each flow stands there once. Two sets have the flows of all waiters
+/// and those of the writers, so that the lowest is found without a walk.
 #[derive(Drop)]
 pub struct Line {
     order: Vec<Waiter>,
@@ -86,7 +87,8 @@ impl Line {
         }
     }
 
-    /// The lowest-numbered flow in conflict with a mode that stands before a flow, or in all of the line.
+    /// The lowest-numbered flow in conflict with a mode that stands before a flow, or in all of the line. Only for a
+    /// flow that stands there is the line walked, from its front up to the flow.
     pub fn lowest_against(&self, flow: FlowNo, mode: Mode) -> Option<FlowNo>
         ensures { IsLowestOf (λ other. StandsAgainst (line_before self.now flow.0) other mode) result }
     {
