@@ -104,10 +104,10 @@ fn assert_sized(
 #[test]
 fn limits(rt: HostRuntime) -> Result<(), Fail> {
     let alloc = rt.alloc();
-    let missing = Some(DocsFault::Missing);
+    let long = Some(DocsFault::TooLong);
     assert_sized(&rt, alloc, (1, BODY_LIMIT, BODY_LIMIT), None)?;
-    assert_sized(&rt, alloc, (1, 0, BODY_LIMIT + 1), missing)?;
+    assert_sized(&rt, alloc, (1, 0, BODY_LIMIT + 1), long)?;
     assert_sized(&rt, alloc, (DOC_LIMIT - 1, 0, 0), None)?;
-    assert_sized(&rt, alloc, (DOC_LIMIT, 0, 0), missing)?;
+    assert_sized(&rt, alloc, (DOC_LIMIT, 0, 0), long)?;
     Ok(())
 }
