@@ -1,1 +1,4 @@
 pub mod ValueLists
+pub mod Cutting
+pub mod Named
+pub mod Keying
