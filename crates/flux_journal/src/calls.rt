@@ -17,7 +17,7 @@ impl Cursor<'_> {
     fn more_values(&mut self, alloc: Global, values: &mut List<Value>) -> Result<(), LineFault>
         ensures { AreMoreRead values.old values.new self.old.rest.now self.new.rest.now result }
     {
-        while self.skip(b", ") {
+        'values: while self.skip(b", ") {
             let value = self.value(alloc)?;
             values.add(value)?;
         }
@@ -139,7 +139,7 @@ impl Cursor<'_> {
         ensures { ArePutsRead program.now self.old.rest.now self.new.rest.now result }
     {
         let mut puts = List::new(alloc);
-        while let Some(put) = self.put(alloc, program)? {
+        'puts: while let Some(put) = self.put(alloc, program)? {
             puts.add(put)?;
         }
         Ok(puts)

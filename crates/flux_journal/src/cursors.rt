@@ -1,8 +1,9 @@
 //! What is left of a line, from which parts are read one after the other.
 
-ghost use Rattle.std.specs.Prelude.{◌≡◌, ◌++◌, ℕ, List, IsTrue, OnTrue, OnFalse, OnOk};
+ghost use Rattle.std.specs.Prelude.{◌≡◌, ◌++◌, ℕ, List};
+ghost use Rattle.std.specs.Bool.{OnTrue, OnFalse};
 ghost use Rattle.flux_journal.specs.Spelled.{BeginsValue, BeginsCode};
-ghost use Rattle.flux_journal.specs.steps.Reading.{IsPartRead, IsWordRead};
+ghost use Rattle.flux_journal.specs.steps.Reading.{IsPartRead, IsWordRead, IsNotBehind};
 
 use crate::cuts::behind;
 use crate::faults::LineFault;
@@ -20,7 +21,7 @@ impl Cursor<'_> {
     pub fn skip(&mut self, word: &[u8]) -> bool
         ensures found { OnTrue result (self.old.rest.now ≡ word.now ++ self.new.rest.now) }
         ensures stays { OnFalse result (self.new.rest.now ≡ self.old.rest.now) }
-        ensures none { OnFalse result ((tail : List ℕ) → self.old.rest.now ≡ word.now ++ tail → ⊥) }
+        ensures none { OnFalse result (IsNotBehind word.now self.old.rest.now) }
     {
         match behind(word, self.rest) {
             Some(rest) => {

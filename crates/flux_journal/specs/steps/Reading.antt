@@ -13,18 +13,25 @@ use Rattle.flux_journal.specs.declared.faults.LineFault.TheVariants as faults
 use Rattle.flux_journal.specs.Entries.{IsCellOf, IsTextOf}
 use Rattle.flux_journal.specs.Spelled.{Behind, Before, BeginEach, BeginsValue, BeginsNext, BeginsPut, IsEmission, IsCallText}
 
+-- what has to be where a line is bad; want of memory says nothing
+abbrev pub OnBad : LineFault → Type 0 → Type 0
+OnBad faults.BadLine Bad = Bad
+OnBad faults.Memory Bad = ⊤
+
+-- no part begins a text
+abbrev pub BeginsNone : {X : Type 0} → (List ℕ → X → List ℕ → Type 0) → List ℕ → Type 0
+BeginsNone {X} Part text = (x : X) (tail : List ℕ) → Part text x tail → ⊥
+
 -- a part was read, and this stands behind it; or none begins the text
 abbrev pub IsPartRead : {X : Type 0} → (List ℕ → X → List ℕ → Type 0) → List ℕ → List ℕ
     → Result X LineFault → Type 0
 IsPartRead Part text rest (Ok x) = Part text x rest
-IsPartRead {X} Part text rest (Err faults.BadLine) = (x : X) (tail : List ℕ) → Part text x tail → ⊥
-IsPartRead Part text rest (Err faults.Memory) = ⊤
+IsPartRead Part text rest (Err fault) = OnBad fault (BeginsNone Part text)
 
 -- something was read of a whole text; or the text is nothing of the kind
 abbrev pub IsWholeRead : {X : Type 0} → (X → Type 0) → Result X LineFault → Type 0
 IsWholeRead Is (Ok x) = Is x
-IsWholeRead {X} Is (Err faults.BadLine) = (x : X) → Is x → ⊥
-IsWholeRead Is (Err faults.Memory) = ⊤
+IsWholeRead {X} Is (Err fault) = OnBad fault ((x : X) → Is x → ⊥)
 
 -- no text behind a word is this one
 abbrev pub IsNotBehind : List ℕ → List ℕ → Type 0
@@ -35,18 +42,21 @@ abbrev pub IsWordRead : List ℕ → List ℕ → List ℕ → Result (Unit {0})
 IsWordRead word text rest (Ok done) = text ≡ word ++ rest
 IsWordRead word text rest (Err fault) = (fault ≡ faults.BadLine) × IsNotBehind word text
 
--- values behind commas were added to others, and no comma follows; or none stand before a `)`
+-- values behind commas were added to others
 pub record AreAdded (old new : List Value) (text rest : List ℕ) : Type 0 where
   pub more : List Value
   pub are : new ≡ old ++ more
   pub each : BeginEach BeginsNext text more rest
-  pub over : IsNotBehind (codes ", ") rest
+
+-- and no comma follows; or none stand before a `)`
+
+abbrev pub NoMore : List ℕ → Type 0
+NoMore text = (more : List Value) (tail : List ℕ)
+    → BeginEach BeginsNext text more (codes ")" ++ tail) → ⊥
 
 abbrev pub AreMoreRead : List Value → List Value → List ℕ → List ℕ → Result (Unit {0}) LineFault → Type 0
-AreMoreRead old new text rest (Ok done) = AreAdded old new text rest
-AreMoreRead old new text rest (Err faults.BadLine) = (more : List Value) (tail : List ℕ)
-    → BeginEach BeginsNext text more (codes ")" ++ tail) → ⊥
-AreMoreRead old new text rest (Err faults.Memory) = ⊤
+AreMoreRead old new text rest (Ok done) = AreAdded old new text rest × IsNotBehind (codes ", ") rest
+AreMoreRead old new text rest (Err fault) = OnBad fault (NoMore text)
 
 -- a class's name and a space
 pub record BeginsCell (p : Program) (text cell rest : List ℕ) : Type 0 where
@@ -85,15 +95,16 @@ pub record IsBadPut (p : Program) (text : List ℕ) : Type 0 where
 
 abbrev pub IsPutOrNone : Program → List ℕ → List ℕ → Result (Option Put) LineFault → Type 0
 IsPutOrNone p text rest (Ok read) = IsPutRead p text rest read
-IsPutOrNone p text rest (Err faults.BadLine) = IsBadPut p text
-IsPutOrNone p text rest (Err faults.Memory) = ⊤
+IsPutOrNone p text rest (Err fault) = OnBad fault (IsBadPut p text)
 
 -- all changes were read; or none stand before an emission
+abbrev pub NoPuts : Program → List ℕ → Type 0
+NoPuts p text = (puts : List Put) (tail emits : List ℕ)
+    → BeginEach (BeginsPut p) text puts tail → IsEmission tail emits → ⊥
+
 abbrev pub ArePutsRead : Program → List ℕ → List ℕ → Result (List Put) LineFault → Type 0
 ArePutsRead p text rest (Ok puts) = BeginEach (BeginsPut p) text puts rest × NoPut rest
-ArePutsRead p text rest (Err faults.BadLine) = (puts : List Put) (tail emits : List ℕ)
-    → BeginEach (BeginsPut p) text puts tail → IsEmission tail emits → ⊥
-ArePutsRead p text rest (Err faults.Memory) = ⊤
+ArePutsRead p text rest (Err fault) = OnBad fault (NoPuts p text)
 
 -- a text up to the end, and not the empty one
 abbrev pub IsEmitted : List ℕ → List ℕ → Type 0
