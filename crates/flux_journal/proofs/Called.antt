@@ -1,5 +1,5 @@
 -- A call's text is one call's.
-use Rattle.std.proofs.Common.{◌≡◌, ◌≢◌, ℕ, get_or, ◌+◌, ◌<◌, ◌≤◌, List, [], ◌∷◌, ◌++◌, length, Option, Some, None, codes, refl, sym, ap, ◌∙◌, subst, append_assoc, arith}
+use Rattle.std.proofs.Common.{◌≡◌, ◌≢◌, ℕ, get_or, List, [], ◌∷◌, ◌++◌, length, Option, Some, None, codes, refl, sym, ap, ◌∙◌, subst, append_assoc, arith}
 use Rattle.std.proofs.lemmas.List.{append-nil}
 use Rattle.flux_values.specs.declared.values.Value.{Value}
 use Rattle.flux_values.specs.declared.values.Value.TheVariants.{Text}
@@ -14,10 +14,9 @@ use Rattle.flux_model.specs.declared.programs.NodeNo.{NodeNo}
 use Rattle.flux_model.specs.declared.journals.CallMade.{CallMade}
 use Rattle.flux_model.specs.Names.{IsNamed}
 use Rattle.flux_journal.specs.Entries.{IsCellOf, IsTextOf}
-use Rattle.flux_journal.specs.Spelled.{Behind, Before, BeginEach, BeginsValue, BeginsNext, BeginClosed, BeginValues, BeginsCode, BeginsResult, BeginsChange, BeginsPut, IsEmission, IsCallText}
+use Rattle.flux_journal.specs.Spelled.{BeginEach, BeginsValue, BeginsNext, BeginClosed, BeginValues, BeginsCode, BeginsResult, BeginsChange, BeginsPut, IsEmission, IsCallText}
 use Rattle.flux_journal.specs.steps.Cuts.{HasNone}
-use Rattle.flux_journal.specs.steps.Named.{IsClassNamed}
-use Rattle.flux_journal.specs.steps.Reading.{IsNotBehind, NoPut}
+use Rattle.flux_journal.specs.steps.Reading.{NoPut}
 use Rattle.flux_journal.proofs.Cutting.{same_cut}
 use Rattle.flux_journal.proofs.Keying.{class_clean}
 use Rattle.flux_journal.proofs.Parted.{Same, behind_word, value_once, no_value_closed, code_once, each_once}
@@ -168,9 +167,9 @@ call_once p named text x y first second node =
     let result_text = behind_word (codes " ") first.result_text second.result_text (codes " " ++ second.result_text) (sym args.rest) refl in
     let one = result_once first.result_text x.answer.result y.answer.result first.puts_text second.puts_text first.result_ (subst (λ (t : List ℕ). BeginsResult t y.answer.result second.puts_text) (sym result_text) second.result_) in
     let puts = each_once (BeginsPut p) (put_once p named) x.answer.puts y.answer.puts first.puts_text first.emission_text second.emission_text
-        (λ put tail begins. put_marked p first.emission_text put tail (emission_no_put first.emission_text x.answer.emits first.emission) begins)
-        (λ put tail begins. put_marked p second.emission_text put tail (emission_no_put second.emission_text y.answer.emits second.emission) begins)
-        first.puts (subst (λ (t : List ℕ). BeginEach (BeginsPut p) t y.answer.puts second.emission_text) (sym one.rest) second.puts) in
+    (λ put tail begins. put_marked p first.emission_text put tail (emission_no_put first.emission_text x.answer.emits first.emission) begins)
+    (λ put tail begins. put_marked p second.emission_text put tail (emission_no_put second.emission_text y.answer.emits second.emission) begins)
+    first.puts (subst (λ (t : List ℕ). BeginEach (BeginsPut p) t y.answer.puts second.emission_text) (sym one.rest) second.puts) in
     let emits = emission_once first.emission_text x.answer.emits y.answer.emits first.emission (subst (λ (t : List ℕ). IsEmission t y.answer.emits) (sym puts.rest) second.emission) in
     ap (λ (n : NodeNo). made_of n x.args x.answer.result x.answer.puts x.answer.emits) node
     ∙ ap (λ (l : List Value). made_of y.node l x.answer.result x.answer.puts x.answer.emits) args.given

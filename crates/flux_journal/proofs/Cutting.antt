@@ -1,6 +1,6 @@
 -- Texts cut at a byte, and numbers that a whole text is.
-use Rattle.std.proofs.Common.{◌≡◌, ◌≢◌, ℕ, zero, suc, ◌+◌, ◌<◌, ◌≤◌, ◌^◌, Bool, true, false, not, eqb, List, [], ◌∷◌, ◌++◌, length, take, drop, get_or, Option, Some, None, refl, sym, ap, ◌∙◌, subst, append_assoc, arith}
-use Rattle.std.specs.List.{position_or_len, prefix_len, AllByRecursion}
+use Rattle.std.proofs.Common.{◌≡◌, ◌≢◌, ℕ, suc, ◌+◌, ◌<◌, ◌≤◌, ◌^◌, Bool, true, false, not, eqb, List, [], ◌∷◌, ◌++◌, length, take, drop, get_or, Option, Some, None, refl, sym, ap, ◌∙◌, subst, arith}
+use Rattle.std.specs.List.{position_or_len}
 use Rattle.std.specs.Fmt.{decimal}
 use Rattle.std.specs.Prelude.{MatchOption, IfSome, IfNone}
 use Rattle.std.specs.Borrow.{Bor}
@@ -14,7 +14,7 @@ use Rattle.flux_journal.specs.steps.Cuts.{IsCut, HasNone, IsNumber}
 
 -- ---- cuts
 
-not_back : (t : Bool) → not t ≡ true → t ≡ false
+pub not_back : (t : Bool) → not t ≡ true → t ≡ false
 not_back true e = absurd cc
 not_back false e = refl
 
@@ -24,8 +24,8 @@ none_before m (b ∷ text) =
     let n = position_or_len (λ c. eqb c m) text in
     let more : suc n ≡ 1 + n = omega arith in
     cond_both (not (eqb b m)) (1 + n) 0 (λ (i : ℕ). HasNone m (take i (b ∷ text)))
-        (λ e. subst (λ (i : ℕ). HasNone m (take i (b ∷ text))) more (not_back (eqb b m) e, none_before m text))
-        (λ e. tt)
+    (λ e. subst (λ (i : ℕ). HasNone m (take i (b ∷ text))) more (not_back (eqb b m) e, none_before m text))
+    (λ e. tt)
 
 pub cut_found : (m i : ℕ) (text : List ℕ) → i ≡ position_or_len (λ b. eqb b m) text → i < length text → IsCut m text (take i text) (drop (i + 1) text)
 cut_found m i text is lt =

@@ -3,8 +3,10 @@ use Rattle.std.proofs.Common.{◌≡◌, List, ℕ, Option, Result, Ok, Err, sym
 use Rattle.std.specs.Result.{IsErrAnd}
 use Rattle.flux_values.specs.declared.values.Value.{Value}
 use Rattle.flux_values.specs.declared.answers.Put.{Put}
-use Rattle.flux_values.specs.declared.failures.Memory.{Memory}
 use Rattle.flux_model.specs.declared.programs.Program.{Program}
+use Rattle.flux_model.specs.declared.journals.Entry.{Entry}
+use Rattle.flux_journal.specs.Spelled.{IsEntryLine}
+use Rattle.flux_journal.specs.Journals.{HasLineCause}
 use Rattle.flux_journal.specs.declared.faults.LineFault.{LineFault}
 use Rattle.flux_journal.specs.declared.faults.LineFault.TheVariants as faults
 use Rattle.flux_journal.specs.steps.Reading.{OnBad, BeginsNone, IsPartRead, IsWholeRead, NoMore, AreMoreRead, IsBadPut, IsPutOrNone, NoPuts, ArePutsRead}
@@ -37,3 +39,9 @@ puts_fail p text rest fault (Err f) is h = subst (λ g. OnBad g (NoPuts p text))
 pub put_fails : (p : Program) (text rest : List ℕ) (fault : LineFault) (r : Result (Option Put) LineFault) → IsErrAnd r (λ f. f ≡ fault) → OnBad fault (IsBadPut p text) → IsPutOrNone p text rest r
 put_fails p text rest fault (Ok y) is h = absurd is
 put_fails p text rest fault (Err f) is h = subst (λ g. OnBad g (IsBadPut p text)) (sym is) h
+
+pub line_fails : (p : Program) (line : List ℕ) (fault : LineFault) (r : Result Entry LineFault) → IsErrAnd r (λ f. f ≡ fault) → OnBad fault ((entry : Entry) → IsEntryLine p line entry → ⊥) → HasLineCause p line r
+line_fails p line fault (Ok entry) is h = absurd is
+line_fails p line faults.BadLine (Err faults.BadLine) is h = h
+line_fails p line faults.Memory (Err faults.BadLine) is h = absurd cc
+line_fails p line fault (Err faults.Memory) is h = tt

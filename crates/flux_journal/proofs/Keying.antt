@@ -1,22 +1,20 @@
 -- Keys and how they are held, as their texts have them.
-use Rattle.std.proofs.Common.{◌≡◌, ℕ, zero, suc, ◌+◌, ◌<◌, ◌≤◌, ◌^◌, Bool, true, false, ◌&&◌, ◌||◌, eqb, List, [], ◌∷◌, ◌++◌, length, Option, Some, None, IfNone, refl, sym, ap, ◌∙◌, subst, append_assoc, arith}
+use Rattle.std.proofs.Common.{◌≡◌, ℕ, zero, suc, ◌<◌, ◌^◌, Bool, true, false, ◌&&◌, ◌||◌, eqb, List, [], ◌∷◌, ◌++◌, Option, Some, None, IfNone, refl, sym, ap, ◌∙◌, subst, arith}
 use Rattle.std.specs.List.{AllByRecursion, list_all, slice_get}
 use Rattle.std.specs.Fmt.{decimal}
 use Rattle.std.proofs.lemmas.Bool.{eqb-true, both_ways}
 use Rattle.std.proofs.lemmas.List.{append-nil}
-use Rattle.flux_values.specs.Identifiers.{is_word, is_word_start, is_word_byte, IsIdentifier}
-use Rattle.flux_values.specs.declared.answers.Mode.{Mode}
-use Rattle.flux_values.specs.declared.answers.Mode.TheVariants.{Reader, Writer}
+use Rattle.flux_values.specs.Identifiers.{is_word_start, is_word_byte, IsIdentifier}
 use Rattle.flux_model.specs.declared.programs.Program.{Program}
 use Rattle.flux_model.specs.declared.programs.Class.{Class}
 use Rattle.flux_model.specs.declared.programs.ClassNo.{ClassNo}
 use Rattle.flux_model.specs.declared.journals.Key.{Key}
 use Rattle.flux_model.specs.Names.{IsNamed}
-use Rattle.flux_model.specs.Texts.{class_name, printed_session, printed_key, printed_mode}
-use Rattle.flux_journal.specs.Entries.{HasSession, IsKeyIn, IsKeyOf}
+use Rattle.flux_model.specs.Texts.{class_name, printed_session}
+use Rattle.flux_journal.specs.Entries.{HasSession, IsKeyIn}
 use Rattle.flux_journal.specs.steps.Cuts.{HasNone, IsCut, IsNumber}
 use Rattle.flux_journal.specs.steps.Named.{IsClassNamed}
-use Rattle.flux_journal.specs.steps.Parts.{IsKeyText, IsHoldText}
+use Rattle.flux_journal.specs.steps.Parts.{IsKeyText}
 use Rattle.flux_journal.proofs.Cutting.{same_cut, no_cut, one_number}
 
 -- ---- identifiers
@@ -26,7 +24,7 @@ other_byte : (b m : ℕ) (t : Bool) → eqb b m ≡ t → is_word_byte b ≡ tru
 other_byte b m false e word free = refl
 other_byte b m true e word free = absurd (both_ways (is_word_byte m) free (ap is_word_byte (sym (eqb-true b m e)) ∙ word))
 
-both_true : (a b : Bool) → (a && b) ≡ true → (a ≡ true) × (b ≡ true)
+pub both_true : (a b : Bool) → (a && b) ≡ true → (a ≡ true) × (b ≡ true)
 both_true true b e = (refl, e)
 both_true false b e = absurd cc
 

@@ -6,3 +6,6 @@ pub mod Parted
 pub mod Called
 pub mod Failing
 pub mod Missing
+pub mod Worded
+pub mod Lined
+pub mod Once

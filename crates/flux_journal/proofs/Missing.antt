@@ -1,22 +1,28 @@
 -- Why no part begins a text where the reader of one of its parts finds none.
-use Rattle.std.proofs.Common.{◌≡◌, ◌⊎◌, inl, inr, ℕ, ℤ, Bool, ◌+◌, ◌<◌, ◌≤◌, List, [], ◌∷◌, ◌++◌, length, Option, Some, None, codes, refl, sym, ap, ◌∙◌, subst, append_assoc, arith}
+use Rattle.std.proofs.Common.{◌≡◌, ◌⊎◌, inl, inr, ℕ, suc, ℤ, Bool, true, false, eqb, map, Result, Ok, Err, ◌+◌, List, [], ◌∷◌, ◌++◌, length, Option, Some, None, codes, refl, sym, ap, ◌∙◌, subst, append_assoc, arith}
+use Rattle.std.proofs.lemmas.Bool.{eqb-true, both_ways}
 use Rattle.std.proofs.lemmas.List.{append-nil, length-append}
 use Rattle.flux_values.specs.declared.values.Value.{Value}
 use Rattle.flux_values.specs.declared.values.Value.TheVariants as values
 use Rattle.flux_values.specs.declared.answers.CallResult.{CallResult}
 use Rattle.flux_values.specs.declared.answers.CallResult.TheVariants as results
 use Rattle.flux_values.specs.declared.answers.Put.{Put}
+use Rattle.flux_values.specs.declared.texts.TheConstants.{EMISSION_LIMIT}
+use Rattle.flux_values.specs.Spellings.{SpellsText, BeginsText, IsTextRead}
+use Rattle.flux_values.proofs.Literals.{one_text}
 use Rattle.flux_model.specs.declared.programs.Program.{Program}
 use Rattle.flux_model.specs.declared.programs.NodeNo.{NodeNo}
 use Rattle.flux_model.specs.declared.journals.CallMade.{CallMade}
 use Rattle.flux_model.specs.Names.{IsNamed}
 use Rattle.flux_journal.specs.Entries.{IsCellOf, IsTextOf}
-use Rattle.flux_journal.specs.Spelled.{Behind, Before, BeginEach, BeginsValue, BeginsNext, BeginClosed, BeginValues, BeginsCode, BeginsResult, BeginsChange, BeginsPut, IsEmission, IsCallText}
+use Rattle.flux_journal.specs.Spelled.{Behind, Before, BeginEach, BeginsValue, BeginsNext, BeginClosed, BeginValues, BeginsResult, BeginsChange, BeginsPut, IsEmission, IsCallText}
 use Rattle.flux_journal.specs.steps.Cuts.{HasNone, IsCut}
-use Rattle.flux_journal.specs.steps.Reading.{BeginsNone, IsNotBehind, AreAdded, NoMore, BeginsCell, BeginsName, BeginsSet, BeginsRemoved, NoPut, IsBadPut, NoPuts}
+use Rattle.flux_journal.specs.steps.Reading.{BeginsNone, IsNotBehind, AreAdded, NoMore, BeginsCell, BeginsName, BeginsSet, BeginsRemoved, NoPut, IsBadPut, NoPuts, IsWholeRead, IsEmitted, IsCallAt}
+use Rattle.flux_journal.specs.declared.faults.LineFault.{LineFault}
+use Rattle.flux_journal.proofs.Failing.{on_bad}
 use Rattle.flux_journal.proofs.Cutting.{same_cut, no_cut}
-use Rattle.flux_journal.proofs.Parted.{Same, behind_word, value_once, no_value_closed, each_once, each_alike, each_push, over, GoesOn}
-use Rattle.flux_journal.proofs.Called.{at_place, next_once, no_next_closed, closed_once, values_once, result_once, cell_clean, cell_once, put_once, put_marked, emission_no_put, emission_once, call_once}
+use Rattle.flux_journal.proofs.Parted.{behind_word, value_once, each_once, each_alike, each_push, over}
+use Rattle.flux_journal.proofs.Called.{at_place, next_once, no_next_closed, values_once, result_once, cell_clean, cell_once, put_once, put_marked, emission_no_put}
 
 -- ---- words
 
@@ -165,6 +171,7 @@ puts_bad p named text rest puts so bad others tail emits each emission = elim (e
     more : (xs : List Put) → BeginEach (BeginsPut p) rest xs tail → ⊥
     more [] e = bad.marked (subst NoPut (sym e) (emission_no_put tail emits emission))
     more (x ∷ xs) e = bad.none x e.rest e.part
+
     fewer : (xs : List Put) → BeginEach (BeginsPut p) tail xs rest → ⊥
     fewer [] e = bad.marked (subst NoPut e (emission_no_put tail emits emission))
     fewer (x ∷ xs) e = put_marked p tail x e.rest (emission_no_put tail emits emission) e.part
@@ -174,3 +181,90 @@ puts_bad p named text rest puts so bad others tail emits each emission = elim (e
 pub result_no_values : (text front : List ℕ) → text ≡ codes "ok " ++ front → BeginsNone BeginValues front → BeginsNone BeginsResult text
 result_no_values text front laid none (results.Good vs) tail b = none vs tail (subst (λ (t : List ℕ). BeginValues t vs tail) (behind_word (codes "ok ") b.rest front text b.laid laid) b.then_)
 result_no_values text front laid none (results.Bad code) tail b = at_place 0 111 102 (codes "ok " ++ front) (codes "fail " ++ b.rest) refl refl (omega arith) (sym laid ∙ b.laid)
+
+-- ---- emissions
+
+as_whole : (text bytes : List ℕ) → SpellsText text bytes → IsTextOf EMISSION_LIMIT bytes → BeginsText text bytes EMISSION_LIMIT (length text)
+as_whole text bytes spells is = record { spelling = text; rest = []; each = is.each; few = is.few; spells = spells; front = sym (append-nil text); long = refl }
+
+pub emitted_none : (text : List ℕ) → IsTextRead text EMISSION_LIMIT None → (x : List ℕ) → IsEmitted text x → ⊥
+emitted_none text none [] is = is
+emitted_none text none (b ∷ x) is = none (b ∷ x) (length text) (as_whole text (b ∷ x) is.0 is.1)
+
+pub emitted_part : (text t : List ℕ) (n : ℕ) → BeginsText text t EMISSION_LIMIT n → (n ≡ length text → ⊥) → (x : List ℕ) → IsEmitted text x → ⊥
+emitted_part text t n begins part [] is = is
+emitted_part text t n begins part (b ∷ x) is = let one = one_text text t (b ∷ x) EMISSION_LIMIT n (length text) begins (as_whole text (b ∷ x) is.0 is.1) in part one.long
+
+pub emitted_empty : (text t : List ℕ) (n : ℕ) → BeginsText text t EMISSION_LIMIT n → t ≡ [] → (x : List ℕ) → IsEmitted text x → ⊥
+emitted_empty text t n begins empty [] is = is
+emitted_empty text t n begins empty (b ∷ x) is =
+    let one = one_text text t (b ∷ x) EMISSION_LIMIT n (length text) begins (as_whole text (b ∷ x) is.0 is.1) in
+    at_place 0 0 (b + 1) (map suc []) (map suc (b ∷ x)) refl (omega arith) (omega arith) (ap (map suc) (sym empty ∙ one.text))
+
+whole_spelling : (spelling rest text : List ℕ) → text ≡ spelling ++ rest → length spelling ≡ length text → spelling ≡ text
+whole_spelling spelling [] text laid n = sym (laid ∙ append-nil spelling)
+whole_spelling spelling (b ∷ rest) text laid n = absurd (omega (arith, n, ap length laid, length-append spelling (b ∷ rest)))
+
+pub emitted_is : (text t : List ℕ) (n : ℕ) → BeginsText text t EMISSION_LIMIT n → n ≡ length text → (t ≡ [] → ⊥) → IsEmitted text t
+emitted_is text [] n begins all some = some refl
+emitted_is text (b ∷ t) n begins all some = (subst (λ (s : List ℕ). SpellsText s (b ∷ t)) (whole_spelling begins.spelling begins.rest text begins.front (sym begins.long ∙ all)) begins.spells, record { each = begins.each; few = begins.few })
+
+pub emission_read : (text rest : List ℕ) (r : Result (List ℕ) LineFault) → text ≡ codes " emits " ++ rest → IsWholeRead (IsEmitted rest) r → IsWholeRead (IsEmission text) r
+emission_read text rest (Ok []) laid is = absurd is
+emission_read text rest (Ok (b ∷ x)) laid is = record { rest = rest; laid = laid; then_ = is }
+emission_read text rest (Err fault) laid h = on_bad fault h other
+  where
+    other : ((x : List ℕ) → IsEmitted rest x → ⊥) → (x : List ℕ) → IsEmission text x → ⊥
+    other none [] is = at_place 0 0 33 (map suc []) (map suc (codes " emits " ++ rest)) refl refl (omega arith) (ap (map suc) (sym is ∙ laid))
+    other none (b ∷ x) is = none (b ∷ x) (subst (λ (t : List ℕ). SpellsText t (b ∷ x) × IsTextOf EMISSION_LIMIT (b ∷ x)) (behind_word (codes " emits ") is.rest rest text is.laid laid) is.then_)
+
+-- ---- calls
+
+module _ (p : Program) (named : IsNamed p) (node : NodeNo) (text : List ℕ) where
+  pub call_no_args : BeginsNone BeginValues text → (made : CallMade) → IsCallAt p node text made → ⊥
+  call_no_args none made is = let call = is.0 in none made.args (codes " " ++ call.result_text) call.args
+
+  pub call_no_space : (args : List Value) (mid : List ℕ) → BeginValues text args mid → IsNotBehind (codes " ") mid → (made : CallMade) → IsCallAt p node text made → ⊥
+  call_no_space args mid begins none made is =
+      let call = is.0 in
+      let one = values_once args made.args text mid (codes " " ++ call.result_text) begins call.args in
+      none call.result_text one.rest
+
+  -- what stands where a result has to
+  result_there : (args : List Value) (mid rest : List ℕ) → BeginValues text args mid → mid ≡ codes " " ++ rest → (made : CallMade) (call : IsCallText p text made) → BeginsResult rest made.answer.result call.puts_text
+  result_there args mid rest begins laid made call =
+      let one = values_once args made.args text mid (codes " " ++ call.result_text) begins call.args in
+      let same = behind_word (codes " ") rest call.result_text mid laid one.rest in
+      subst (λ (t : List ℕ). BeginsResult t made.answer.result call.puts_text) (sym same) call.result_
+
+  pub call_no_result : (args : List Value) (mid rest : List ℕ) → BeginValues text args mid → mid ≡ codes " " ++ rest → BeginsNone BeginsResult rest → (made : CallMade) → IsCallAt p node text made → ⊥
+  call_no_result args mid rest begins laid none made is = let call = is.0 in none made.answer.result call.puts_text (result_there args mid rest begins laid made call)
+
+  -- what stands where changes have to
+  puts_there : (args : List Value) (mid rest left : List ℕ) (given : CallResult) → BeginValues text args mid → mid ≡ codes " " ++ rest → BeginsResult rest given left → (made : CallMade) (call : IsCallText p text made) → BeginEach (BeginsPut p) left made.answer.puts call.emission_text
+  puts_there args mid rest left given begins laid result_ made call =
+      let one = result_once rest given made.answer.result left call.puts_text result_ (result_there args mid rest begins laid made call) in
+      subst (λ (t : List ℕ). BeginEach (BeginsPut p) t made.answer.puts call.emission_text) (sym one.rest) call.puts
+
+  pub call_no_puts : (args : List Value) (mid rest left : List ℕ) (given : CallResult) → BeginValues text args mid → mid ≡ codes " " ++ rest → BeginsResult rest given left → NoPuts p left → (made : CallMade) → IsCallAt p node text made → ⊥
+  call_no_puts args mid rest left given begins laid result_ none made is =
+      let call = is.0 in
+      none made.answer.puts call.emission_text made.answer.emits (puts_there args mid rest left given begins laid result_ made call) call.emission
+
+  pub call_no_emission : (args : List Value) (mid rest left end : List ℕ) (given : CallResult) (puts : List Put) → BeginValues text args mid → mid ≡ codes " " ++ rest → BeginsResult rest given left → BeginEach (BeginsPut p) left puts end → NoPut end
+      → ((x : List ℕ) → IsEmission end x → ⊥) → (made : CallMade) → IsCallAt p node text made → ⊥
+  call_no_emission args mid rest left end given puts begins laid result_ each over_ none made is =
+      let call = is.0 in
+      let one = each_once (BeginsPut p) (put_once p named) puts made.answer.puts left end call.emission_text
+      (λ put tail b. put_marked p end put tail over_ b)
+      (λ put tail b. put_marked p call.emission_text put tail (emission_no_put call.emission_text made.answer.emits call.emission) b)
+      each (puts_there args mid rest left given begins laid result_ made call) in
+      none made.answer.emits (subst (λ (t : List ℕ). IsEmission t made.answer.emits) (sym one.rest) call.emission)
+
+pub no_bytes : (t : List ℕ) → true ≡ eqb (length t) 0 → t ≡ []
+no_bytes [] e = refl
+no_bytes (b ∷ t) e = absurd (let no_ : length (b ∷ t) ≡ 0 = eqb-true (length (b ∷ t)) 0 (sym e) in omega arith)
+
+pub some_bytes : (t : List ℕ) → false ≡ eqb (length t) 0 → t ≡ [] → ⊥
+some_bytes [] e is = both_ways true (sym e) refl
+some_bytes (b ∷ t) e is = let n : length (b ∷ t) ≡ 0 = ap length is in omega arith

@@ -1,19 +1,15 @@
 -- What begins a text begins it in one way.
-use Rattle.std.proofs.Common.{◌≡◌, ◌⊎◌, inl, inr, ℕ, zero, suc, ◌+◌, ◌<◌, ◌≤◌, ◌^◌, true, false, List, [], ◌∷◌, ◌++◌, length, drop, get_or, Option, Some, None, Ok, Err, codes, refl, sym, ap, ◌∙◌, subst, append_assoc, arith}
+use Rattle.std.proofs.Common.{◌≡◌, ◌⊎◌, inl, inr, ℕ, true, false, List, [], ◌∷◌, ◌++◌, length, drop, None, Ok, Err, refl, sym, ap, ◌∙◌, subst, arith}
 use Rattle.std.specs.Fmt.{decimal}
-use Rattle.std.proofs.lemmas.List.{length-append, append-nil, append_cancel_left, drop_at}
+use Rattle.std.proofs.lemmas.List.{append-nil, append_cancel_left, drop_at}
 use Rattle.flux_values.specs.declared.values.Value.{Value}
 use Rattle.flux_values.specs.declared.values.Value.TheVariants as values
 use Rattle.flux_values.specs.declared.failures.ValueFault.TheVariants as value_faults
-use Rattle.flux_values.specs.declared.answers.CallResult.{CallResult}
-use Rattle.flux_values.specs.declared.answers.CallResult.TheVariants as results
-use Rattle.flux_values.specs.declared.answers.Put.{Put}
-use Rattle.flux_values.specs.Spellings.{BeginsSpelled, BeginsDecimal, IsLongest, HasCause, IsDecimalRead}
+use Rattle.flux_values.specs.Spellings.{BeginsSpelled, BeginsDecimal, HasCause, IsDecimalRead}
 use Rattle.flux_values.proofs.Causes.{one_value, too_long_no_value}
 use Rattle.flux_values.proofs.Decimals.{one_decimal}
 use Rattle.flux_values.proofs.Fronts.{IsHead, begins_head}
-use Rattle.flux_model.specs.declared.programs.Program.{Program}
-use Rattle.flux_journal.specs.Spelled.{Behind, Before, BeginEach, BeginsValue, BeginsNext, BeginClosed, BeginValues, BeginsCode, BeginsResult, BeginsChange, BeginsPut, IsEmission, IsCallText}
+use Rattle.flux_journal.specs.Spelled.{BeginEach, BeginsValue, BeginsCode}
 
 -- the same was given, with the same behind it
 pub record Same {X : Type 0} (x y : X) (a b : List ℕ) : Type 0 where

@@ -80,7 +80,7 @@ BeginsChange text cell name None rest =
     Behind (codes " cut ") (Behind (cell ++ codes " ") (λ front. BeginsValue front (Text name) rest)) text
 BeginsChange text cell name (Some value) rest =
     Behind (codes " put ") (Behind (cell ++ codes " ") (λ front. Before BeginsValue
-        (Behind (codes " ") (λ behind. BeginsValue behind value rest)) front (Text name))) text
+    (Behind (codes " ") (λ behind. BeginsValue behind value rest)) front (Text name))) text
 
 pub record BeginsPut (p : Program) (text : List ℕ) (put : Put) (rest : List ℕ) : Type 0 where
   pub cell : IsCellOf p put.cell

@@ -4,8 +4,8 @@ ghost use Rattle.flux_model.specs.Names.{IsNamed};
 ghost use Rattle.flux_journal.specs.Spelled.{BeginClosed, BeginValues, BeginsResult, IsEmission};
 ghost use Rattle.flux_journal.specs.steps.Reading.{IsPartRead, IsWholeRead, AreMoreRead, BeginsCell, BeginsName, BeginsSet, BeginsRemoved, IsPutOrNone, ArePutsRead, IsEmitted, IsCallAt};
 
-use crate::cuts::{behind, cut};
 use crate::cursors::Cursor;
+use crate::cuts::{behind, cut};
 use crate::faults::LineFault;
 use crate::names::find_cell;
 use flux_model::{CallMade, CallResult, NodeNo, Program, Put};
@@ -150,10 +150,16 @@ impl Cursor<'_> {
 fn read_emitted(alloc: Global, text: &[u8]) -> Result<Bytes, LineFault>
     ensures { IsWholeRead (IsEmitted text.now) result }
 {
-    match read_text_within(alloc, text, EMISSION_LIMIT)? {
-        Some((bytes, length)) if length == text.len() && !bytes.as_bytes().is_empty() => Ok(bytes),
-        _ => Err(LineFault::BadLine),
+    let Some((bytes, length)) = read_text_within(alloc, text, EMISSION_LIMIT)? else {
+        return Err(LineFault::BadLine);
+    };
+    if length != text.len() {
+        return Err(LineFault::BadLine);
     }
+    if bytes.as_bytes().is_empty() {
+        return Err(LineFault::BadLine);
+    }
+    Ok(bytes)
 }
 
 /// The emission that is left.

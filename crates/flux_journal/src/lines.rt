@@ -12,7 +12,7 @@ ghost use Rattle.flux_journal.specs.Journals.{HasLineCause, IsLineOrMemory};
 ghost use Rattle.flux_journal.specs.Spelled.{IsEventText, IsEntryLine};
 ghost use Rattle.flux_journal.specs.steps.Named.{IsReady};
 ghost use Rattle.flux_journal.specs.steps.Reading.{IsWholeRead};
-ghost use Rattle.flux_journal.specs.steps.Events.{word_text, IsExitRest, IsCallRest, IsPlainRead, IsRestRead};
+ghost use Rattle.flux_journal.specs.steps.Events.{word_text, IsNodeText, IsExitRest, IsCallRest, IsPlainRead, IsRestRead};
 
 use crate::calls::read_call;
 use crate::cuts::{cut, read_number};
@@ -21,6 +21,7 @@ use crate::keys::{read_hold, read_key};
 use crate::names::{Names, find_node, names_of};
 use crate::outcomes::{read_end, read_exit};
 use flux_model::{CallMade, Entry, Event, FlowNo, NodeNo, Outcome, Program};
+use flux_values::Memory;
 use std::alloc::Global;
 
 /// The word that an event's text begins with.
@@ -70,7 +71,7 @@ pub struct Reader<'a> {
 }
 
 impl<'a> Reader<'a> {
-    pub fn new(alloc: Global, program: &'a Program) -> Result<Reader<'a>, LineFault>
+    pub fn new(alloc: Global, program: &'a Program) -> Result<Reader<'a>, Memory>
         requires numbered { IsNumbered program.now }
         requires named { IsNamed program.now }
         ensures same { IfOk result (λ reader. reader.program.now ≡ program.now) }
@@ -84,6 +85,16 @@ impl<'a> Reader<'a> {
         })
     }
 
+    /// The node of a name.
+    fn node(&self, name: &[u8]) -> Option<NodeNo>
+        requires { IsReady self.now.program.now self.now.names }
+        ensures found { IfSome result (IsNodeText self.now.program.now name.now) }
+        ensures none { IfNone result ((node : NodeNo) → IsNodeText self.now.program.now name.now node
+            → ⊥) }
+    {
+        find_node(&self.names, name)
+    }
+
     /// The node and the outcome of an exit.
     fn exit(&self, text: &[u8]) -> Option<(NodeNo, Outcome)>
         requires { IsReady self.now.program.now self.now.names }
@@ -92,7 +103,7 @@ impl<'a> Reader<'a> {
             → IsExitRest self.now.program.now text.now node outcome → ⊥) }
     {
         let (name, outcome) = cut(b' ', text)?;
-        let node = find_node(&self.names, name)?;
+        let node = self.node(name)?;
         let outcome = read_exit(outcome)?;
         Some((node, outcome))
     }
@@ -112,7 +123,7 @@ impl<'a> Reader<'a> {
                 let (key, mode) = read_hold(self.program, text)?;
                 Some(Event::Wait(key, mode))
             }
-            Word::Enter => Some(Event::Enter(find_node(&self.names, text)?)),
+            Word::Enter => Some(Event::Enter(self.node(text)?)),
             Word::Choose => {
                 let place = read_number(text, u64::from(u32::MAX))?;
                 Some(Event::Choose(place as u32))
@@ -134,7 +145,7 @@ impl<'a> Reader<'a> {
         let Some((name, text)) = cut(b' ', text) else {
             return Err(LineFault::BadLine);
         };
-        match find_node(&self.names, name) {
+        match self.node(name) {
             Some(node) => read_call(self.alloc, self.program, node, text),
             None => Err(LineFault::BadLine),
         }
@@ -201,5 +212,6 @@ pub fn read_line(alloc: Global, program: &Program, line: &[u8]) -> Result<Entry,
     ensures bad { ((entry : Entry) → IsEntryLine program.now line.now entry → ⊥)
         → IsLineOrMemory (Err faults.BadLine) result }
 {
-    Reader::new(alloc, program)?.entry(line)
+    let reader = Reader::new(alloc, program)?;
+    reader.entry(line)
 }

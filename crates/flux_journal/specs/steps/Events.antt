@@ -1,5 +1,5 @@
 -- Steps of reading a line: the word that an event's text begins with, and what stands behind it.
-use Rattle.std.specs.Prelude.{◌≡◌, ℕ, ◌<◌, ◌^◌, List, ◌++◌, Option, Some, None, Result, Ok, Err, codes, ⊤}
+use Rattle.std.specs.Prelude.{◌≡◌, ℕ, ◌<◌, ◌^◌, List, ◌++◌, Option, Some, None, Result, Ok, Err, codes}
 use Rattle.std.specs.Fmt.{decimal}
 use Rattle.flux_values.specs.declared.answers.Mode.{Mode}
 use Rattle.flux_model.specs.declared.programs.Program.{Program}
@@ -11,11 +11,11 @@ use Rattle.flux_model.specs.declared.journals.Event.{Event}
 use Rattle.flux_model.specs.declared.journals.Event.TheVariants as events
 use Rattle.flux_model.specs.Texts.{node_name, printed_exit}
 use Rattle.flux_journal.specs.declared.faults.LineFault.{LineFault}
-use Rattle.flux_journal.specs.declared.faults.LineFault.TheVariants as faults
 use Rattle.flux_journal.specs.declared.lines.Word.{Word}
 use Rattle.flux_journal.specs.declared.lines.Word.TheVariants as words
-use Rattle.flux_journal.specs.Entries.{IsNodeOf, IsKeyOf, IsOutcome}
+use Rattle.flux_journal.specs.Entries.{IsNodeOf, IsOutcome}
 use Rattle.flux_journal.specs.Spelled.{Behind, IsCallText}
+use Rattle.flux_journal.specs.steps.Reading.{OnBad}
 use Rattle.flux_journal.specs.steps.Parts.{IsKeyText, IsHoldText, IsEndText}
 
 abbrev pub word_text : Word → List ℕ
@@ -83,5 +83,4 @@ IsPlainRead p word text None = IsNoRest p text word
 
 abbrev pub IsRestRead : Program → Word → List ℕ → Result Event LineFault → Type 0
 IsRestRead p word text (Ok event) = IsRestAt p word text event
-IsRestRead p word text (Err faults.BadLine) = IsNoRest p text word
-IsRestRead p word text (Err faults.Memory) = ⊤
+IsRestRead p word text (Err fault) = OnBad fault (IsNoRest p text word)

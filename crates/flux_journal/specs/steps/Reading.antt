@@ -71,7 +71,7 @@ abbrev pub BeginsSet : Program → List ℕ → Put → List ℕ → Option Valu
 BeginsSet p text put rest None = ⊥
 BeginsSet p text put rest (Some value) = IsCellOf p put.cell
     × Behind (put.cell ++ codes " ") (λ front. Before BeginsValue
-        (Behind (codes " ") (λ behind. BeginsValue behind value rest)) front (Text put.name)) text
+    (Behind (codes " ") (λ behind. BeginsValue behind value rest)) front (Text put.name)) text
 
 abbrev pub BeginsRemoved : Program → List ℕ → Put → List ℕ → Option Value → Type 0
 BeginsRemoved p text put rest (Some value) = ⊥

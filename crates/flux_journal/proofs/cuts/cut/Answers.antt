@@ -1,4 +1,4 @@
-use Rattle.std.proofs.Common.{ℕ, ◌+◌, ◌∙◌, arith}
+use Rattle.std.proofs.Common.{arith}
 use Rattle.std.proofs.lemmas.List.{take_rest}
 use Rattle.flux_journal.proofs.Cutting.{cut_found, cut_none}
 use Rattle.flux_journal.proofs.cuts.cut.Goals as goal

@@ -1,5 +1,4 @@
 use Rattle.flux_journal.proofs.Cutting.{number_none, number_part}
-use Rattle.std.proofs.Common.{arith}
 use Rattle.flux_journal.proofs.cuts.read_number.Goals as goal
 
 pub returns-in_default-clause-none : goal.returns-in_default-clause-none

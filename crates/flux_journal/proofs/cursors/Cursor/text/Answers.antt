@@ -1,5 +1,4 @@
 use Rattle.flux_values.specs.declared.values.Value.TheVariants as values
-use Rattle.flux_journal.specs.Spelled.{BeginsValue}
 use Rattle.flux_journal.specs.steps.Reading.{BeginsName}
 use Rattle.flux_journal.proofs.Failing.{on_bad, part_fails}
 use Rattle.flux_journal.proofs.Missing.{other_no_name}

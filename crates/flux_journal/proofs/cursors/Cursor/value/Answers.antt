@@ -1,5 +1,4 @@
 use Rattle.flux_journal.proofs.Parted.{value_bad, value_long}
-use Rattle.flux_journal.proofs.Called.{call_once}
 use Rattle.flux_journal.proofs.cursors.Cursor.value.Goals as goal
 
 pub returns-in-Err-BadValue : goal.returns-in-Err-BadValue
