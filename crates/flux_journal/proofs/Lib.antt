@@ -9,3 +9,4 @@ pub mod Missing
 pub mod Worded
 pub mod Lined
 pub mod Once
+pub mod Journaled

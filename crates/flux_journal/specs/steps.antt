@@ -5,3 +5,4 @@ pub mod Named
 pub mod Parts
 pub mod Reading
 pub mod Events
+pub mod Lines
