@@ -1,0 +1,12 @@
+pub mod ValueLists
+pub mod Cutting
+pub mod Named
+pub mod Keying
+pub mod Parted
+pub mod Called
+pub mod Failing
+pub mod Missing
+pub mod Worded
+pub mod Lined
+pub mod Once
+pub mod Journaled

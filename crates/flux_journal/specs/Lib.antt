@@ -1,0 +1,6 @@
+pub mod Formats
+pub mod Logs
+pub mod Entries
+pub mod Spelled
+pub mod Journals
+pub mod steps
