@@ -1,0 +1,4 @@
+pub mod Turns
+pub mod Draining
+pub mod Staying
+pub mod Waking
