@@ -11,8 +11,10 @@ mod places;
 mod running;
 mod runtimes;
 mod setups;
+mod waiting;
 
 pub use calls::{CallDone, Inputs, Job};
 pub use cores::{Core, Finish, Step};
 pub use runtimes::{Runtime, Stopped};
 pub use setups::Setup;
+pub use waiting::Stop;

@@ -1,3 +1,4 @@
 pub mod Others
 pub mod Blocked
-pub mod Numbers
+pub mod Sets
+pub mod Keyed

@@ -2,3 +2,4 @@ pub mod Turns
 pub mod Draining
 pub mod Staying
 pub mod Waking
+pub mod Covers

@@ -53,9 +53,10 @@ impl Rooms {
     pub fn remove(&mut self, key: Key, flow: u32)
         ensures { IsLessAt self.old self.new key flow }
     {
-        if let Some(flows) = self.rooms.get_mut(&key) {
-            flows.remove(flow);
-        }
+        let Some(flows) = self.rooms.get_mut(&key) else {
+            return;
+        };
+        flows.remove(flow);
     }
 
     /// The first number at a key that is looked at, from one on upward and then from 0 on.

@@ -1,6 +1,6 @@
 use Rattle.std.proofs.Common.{subst}
 use Rattle.flow_waits.specs.Waking.{IsMore}
-use Rattle.flow_waits.proofs.Numbers.{more_is}
+use Rattle.flow_waits.proofs.Sets.{more_is}
 use Rattle.flow_waits.proofs.numbers.Numbers.add.Goals as goal
 
 pub returns-clause-ok : goal.returns-clause-ok

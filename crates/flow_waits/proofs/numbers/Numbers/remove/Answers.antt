@@ -1,6 +1,6 @@
-use Rattle.std.proofs.Common.{subst, sym, ◌∙◌, ap}
+use Rattle.std.proofs.Common.{subst, sym, ◌∙◌, ap, ◌≡◌, ◌<◌, true, length}
 use Rattle.flow_waits.specs.Waking.{IsLess, has}
-use Rattle.flow_waits.proofs.Numbers.{less_is, fewer, has_is}
+use Rattle.flow_waits.proofs.Sets.{less_is, fewer, has_is}
 use Rattle.flow_waits.proofs.numbers.Numbers.remove.Goals as goal
 
 pub returns-clause-less : goal.returns-clause-less
@@ -9,4 +9,7 @@ returns-clause-less c =
     (less_is c.self.inside.set.keys c.remove.new.self.keys c.args.flow c.remove.ensures.updates.0)
 
 pub returns-clause-fewer : goal.returns-clause-fewer
-returns-clause-fewer c = λ is. ?
+returns-clause-fewer c =
+    subst (λ old. has old c.args.flow ≡ true → length c.remove.new.self.keys < length old) c.self.view_is
+    (λ is. fewer (length c.self.inside.set.keys) (length c.remove.new.self.keys) c.remove.result c.remove.ensures.len
+    (c.remove.ensures.test ∙ has_is c.self.inside.set.keys c.args.flow ∙ is))
