@@ -11,10 +11,8 @@ mod places;
 mod running;
 mod runtimes;
 mod setups;
-mod waiting;
 
 pub use calls::{CallDone, Inputs, Job};
-pub use cores::{Core, Finish, Step};
+pub use cores::{Core, Finish, Step, Stop};
 pub use runtimes::{Runtime, Stopped};
 pub use setups::Setup;
-pub use waiting::Stop;

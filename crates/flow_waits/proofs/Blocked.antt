@@ -57,7 +57,7 @@ taken-against : (key : Key) (their mode : Mode) (modes : List Mode) → conflict
     → list_any (λ held. conflict held mode) (held_after key modes (Take key their ∷ [])) ≡ true
 taken-against key their mode modes against = rw (same_key_itself key, against) refl
 
-nothing-left : (list : List Event) (event : Event) (rest : List Event) → list ≡ list ++ event ∷ rest → ⊥
+pub nothing-left : (list : List Event) (event : Event) (rest : List Event) → list ≡ list ++ event ∷ rest → ⊥
 nothing-left list event rest e = by (append_cancel_left list [] (event ∷ rest) (append-nil list ∙ e))
   where
     by : [] ≡ event ∷ rest → ⊥
@@ -221,7 +221,7 @@ fresh_are_alike setup entries one other key mode own fresh (third, waits) =
 
     apart : (holds_against entries third key mode ≡ true) ⊎ StandsBefore entries third one key mode → third ≢ other
     apart (inl against) is = fresh.free (λ none. nothing-against (modes_held entries other key) mode none (rw is at against))
-    apart (inr stands) is = fresh.stands_nowhere stands.their stands.place (rw is at stands.stands)
+    apart (inr stands) is = fresh.stands_nowhere key stands.their stands.place (rw is at stands.stands)
 
     turned : (holds_against entries third key mode ≡ true) ⊎ StandsBefore entries third one key mode
         → (holds_against entries third key mode ≡ true) ⊎ StandsBefore entries third other key mode
@@ -231,5 +231,5 @@ fresh_are_alike setup entries one other key mode own fresh (third, waits) =
       place = stands.place;
       stands = stands.stands;
       against = stands.against;
-      first = λ mine behind there. absurd (fresh.stands_nowhere mine behind there);
+      first = λ mine behind there. absurd (fresh.stands_nowhere key mine behind there);
     })

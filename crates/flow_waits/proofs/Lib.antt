@@ -2,3 +2,8 @@ pub mod Others
 pub mod Blocked
 pub mod Sets
 pub mod Keyed
+pub mod Orders
+pub mod Membership
+pub mod Choosing
+pub mod Waking
+pub mod Woken

@@ -87,5 +87,5 @@ module _ (entries : List Entry) (flow : FlowNo) (event : Event) (other : ℕ) (a
     live = live-stays setup fresh.live;
     next = next-stays setup (Take key mode) fresh.next;
     free = free-stays key fresh.free;
-    stands_nowhere = λ own place stands. fresh.stands_nowhere own place (last-back (Wait key own) place stands);
+    stands_nowhere = λ line own place stands. fresh.stands_nowhere line own place (last-back (Wait line own) place stands);
   }

@@ -1,5 +1,5 @@
 -- Candidates: which flows are looked at for one that can go on, and why that is enough.
-use Rattle.std.specs.Prelude.{◌≡◌, ◌≢◌, ℕ, ◌||◌, ◌⊎◌, true, List, [], ◌∷◌, ◌++◌}
+use Rattle.std.specs.Prelude.{◌≡◌, ◌≢◌, ℕ, ◌||◌, ◌⊎◌, true, if◌then◌else◌, List, [], ◌∷◌, ◌++◌}
 use Rattle.flux_values.specs.declared.answers.Mode.{Mode}
 use Rattle.flux_values.specs.declared.answers.Mode.TheVariants.{Reader, Writer}
 use Rattle.flux_model.specs.declared.journals.Entry.{Entry}
@@ -10,6 +10,8 @@ use Rattle.flux_model.specs.Setup.{Setup}
 use Rattle.flux_model.specs.Events.{IsLive}
 use Rattle.flux_model.specs.Waits.{StandsAt}
 use Rattle.flux_laws.specs.Going.{IsBlocked}
+use Rattle.flux_laws.specs.Hoisted.{is_writer}
+use Rattle.flux_table.specs.declared.locks.Waiter.{Waiter}
 use Rattle.flow_waits.specs.Turns.{IsBefore, IsFirstFrom}
 use Rattle.flow_waits.specs.Staying.{IsFresh}
 use Rattle.flow_waits.specs.Waking.{has, IsMore, IsEarliest, Rooms, room_at, IsMoreAt, IsLessAt}
@@ -86,6 +88,32 @@ pub record Lags (setup : Setup) (entries : List Entry) (pools : Pools) (from : �
 
 -- ---- changes
 
--- no more flows are looked at than before, and no fewer
+-- no fewer flows are looked at than before
 abbrev pub StayReady : Pools → Pools → Type 0
 StayReady old new = (flow : ℕ) → IsReady old flow → IsReady new flow
+
+-- the first flow of a room is looked at, and has left the room
+pub record MovesFirst (ready more : List ℕ) (rooms fewer : Rooms) (key : Key) (from flow : ℕ) : Type 0 where
+  pub earliest : IsEarliest (room_at rooms key) from flow
+  pub added : IsMore ready more flow
+  pub left : IsLessAt rooms fewer key flow
+
+-- if there is one
+abbrev pub WakesFirst : List ℕ → List ℕ → Rooms → Rooms → Key → ℕ → Type 0
+WakesFirst ready more rooms fewer key from = ((room_at rooms key ≡ []) × (more ≡ ready) × (fewer ≡ rooms))
+    ⊎ ((flow : ℕ) × MovesFirst ready more rooms fewer key from flow)
+
+pub record Wakes (old new : Pools) (key : Key) (mode : Mode) (from : ℕ) : Type 0 where
+  pub first : WakesFirst old.ready new.ready (rooms_for old mode) (rooms_for new mode) key from
+  pub others : (other : Mode) → mode ≢ other → rooms_for new other ≡ rooms_for old other
+
+-- the flows of a line that may go on, as long as no other flow takes the key: the first ones, to the first writer
+abbrev pub served_of : List Waiter → List ℕ
+served_of [] = []
+served_of (waiter ∷ line) = waiter.flow.0 ∷ (if is_writer waiter.mode then [] else served_of line)
+
+-- they are looked at
+pub record WakesLine (old new : Pools) (line : List Waiter) : Type 0 where
+  pub ready_ : (flow : ℕ) → has new.ready flow ≡ (has (served_of line) flow || has old.ready flow)
+  pub readers_ : new.readers ≡ old.readers
+  pub writers_ : new.writers ≡ old.writers

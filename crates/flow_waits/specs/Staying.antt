@@ -19,7 +19,7 @@ pub record IsFresh (setup : Setup) (entries : List Entry) (flow : ℕ) (key : Ke
   pub live : IsLive setup entries flow
   pub next : IsNext setup entries flow (Take key mode)
   pub free : HoldsKey entries flow key → ⊥
-  pub stands_nowhere : (own : Mode) (place : ℕ) → StandsAt entries flow key own place → ⊥
+  pub stands_nowhere : (line : Key) (own : Mode) (place : ℕ) → StandsAt entries flow line own place → ⊥
 
 -- ---- laws
 

@@ -5,7 +5,7 @@ ghost use Rattle.flux_laws.specs.Going.{IsBlocked};
 ghost use Rattle.flow_core.specs.States.{setup_in};
 ghost use Rattle.flow_core.specs.Lines.{IsStop, IsLineAt};
 
-use crate::cores::Core;
+use super::Core;
 use flux_library::Library;
 use flux_model::{FlowNo, Key, Mode};
 use flux_table::Waiter;
