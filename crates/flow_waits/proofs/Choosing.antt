@@ -10,10 +10,10 @@ use Rattle.flux_model.specs.Events.{IsLive}
 use Rattle.flux_model.specs.Legal.{IsLegal}
 use Rattle.flux_laws.specs.Going.{IsBlocked, CanGoOn}
 use Rattle.flux_laws.proofs.Living.{not_all_blocked}
-use Rattle.flow_waits.specs.Turns.{IsBefore, IsFirstFrom}
+use Rattle.flow_waits.specs.Turns.{IsBefore, IsFirstFrom, IsInLine}
 use Rattle.flow_waits.specs.Staying.{IsFresh}
 use Rattle.flow_waits.specs.Waking.{has, IsMore, IsLess, IsEarliest, IsMoreAt}
-use Rattle.flow_waits.specs.Covers.{Pools, IsReady, IsParked, IsInLine, IsInRoom, IsBehind, IsCovered, Covers, IsChosen, rooms_for}
+use Rattle.flow_waits.specs.Covers.{Pools, IsReady, IsParked, IsInRoom, IsBehind, IsCovered, Covers, IsChosen, rooms_for}
 use Rattle.flow_waits.proofs.Orders.{before-itself, before-then, before-turned}
 use Rattle.flow_waits.proofs.Membership.{none_has, less_there, less_kept, less_own, more_at_cases, more_at_there, more_at_own}
 use Rattle.flow_waits.proofs.Blocked.{fresh_are_alike}

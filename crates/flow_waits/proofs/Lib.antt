@@ -7,3 +7,4 @@ pub mod Membership
 pub mod Choosing
 pub mod Waking
 pub mod Woken
+pub mod Turning

@@ -19,10 +19,10 @@ use Rattle.flux_laws.specs.Moves.{IsMove}
 use Rattle.flux_laws.proofs.Standing.{next-unique, standing-next}
 use Rattle.flux_laws.proofs.Fronts.{fronts_are_legal}
 use Rattle.flux_laws.proofs.LastMoves.{entries_are_moves}
-use Rattle.flow_waits.specs.Turns.{IsBefore}
+use Rattle.flow_waits.specs.Turns.{IsBefore, IsInLine}
 use Rattle.flow_waits.specs.Staying.{IsFresh}
 use Rattle.flow_waits.specs.Waking.{has, IsMore, IsEarliest, room_at}
-use Rattle.flow_waits.specs.Covers.{Pools, IsReady, IsParked, IsInLine, IsInRoom, IsBehind, IsCovered, Covers, rooms_for}
+use Rattle.flow_waits.specs.Covers.{Pools, IsReady, IsParked, IsInRoom, IsBehind, IsCovered, Covers, rooms_for}
 use Rattle.flow_waits.proofs.Others.{live-back, next-stays, last-stays, fresh-stays}
 use Rattle.flow_waits.proofs.Blocked.{blocked_stay, fresh_are_alike, writers_block, nothing-left}
 use Rattle.flow_waits.proofs.Membership.{more_cases, more_there, more_own}

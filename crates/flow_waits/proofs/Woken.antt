@@ -18,10 +18,10 @@ use Rattle.flux_laws.proofs.Members.{In, in-from_contains, contains-from_in}
 use Rattle.flux_laws.proofs.Standing.{next-unique}
 use Rattle.flux_table.specs.declared.locks.Waiter.{Waiter}
 use Rattle.flow_core.specs.Lines.{IsLineAt, StandBehind, StandInOrder}
-use Rattle.flow_waits.specs.Turns.{IsBefore}
+use Rattle.flow_waits.specs.Turns.{IsBefore, IsInLine}
 use Rattle.flow_waits.specs.Staying.{IsFresh}
 use Rattle.flow_waits.specs.Waking.{has, IsMore, IsEarliest, room_at}
-use Rattle.flow_waits.specs.Covers.{Pools, IsReady, IsParked, IsInLine, IsInRoom, IsBehind, IsCovered, Covers, rooms_for, StayReady, MovesFirst, WakesFirst, Wakes, served_of, WakesLine}
+use Rattle.flow_waits.specs.Covers.{Pools, IsReady, IsParked, IsInRoom, IsBehind, IsCovered, Covers, rooms_for, StayReady, MovesFirst, WakesFirst, Wakes, served_of, WakesLine}
 use Rattle.flow_waits.proofs.Blocked.{writers_block}
 use Rattle.flow_waits.proofs.Membership.{none_has, more_cases, more_there, more_own, less_at_there, less_at_own, less_at_kept}
 

@@ -1,5 +1,5 @@
 -- Candidates: which flows are looked at for one that can go on, and why that is enough.
-use Rattle.std.specs.Prelude.{◌≡◌, ◌≢◌, ℕ, ◌||◌, ◌⊎◌, true, if◌then◌else◌, List, [], ◌∷◌, ◌++◌}
+use Rattle.std.specs.Prelude.{◌≡◌, ◌≢◌, ℕ, ◌<◌, ◌||◌, ◌⊎◌, Bool, true, false, length, if◌then◌else◌, List, [], ◌∷◌, ◌++◌}
 use Rattle.flux_values.specs.declared.answers.Mode.{Mode}
 use Rattle.flux_values.specs.declared.answers.Mode.TheVariants.{Reader, Writer}
 use Rattle.flux_model.specs.declared.journals.Entry.{Entry}
@@ -12,9 +12,10 @@ use Rattle.flux_model.specs.Waits.{StandsAt}
 use Rattle.flux_laws.specs.Going.{IsBlocked}
 use Rattle.flux_laws.specs.Hoisted.{is_writer}
 use Rattle.flux_table.specs.declared.locks.Waiter.{Waiter}
-use Rattle.flow_waits.specs.Turns.{IsBefore, IsFirstFrom}
+use Rattle.flow_core.specs.declared.cores.waiting.Stop.{Stop}
+use Rattle.flow_waits.specs.Turns.{IsBefore, IsFirstFrom, IsInLine}
 use Rattle.flow_waits.specs.Staying.{IsFresh}
-use Rattle.flow_waits.specs.Waking.{has, IsMore, IsEarliest, Rooms, room_at, IsMoreAt, IsLessAt}
+use Rattle.flow_waits.specs.Waking.{has, IsMore, IsLess, IsEarliest, Rooms, room_at, IsMoreAt, IsLessAt}
 
 -- the flows that are looked at; and those that aren't, since they were found blocked at a key, by the mode in which
 -- they would take it. Flows that stand in a line are found there
@@ -34,14 +35,6 @@ abbrev pub IsParked : Pools → Key → Mode → ℕ → Type 0
 IsParked pools key mode flow = has (room_at (rooms_for pools mode) key) flow ≡ true
 
 -- ---- why it is enough
-
--- a flow stands in a line, and is blocked
-pub record IsInLine (setup : Setup) (entries : List Entry) (flow : ℕ) : Type 0 where
-  pub key : Key
-  pub mode : Mode
-  pub place : ℕ
-  pub stands : StandsAt entries flow key mode place
-  pub blocked : IsBlocked setup entries flow
 
 -- another flow that is looked at would take the same key in the same mode, and comes before this one
 pub record IsBehind (setup : Setup) (entries : List Entry) (pools : Pools) (from : ℕ) (key : Key) (mode : Mode)
@@ -91,6 +84,18 @@ pub record Lags (setup : Setup) (entries : List Entry) (pools : Pools) (from : �
 -- no fewer flows are looked at than before
 abbrev pub StayReady : Pools → Pools → Type 0
 StayReady old new = (flow : ℕ) → IsReady old flow → IsReady new flow
+
+-- a blocked flow has a place in a room, unless it stands in a line
+abbrev pub HasRoom : Pools → Pools → ℕ → Key → Mode → Bool → Type 0
+HasRoom old new flow key mode true = (new.readers ≡ old.readers) × (new.writers ≡ old.writers)
+HasRoom old new flow key mode false = IsMoreAt (rooms_for old mode) (rooms_for new mode) key flow
+    × ((other : Mode) → mode ≢ other → rooms_for new other ≡ rooms_for old other)
+
+-- and is no longer looked at
+pub record Parks (old new : Pools) (flow : ℕ) (stop : Stop) : Type 0 where
+  pub less : IsLess old.ready new.ready flow
+  pub fewer : IsReady old flow → length new.ready < length old.ready
+  pub room : HasRoom old new flow stop.key stop.mode stop.stands
 
 -- the first flow of a room is looked at, and has left the room
 pub record MovesFirst (ready more : List ℕ) (rooms fewer : Rooms) (key : Key) (from flow : ℕ) : Type 0 where

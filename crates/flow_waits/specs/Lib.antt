@@ -1,4 +1,5 @@
 pub mod Turns
+pub mod Driven
 pub mod Draining
 pub mod Staying
 pub mod Waking

@@ -9,6 +9,7 @@ use super::Core;
 use flux_library::Library;
 use flux_model::{FlowNo, Key, Mode};
 use flux_table::Waiter;
+use std::alloc::Global;
 
 /// The take at which a flow is blocked, and whether it stands there already.
 #[derive(Clone, Copy, Debug, PartialEq, Eq)]
@@ -28,6 +29,11 @@ impl<L: Library> Core<L> {
         let _ = &self.running.live;
         let _ = flow;
         unreachable!()
+    }
+
+    /// The allocator that the core was made with.
+    pub fn alloc(&self) -> Global {
+        self.running.alloc
     }
 
     /// The flows that stand at a key, first come first.
