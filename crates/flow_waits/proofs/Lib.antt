@@ -7,4 +7,7 @@ pub mod Membership
 pub mod Choosing
 pub mod Waking
 pub mod Woken
+pub mod Told
 pub mod Turning
+pub mod Lowest
+pub mod Ending

@@ -1,5 +1,5 @@
 -- Candidates that are woken stay covered, and so are those that were to be looked after.
-use Rattle.std.proofs.Common.{◌≡◌, ◌≢◌, ◌<◌, ◌⊎◌, inl, inr, ℕ, Bool, true, false, cond, ◌||◌, eqb, List, [], ◌∷◌, refl, sym, ap, subst, ◌∙◌}
+use Rattle.std.proofs.Common.{◌≡◌, ◌≢◌, ◌<◌, ◌⊎◌, inl, inr, ℕ, Bool, true, false, cond, ◌||◌, eqb, List, [], ◌∷◌, length, refl, sym, ap, subst, ◌∙◌}
 use Rattle.std.specs.List.{Contains}
 use Rattle.std.proofs.lemmas.Bool.{cases_eq, eqb-true, eq-eqb}
 use Rattle.flux_values.specs.declared.answers.Mode.{Mode}
@@ -15,7 +15,8 @@ use Rattle.flux_model.specs.Legal.{IsLegal}
 use Rattle.flux_laws.specs.Going.{IsBlocked}
 use Rattle.flux_laws.specs.Hoisted.{is_writer}
 use Rattle.flux_laws.proofs.Members.{In, in-from_contains, contains-from_in}
-use Rattle.flux_laws.proofs.Standing.{next-unique}
+use Rattle.flux_laws.proofs.Standing.{next-unique, standing-next}
+use Rattle.flux_laws.proofs.NextEvents.{next-item}
 use Rattle.flux_table.specs.declared.locks.Waiter.{Waiter}
 use Rattle.flow_core.specs.Lines.{IsLineAt, StandBehind, StandInOrder}
 use Rattle.flow_waits.specs.Turns.{IsBefore, IsInLine}
@@ -23,6 +24,7 @@ use Rattle.flow_waits.specs.Staying.{IsFresh}
 use Rattle.flow_waits.specs.Waking.{has, IsMore, IsEarliest, room_at}
 use Rattle.flow_waits.specs.Covers.{Pools, IsReady, IsParked, IsInRoom, IsBehind, IsCovered, Covers, rooms_for, StayReady, MovesFirst, WakesFirst, Wakes, served_of, WakesLine}
 use Rattle.flow_waits.proofs.Blocked.{writers_block}
+use Rattle.flow_waits.proofs.Choosing.{mode_cases}
 use Rattle.flow_waits.proofs.Membership.{none_has, more_cases, more_there, more_own, less_at_there, less_at_own, less_at_kept}
 
 -- each flow in a room is at a take of its key in its mode
@@ -32,6 +34,10 @@ AreFresh setup entries pools = (key : Key) (mode : Mode) (flow : ℕ) → IsPark
 -- no flow in a room is looked at
 abbrev pub AreApart : Pools → Type 0
 AreApart pools = (key : Key) (mode : Mode) (flow : ℕ) → IsParked pools key mode flow → IsReady pools flow → ⊥
+
+-- each flow that is looked at is an item's
+abbrev pub AllExist : Setup → Pools → Type 0
+AllExist setup pools = (flow : ℕ) → IsReady pools flow → flow < length setup.items
 
 -- what covers a flow still does where no fewer flows are looked at, and it leaves its room only for that
 pub covered-more : (setup : Setup) (entries : List Entry) (old new : Pools) (from flow : ℕ) → StayReady old new
@@ -48,12 +54,6 @@ covered-more setup entries old new from flow more stays (inr (inr room)) = by (s
     by : IsParked new room.key room.mode flow ⊎ IsReady new flow → IsCovered setup entries new from flow
     by (inr ready) = inl ready
     by (inl parked) = inr (inr (record { key = room.key; mode = room.mode; parked = parked; cause = cause room.cause }))
-
-mode_cases : (a b : Mode) → (a ≡ b) ⊎ (a ≡ b → ⊥)
-mode_cases Reader Reader = inl refl
-mode_cases Reader Writer = inr (λ e. cc)
-mode_cases Writer Reader = inr (λ e. cc)
-mode_cases Writer Writer = inl refl
 
 -- ---- the first of a room
 
@@ -119,6 +119,21 @@ module _ (setup : Setup) (entries : List Entry) (old new : Pools) (key : Key) (m
           told : (first ≡ flow) ⊎ IsReady old flow → ⊥
           told (inl same) = own-left first moves same
           told (inr was) = apart k m flow (woken-back k m flow parked) was
+
+  pub woken-exist : AreFresh setup entries old → AllExist setup old → AllExist setup new
+  woken-exist fresh exist flow ready = by wakes.first
+    where
+      by : WakesFirst old.ready new.ready (rooms_for old mode) (rooms_for new mode) key from → flow < length setup.items
+      by (inl (none, same, stay)) = exist flow (rw same at ready)
+      by (inr (first, moves)) = told (more_cases old.ready new.ready first moves.added flow ready)
+        where
+          told : (first ≡ flow) ⊎ IsReady old flow → flow < length setup.items
+          told (inl same) =
+              let earliest = moves.earliest in
+              let one = fresh key mode first earliest.is in
+              let live = one.live in
+              subst (λ f. f < length setup.items) same live.item
+          told (inr was) = exist flow was
 
   -- the others of the room are behind it
   pub woken-owed : AreFresh setup entries old → (flow : ℕ) → IsParked old key mode flow → IsCovered setup entries new from flow
@@ -202,7 +217,7 @@ module _ (entries : List Entry) (key : Key) where
 
 module _ (setup : Setup) (entries : List Entry) (legal : IsLegal setup entries) (old new : Pools) (key : Key) (from : ℕ) (line : List Waiter)
     (is_line : IsLineAt entries key line) (wakes : WakesLine old new line) where
-  line-ready : StayReady old new
+  pub line-ready : StayReady old new
   line-ready flow ready = wakes.ready_ flow ∙ right (has (served_of line) flow) (has old.ready flow) ready
 
   line-rooms : (mode : Mode) → rooms_for new mode ≡ rooms_for old mode
@@ -230,6 +245,15 @@ module _ (setup : Setup) (entries : List Entry) (legal : IsLegal setup entries) 
           let f = fresh k m flow (line-back k m flow parked) in
           f.stands_nowhere key own place stands
       by (inr was) = apart k m flow (line-back k m flow parked) was
+
+  pub line-exist : AllExist setup old → AllExist setup new
+  line-exist exist flow ready = by (either (has (served_of line) flow) (has old.ready flow) (sym (wakes.ready_ flow) ∙ ready))
+    where
+      by : (has (served_of line) flow ≡ true) ⊎ IsReady old flow → flow < length setup.items
+      by (inl served) =
+          let (own, place, stands) = served-stands entries key line flow is_line.order served in
+          next-item setup entries flow (Take key own) (standing-next setup entries flow key own place legal.waits stands)
+      by (inr was) = exist flow was
 
   pub line-owed : (flow : ℕ) (mode : Mode) (place : ℕ) → StandsAt entries flow key mode place → IsCovered setup entries new from flow
   line-owed flow mode place stands =

@@ -62,6 +62,7 @@ pub record Covers (setup : Setup) (entries : List Entry) (pools : Pools) (from :
   pub fresh : (key : Key) (mode : Mode) (flow : ℕ) → IsParked pools key mode flow
       → IsFresh setup entries flow key mode
   pub apart : (key : Key) (mode : Mode) (flow : ℕ) → IsParked pools key mode flow → IsReady pools flow → ⊥
+  pub exist : (flow : ℕ) → IsReady pools flow → flow < length setup.items
 
 -- a flow is the first that can go on; it is looked at, before all others that are
 pub record IsChosen (setup : Setup) (entries : List Entry) (pools : Pools) (from flow : ℕ) : Type 0 where
