@@ -11,3 +11,4 @@ pub mod Told
 pub mod Turning
 pub mod Lowest
 pub mod Ending
+pub mod Driving

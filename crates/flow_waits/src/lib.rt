@@ -9,6 +9,6 @@ mod rooms;
 mod turns;
 
 pub use candidates::Candidates;
-pub use draining::enabled;
+pub use draining::{drain, drain_by, enabled};
 pub use laws::{blocked_stay, fresh_are_alike, writers_block};
 pub use turns::{Turn, take_turn};
