@@ -6,13 +6,13 @@ ghost use Rattle.flow_core.specs.Runs.{GoesOnLegally, GoesToEnd};
 ghost use Rattle.flow_waits.specs.Driven.{SameSetup};
 ghost use Rattle.rt_script.specs.Follow.{IsTurn, IsFollow};
 
-use flow_core::{Core, Runtime, Stopped};
+use flow_core::{Core, Stopped};
 use flow_waits::{drain_by, take_turn};
 use flux_library::Library;
 use flux_model::FlowNo;
 use flux_outside::Gate;
 use flux_values::{List, Memory};
-use std::marker::{Send, Sync};
+use std::marker::Sync;
 use std::sync::Wait;
 use std::thread::Threads;
 
@@ -23,7 +23,7 @@ pub struct Script {
 }
 
 impl Script {
-    /// `drive` without a runtime for threads.
+    /// Drives a core to its end, without a handle for threads.
     pub fn drive_alone<L: Library, G: Gate>(
         &mut self,
         core: Core<L>,
@@ -41,10 +41,9 @@ impl Script {
             Err(Memory) => Err(Stopped { core }),
         }
     }
-}
 
-impl<L: Library + Send + Sync, G: Gate + Sync> Runtime<L, G> for Script {
-    fn drive<Rt: Threads + Wait + Sync>(
+    /// Drives a core to its end. No other thread is started.
+    pub fn drive<Rt: Threads + Wait + Sync, L: Library, G: Gate>(
         &mut self,
         _rt: &Rt,
         core: Core<L>,
