@@ -1,0 +1,43 @@
+-- What comes of a core that is handed on: the same setup, and a journal that begins with the old one.
+use Rattle.std.specs.Prelude.{◌≡◌, ℕ, ◌<◌, ◌+◌, if◌then◌else◌, List, ◌++◌, length}
+use Rattle.flux_values.specs.Meanings.{LibraryMeaning}
+use Rattle.flux_model.specs.declared.journals.Entry.{Entry}
+use Rattle.flux_model.specs.declared.journals.Event.TheVariants.{Take}
+use Rattle.flux_model.specs.declared.journals.Key.{Key}
+use Rattle.flux_values.specs.declared.answers.Mode.{Mode}
+use Rattle.flux_model.specs.Setup.{Setup}
+use Rattle.flux_model.specs.Events.{IsNext}
+use Rattle.flux_model.specs.Legal.{IsLegal, IsWhole}
+use Rattle.flux_laws.specs.Going.{IsBlocked}
+use Rattle.flux_laws.specs.Growth.{has_ended, sum_below}
+use Rattle.flow_core.specs.States.{CoreState, setup_in}
+
+-- the same program, items, opening cells and library, and some entries more, or none
+pub record GoesOn {L : Type 0} (old new : CoreState L) : Type 0 where
+  pub program_ : new.program ≡ old.program
+  pub items_ : new.items ≡ old.items
+  pub opening_ : new.opening ≡ old.opening
+  pub library_ : new.library ≡ old.library
+  pub more : List Entry
+  pub added : new.entries ≡ old.entries ++ more
+
+-- and its journal is legal
+pub record GoesOnLegally {L : Type 0} (meaning : L → LibraryMeaning) (old new : CoreState L) : Type 0 where
+  pub on : GoesOn old new
+  pub legal : IsLegal (setup_in meaning new) new.entries
+
+-- and whole
+pub record GoesToEnd {L : Type 0} (meaning : L → LibraryMeaning) (old new : CoreState L) : Type 0 where
+  pub legally : GoesOnLegally meaning old new
+  pub whole : IsWhole (setup_in meaning new) new.entries
+
+-- the number of flows without `end`
+abbrev pub live_count : {L : Type 0} → CoreState L → ℕ
+live_count core =
+    sum_below (λ flow. if has_ended core.entries flow then 0 else 1) (length core.items)
+
+-- a flow is blocked at the take of a key
+pub record IsBlockedAt (setup : Setup) (entries : List Entry) (flow : ℕ) (key : Key) : Type 0 where
+  pub mode : Mode
+  pub next : IsNext setup entries flow (Take key mode)
+  pub blocked : IsBlocked setup entries flow

@@ -1,0 +1,210 @@
+//! The core, and its moves.
+
+ghost use Rattle.std.specs.Prelude.{◌≡◌, ◌<◌, ◌↔◌, length, IsTrue, true, false, IfOk, OnErr, MatchOption, option_map};
+ghost use Rattle.std.specs.Arc.{arc_value};
+ghost use Rattle.flux_model.specs.CellsAfter.{cells_after};
+ghost use Rattle.flux_laws.specs.Going.{IsBlocked, IsAtCall};
+ghost use Rattle.flux_laws.specs.Growth.{has_ended};
+ghost use Rattle.flux_cells.specs.Kept.{cells_of};
+ghost use Rattle.flow_core.specs.States.{setup_in, begun_by, opened, library_name, MayRun, IsKept};
+ghost use Rattle.flow_core.specs.Moves.{HasStepped, HasFinished, ComesWherever, job_of};
+ghost use Rattle.flow_core.specs.Runs.{live_count, IsBlockedAt};
+
+use crate::calls::{CallDone, Job};
+use crate::running::Running;
+use crate::setups::Setup;
+use flux_cells::Cells;
+use flux_library::Library;
+use flux_model::{FlowNo, Journal, Key};
+use flux_values::Memory;
+use std::alloc::Global;
+use std::marker::Model;
+
+/// What a step did.
+#[derive(Drop)]
+pub enum Step<L: Library> {
+    /// Nothing: the flow has had its `end`.
+    Ended,
+    /// Nothing: the flow's call is begun, and wants to be finished.
+    Calling,
+    /// The flow's next take is blocked; the lowest flow that blocks it is named.
+    Waits { key: Key, holder: FlowNo },
+    /// The flow's next event is a call, which is begun now.
+    Job(Job<L>),
+    /// The flow's next event was made.
+    Went,
+}
+
+/// What became of a finished call.
+#[derive(Clone, Copy, Debug, PartialEq, Eq)]
+pub enum Finish {
+    Went,
+    /// Nothing: the flow has no such begun call.
+    Late,
+}
+
+/// Flows over a setup, and the journal of what they did. What it keeps at every moment is told by `journal`.
+#[derive(Drop)]
+pub struct Core<L: Library> {
+    running: Running<L>,
+}
+
+impl<L: Library> Model for Core<L> {
+    ghost use Rattle.flow_core.specs.States.{CoreState, core_code};
+
+    ghost Value = { CoreState L };
+
+    ghost coded = { core_code L.code };
+
+    ghost use Rattle.flow_core.specs.steps.Running.{core_of, IsRunning};
+
+    ghost view = { λ c. core_of c.running };
+
+    ghost invariant = { λ c. IsRunning L.meaning c.running };
+}
+
+impl<L: Library> Core<L> {
+    /// Flows that have done nothing.
+    pub fn new(_alloc: Global, setup: Setup<L>) -> Result<Core<L>, Memory>
+        requires { MayRun (L.meaning (arc_value setup.library)) (arc_value setup.program)
+            (arc_value setup.plans) setup.items }
+        ensures { IfOk result (λ core. core ≡ opened (arc_value setup.program) setup.items setup.opening
+            (arc_value setup.library)) }
+    {
+        drop(setup);
+        Err(Memory)
+    }
+
+    /// Lets a flow do what comes next.
+    pub fn step(&mut self, flow: FlowNo) -> Result<Step<L>, Memory>
+        requires { flow.0 < length self.old.items }
+        ensures ok { IfOk result (HasStepped L.meaning self.old self.new flow) }
+        ensures each { IfOk result (ComesWherever L.meaning self.old flow) }
+        ensures err { OnErr result (self.new ≡ self.old) }
+    {
+        let _ = flow;
+        Err(Memory)
+    }
+
+    /// Takes the answer of a begun call, which may have been made anywhere.
+    pub fn finish(&mut self, done: &CallDone<L>) -> Result<Finish, Memory>
+        requires library { L.meaning done.now.library ≡ L.meaning self.old.library }
+        requires name { library_name done.now.program done.now.inputs.node
+            ≡ library_name self.old.program done.now.inputs.node }
+        ensures ok { IfOk result (HasFinished L.meaning self.old self.new done.now.flow done.now.inputs
+            done.now.answer) }
+        ensures err { OnErr result (self.new ≡ self.old) }
+    {
+        let _ = done;
+        Err(Memory)
+    }
+
+    /// The call that a flow has begun, once more.
+    pub fn recall(&self, flow: FlowNo) -> Result<Option<Job<L>>, Memory>
+        requires { flow.0 < length self.now.items }
+        ensures { IfOk result (λ job. job
+            ≡ option_map (job_of L.meaning self.now self.now flow) (begun_by self.now flow.0)) }
+    {
+        let _ = flow;
+        Err(Memory)
+    }
+}
+
+impl<L: Library> Core<L> {
+    /// The number of flows.
+    pub fn flows(&self) -> u32
+        ensures { result ≡ length self.now.items }
+    {
+        self.running.setup.items.len() as u32
+    }
+
+    /// The number of flows without `end`.
+    pub fn live(&self) -> u32
+        ensures { result ≡ live_count self.now }
+    {
+        self.running.live
+    }
+
+    pub fn is_ended(&self, flow: FlowNo) -> bool
+        requires { flow.0 < length self.now.items }
+        ensures { result ≡ has_ended self.now.entries flow.0 }
+    {
+        let _ = &self.running.live;
+        let _ = flow;
+        unreachable!()
+    }
+
+    pub fn blocked(&self, flow: FlowNo) -> bool
+        requires { flow.0 < length self.now.items }
+        ensures { IsTrue result ↔ IsBlocked (setup_in L.meaning self.now) self.now.entries flow.0 }
+    {
+        self.waits_at(flow).is_some()
+    }
+
+    /// The key of the take at which a flow is blocked.
+    pub fn waits_at(&self, flow: FlowNo) -> Option<Key>
+        requires { flow.0 < length self.now.items }
+        ensures { MatchOption result (IsBlocked (setup_in L.meaning self.now) self.now.entries flow.0 → ⊥)
+            (IsBlockedAt (setup_in L.meaning self.now) self.now.entries flow.0) }
+    {
+        let _ = &self.running.live;
+        let _ = flow;
+        unreachable!()
+    }
+
+    /// Whether a flow's next event is a call, begun or not.
+    pub fn at_call(&self, flow: FlowNo) -> bool
+        requires { flow.0 < length self.now.items }
+        ensures { IsTrue result ↔ IsAtCall (setup_in L.meaning self.now) self.now.entries flow.0 }
+    {
+        let _ = &self.running.live;
+        let _ = flow;
+        unreachable!()
+    }
+}
+
+impl<L: Library> Core<L> {
+    /// Sets a flag, on which no other call depends.
+    pub fn halt(&mut self)
+        ensures { self.new ≡ record self.old { halted = true } }
+    {
+        self.running.halted = true;
+    }
+
+    pub fn resume(&mut self)
+        ensures { self.new ≡ record self.old { halted = false } }
+    {
+        self.running.halted = false;
+    }
+
+    pub fn is_halted(&self) -> bool
+        ensures { result ≡ self.now.halted }
+    {
+        self.running.halted
+    }
+}
+
+impl<L: Library> Core<L> {
+    /// What the flows did, and what a core keeps at every moment.
+    pub fn journal(&self) -> &Journal
+        ensures same { result.now.entries ≡ self.now.entries }
+        ensures kept { IsKept L.meaning self.now }
+    {
+        &self.running.journal
+    }
+
+    pub fn cells(&self) -> &Cells
+        ensures { cells_of result.now ≡ cells_after (setup_in L.meaning self.now) self.now.entries }
+    {
+        &self.running.cells
+    }
+
+    pub fn into_parts(self) -> (Journal, Cells)
+        ensures journal { result.0.entries ≡ self.entries }
+        ensures cells { cells_of result.1 ≡ cells_after (setup_in L.meaning self) self.entries }
+        ensures kept { IsKept L.meaning self }
+    {
+        let Running { journal, cells, .. } = self.running;
+        (journal, cells)
+    }
+}

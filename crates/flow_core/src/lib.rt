@@ -1,0 +1,18 @@
+//! The core: what runs flows over one setup, a move at a time, and keeps their journal legal.
+//!
+//! `step` lets a flow make its next event, wait, or begin a call; `finish` takes a call's answer, which may have been
+//! made anywhere. Each call is one move or none, and a refused call changes nothing. `specs/States` says what a core
+//! is seen as and what it keeps at every moment, and `specs/Moves` what each call does.
+#![tactic(auto)]
+
+mod calls;
+mod cores;
+mod places;
+mod running;
+mod runtimes;
+mod setups;
+
+pub use calls::{CallDone, Inputs, Job};
+pub use cores::{Core, Finish, Step};
+pub use runtimes::{Runtime, Stopped};
+pub use setups::Setup;
