@@ -1,6 +1,8 @@
 //! What the words ask for: the documents first, and then the command's files.
 
 ghost use Rattle.std.specs.Prelude.{◌≡◌, ◌≤◌, [], IfOk, IfErr, option_copied};
+ghost use Rattle.std.specs.Arc.{arc_value};
+ghost use Rattle.nodes_all.specs.Alls.{all_meaning};
 ghost use Rattle.flux_words.specs.Asking.{asked};
 ghost use Rattle.flux_driver.specs.BuiltIn.{built_in};
 ghost use Rattle.flux_driver.specs.Commands.{folder_of};
@@ -12,8 +14,9 @@ ghost use Rattle.flux_driver.specs.steps.Preparing.{AsksAll, IsRefusedAll, Count
 use crate::commands::prepare;
 use crate::documents::load_docs;
 use crate::refusals::Refusal;
+use flux_library::Docs;
 use flux_outside::{Folder, Gate, Store};
-use flux_values::Bytes;
+use flux_values::{Bytes, Memory};
 use flux_words::{Asked, read_words};
 use nodes_all::All;
 use std::alloc::Global;
@@ -27,6 +30,13 @@ fn dir_of<'a>(wanted: &Asked<'a>) -> Option<&'a [u8]>
         Asked::Run { docs, .. } => *docs,
         _ => None,
     }
+}
+
+/// The library of these documents.
+fn share(alloc: Global, docs: Docs) -> Result<Arc<All>, Memory>
+    ensures { IfOk result (λ library. all_meaning (arc_value library).docs ≡ built_in docs) }
+{
+    Ok(Arc::new(alloc, All { docs })?)
 }
 
 /// What a command prints: all of it is made before any of it is written.
@@ -56,7 +66,7 @@ fn prepare_asked<'a, S: Store, F: Folder, G: Gate>(
         (prepared_status result) }
 {
     let docs = load_docs(alloc, folder, dir_of(&wanted))?;
-    let library = Arc::new(alloc, All { docs })?;
+    let library = share(alloc, docs)?;
     prepare(alloc, library, store, gate, wanted)
 }
 
