@@ -1,0 +1,6 @@
+pub mod Strips
+pub mod Laid
+pub mod Gathered
+pub mod Numbers
+pub mod OneCommand
+pub mod RunWords

@@ -1,0 +1,5 @@
+use Rattle.flux_words.proofs.Laid.{no_begin}
+use Rattle.flux_words.proofs.parts.take_part.Goals as goal
+
+pub returns-in-None-2-clause-none : goal.returns-in-None-2-clause-none
+returns-in-None-2-clause-none c = no_begin c.args.words.now c.as_bytes-word.result.now c.first-item.result c.in-len1-up.len_at_least c.first-item.is c.as_bytes-word.ensures c.in-None.ensures.none (λ is. let e = c.if-is_positional.ensures.1 is in absurd (cc))

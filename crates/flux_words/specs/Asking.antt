@@ -1,0 +1,17 @@
+-- The command that was read.
+use Rattle.std.specs.Prelude.{option_copied}
+use Rattle.flux_words.specs.declared.commands.Asked.{Asked}
+use Rattle.flux_words.specs.declared.commands.Asked.TheVariants as reads
+use Rattle.flux_words.specs.Commands.{Command, check, plan, format, run, help}
+
+-- the command that was asked for
+abbrev pub asked : Asked → Command
+asked (reads.Check file) = check file.now
+asked (reads.Plan file) = plan file.now
+asked (reads.Format file) = format file.now
+asked (reads.Run file items runtime docs journal) = run file.now items.now (record {
+  runtime = runtime;
+  docs = option_copied docs;
+  journal = journal;
+})
+asked reads.Help = help

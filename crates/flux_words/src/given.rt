@@ -1,0 +1,95 @@
+//! All that is given behind the command's word.
+
+ghost use Rattle.std.specs.Prelude.{◌≡◌, ◌∷◌, ◌++◌, [], List, IfSome, IfNone, length};
+ghost use Rattle.flux_words.specs.Parts.{Part as AnyPart, BeginWith};
+ghost use Rattle.flux_words.specs.steps.Found.{part_of};
+ghost use Rattle.flux_words.specs.steps.Given.{files_of, listed, HoldsAll, Adds, IsFull, IsGiven, IsTooMuch};
+
+use crate::names::OptionName;
+use crate::parts::{Part, take_part};
+use flux_values::Bytes;
+
+/// The positional words, of which no command takes more than two.
+#[derive(Clone, Copy, Debug)]
+pub enum Files<'a> {
+    None,
+    One(&'a [u8]),
+    Two(&'a [u8], &'a [u8]),
+}
+
+/// The positional words, and the value of each option.
+#[derive(Debug, Drop)]
+pub struct Given<'a> {
+    pub files: Files<'a>,
+    pub runtime: Option<&'a [u8]>,
+    pub docs: Option<&'a [u8]>,
+    pub journal: Option<&'a [u8]>,
+}
+
+impl<'a> Files<'a> {
+    /// With one word more, where there is room.
+    fn with(self, word: &'a [u8]) -> Option<Files<'a>>
+        ensures added { IfSome result (λ files. files_of files ≡ files_of self.entry ++ word.now ∷ []) }
+        ensures full { IfNone result (length (files_of self.entry) ≡ 2) }
+    {
+        match self {
+            Files::None => Some(Files::One(word)),
+            Files::One(first) => Some(Files::Two(first, word)),
+            Files::Two(_, _) => None,
+        }
+    }
+}
+
+/// The value of an option that wasn't given before.
+fn once<'a>(before: Option<&'a [u8]>, value: &'a [u8]) -> Option<Option<&'a [u8]>>
+    ensures added { IfSome result (λ now. listed now ≡ listed before.entry ++ value.now ∷ []) }
+    ensures full { IfNone result (length (listed before.entry) ≡ 1) }
+{
+    match before {
+        None => Some(Some(value)),
+        Some(_) => None,
+    }
+}
+
+impl<'a> Given<'a> {
+    fn none() -> Given<'a>
+        ensures { HoldsAll result [] }
+    {
+        Given {
+            files: Files::None,
+            runtime: None,
+            docs: None,
+            journal: None,
+        }
+    }
+
+    /// Adds a part; None where no command has it once more.
+    fn add(&mut self, part: Part<'a>) -> Option<()>
+        ensures added { IfSome result (λ _. Adds self.old self.new (part_of part.entry)) }
+        ensures full { IfNone result (IsFull self.old (part_of part.entry)) }
+    {
+        match part {
+            Part::Word(word) => self.files = self.files.with(word)?,
+            Part::Option(OptionName::Runtime, value) => self.runtime = once(self.runtime, value)?,
+            Part::Option(OptionName::Docs, value) => self.docs = once(self.docs, value)?,
+            Part::Option(OptionName::Journal, value) => self.journal = once(self.journal, value)?,
+        }
+        Some(())
+    }
+}
+
+/// All that is given by words.
+pub fn gather<'a>(words: &'a [Bytes]) -> Option<Given<'a>>
+    ensures found { IfSome result (IsGiven words.now) }
+    ensures none { IfNone result ((parts : List AnyPart) → BeginWith parts words.now []
+        → IsTooMuch parts) }
+{
+    let mut given = Given::none();
+    let mut rest = words;
+    'parts: while !rest.is_empty() {
+        let (part, behind) = take_part(rest)?;
+        given.add(part)?;
+        rest = behind;
+    }
+    Some(given)
+}

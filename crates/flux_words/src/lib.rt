@@ -1,0 +1,16 @@
+//! The words of the command line: a command, its files and its options.
+//!
+//! `read_words` gives the one command that the words spell, and None exactly where they spell none; want of
+//! memory alone is free. Which words spell which command is one relation, `Spells`.
+#![tactic(auto)]
+
+mod commands;
+mod given;
+mod names;
+mod parts;
+#[cfg(test)]
+mod tests;
+mod values;
+
+pub use commands::{Asked, needs_threads, read_words};
+pub use values::{JournalFormat, NUMBER_LIMIT, Runtime};

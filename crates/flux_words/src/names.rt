@@ -1,0 +1,39 @@
+//! The names of options.
+
+ghost use Rattle.std.specs.Prelude.{◌≡◌, ◌++◌, ℕ, List, IfSome, IfNone};
+ghost use Rattle.flux_words.specs.declared.names.OptionName.{OptionName};
+ghost use Rattle.flux_words.specs.Parts.{spelled};
+
+/// An option of the command line.
+#[derive(Clone, Copy, Debug, PartialEq, Eq)]
+pub enum OptionName {
+    Runtime,
+    Docs,
+    Journal,
+}
+
+/// What stands behind a mark at the front.
+pub fn strip<'a>(mark: &[u8], word: &'a [u8]) -> Option<&'a [u8]>
+    ensures found { IfSome result (λ rest. word.now ≡ mark.now ++ rest.now) }
+    ensures none { IfNone result ((rest : List ℕ) → word.now ≡ mark.now ++ rest → ⊥) }
+{
+    word.strip_prefix(mark)
+}
+
+/// The option that a word begins with, and what stands behind its name.
+pub fn split_name(word: &[u8]) -> Option<(OptionName, &[u8])>
+    ensures found { IfSome result (λ split. word.now ≡ spelled split.0 ++ split.1.now) }
+    ensures none { IfNone result ((name : OptionName) (rest : List ℕ)
+        → word.now ≡ spelled name ++ rest → ⊥) }
+{
+    if let Some(rest) = strip(b"--runtime", word) {
+        return Some((OptionName::Runtime, rest));
+    }
+    if let Some(rest) = strip(b"--docs", word) {
+        return Some((OptionName::Docs, rest));
+    }
+    if let Some(rest) = strip(b"--journal", word) {
+        return Some((OptionName::Journal, rest));
+    }
+    None
+}

@@ -1,0 +1,88 @@
+//! The values of options.
+
+ghost use Rattle.std.specs.Prelude.{IfOk};
+ghost use Rattle.flux_words.specs.steps.Given.{listed};
+ghost use Rattle.flux_words.specs.steps.Found.{IsNumberRead, AreNumbersRead, IsRuntimeRead, IsFormatRead};
+
+use crate::names::strip;
+use flux_model::FlowNo;
+use flux_values::{List, Memory, read_decimal};
+use std::alloc::Global;
+
+/// The greatest number of a flow that a script names.
+pub const NUMBER_LIMIT: u32 = 4_095;
+
+/// By which runtime items are run. `event=H`, `perflow` and `pool=N` come with the runtimes that start
+/// threads; until then no words spell them.
+#[derive(Debug, Drop)]
+pub enum Runtime {
+    /// One event of each flow in turn.
+    Event,
+    /// One event of each flow that is named, in order, as often as it is named.
+    Script(List<FlowNo>),
+}
+
+/// The format of a printed journal.
+#[derive(Clone, Copy, Debug, PartialEq, Eq)]
+pub enum JournalFormat {
+    One,
+    Two,
+}
+
+fn read_number(digits: &[u8]) -> Option<FlowNo>
+    ensures { IsNumberRead digits.now result }
+{
+    match read_decimal(digits, NUMBER_LIMIT as u64) {
+        Some((number, length)) if length == digits.len() => Some(FlowNo(number as u32)),
+        _ => None,
+    }
+}
+
+fn read_numbers(alloc: Global, list: &[u8]) -> Result<Option<List<FlowNo>>, Memory>
+    ensures { IfOk result (AreNumbersRead list.now) }
+{
+    let mut numbers = List::new(alloc);
+    if list.is_empty() {
+        return Ok(Some(numbers));
+    }
+    'numbers: for digits in list.split(|byte| *byte == b',') {
+        match read_number(digits) {
+            Some(number) => numbers.add(number)?,
+            None => return Ok(None),
+        }
+    }
+    Ok(Some(numbers))
+}
+
+/// The runtime that is given, or `event`.
+pub fn read_runtime(alloc: Global, given: Option<&[u8]>) -> Result<Option<Runtime>, Memory>
+    ensures { IfOk result (IsRuntimeRead (listed given.entry)) }
+{
+    let Some(value) = given else {
+        return Ok(Some(Runtime::Event));
+    };
+    if value == b"event".as_slice() {
+        return Ok(Some(Runtime::Event));
+    }
+    let Some(list) = strip(b"script=", value) else {
+        return Ok(None);
+    };
+    match read_numbers(alloc, list)? {
+        Some(numbers) => Ok(Some(Runtime::Script(numbers))),
+        None => Ok(None),
+    }
+}
+
+/// The format that is given, or 1.
+pub fn read_format(given: Option<&[u8]>) -> Option<JournalFormat>
+    ensures { IsFormatRead (listed given.entry) result }
+{
+    let Some(value) = given else {
+        return Some(JournalFormat::One);
+    };
+    match value {
+        b"1" => Some(JournalFormat::One),
+        b"2" => Some(JournalFormat::Two),
+        _ => None,
+    }
+}
