@@ -9,7 +9,8 @@ use Rattle.flux_driver.specs.declared.refusals.Refusal.TheVariants as refusals
 use Rattle.flux_driver.specs.Worlds.{Told, Stream, Wrote, WroteOrBroke}
 use Rattle.flux_driver.specs.Causes.{write_line}
 use Rattle.flux_driver.specs.Answers.{Libraries, Decided, Happened, IsAnswer, OrMemory}
-use Rattle.flux_driver.specs.Top.{IsStopped, AsksFor, HasAsked, HasAnswered, RoseForReading, Decides, IsComplete, HasDone}
+use Rattle.flux_driver.specs.Documents.{WithDocs}
+use Rattle.flux_driver.specs.Top.{AreFiles, IsStopped, AsksFor, HasAsked, HasAnswered, RoseForReading, Decides, IsComplete, HasDone}
 use Rattle.flux_driver.specs.steps.Refusals.{status_of, line_of}
 use Rattle.flux_driver.specs.steps.Preparing.{AsksAll, IsRefusedAll, AreSteady, CountsBothRefusal, AnswersDue, AnswersWords, PrintsWords}
 use Rattle.flux_driver.specs.steps.Telling.{IsTold, IsPut}
@@ -27,11 +28,11 @@ not_write refusals.Memory e = absurd cc
 
 -- the counts rose exactly where reading failed
 steady_counts : (status : Status) (s t f g : ℕ) → AreSteady s t f g → (status ≡ statuses.Read → ⊥) → RoseForReading status s t f g
-steady_counts status s t f g same no = record { failed = λ h. absurd (no h); steady = λ other. (same.store_, same.folder_) }
+steady_counts status s t f g same never = record { failed = λ h. absurd (never h); steady = λ other. (same.store_, same.folder_) }
 
 not_read : (status own : Status) → (own ≡ statuses.Read → ⊥) → (status ≡ own) ⊎ (status ≡ statuses.Memory) → status ≡ statuses.Read → ⊥
-not_read status own no (inl e) h = no (sym e ∙ h)
-not_read status own no (inr e) h = let bad = sym e ∙ h in absurd cc
+not_read status own never (inl e) h = never (sym e ∙ h)
+not_read status own never (inr e) h = let bad = sym e ∙ h in absurd cc
 
 counted : (refusal : Refusal) (status : Status) (s t f g : ℕ) → CountsBothRefusal refusal s t f g → (refusal ≡ refusals.Read → status ≡ statuses.Read) → (status ≡ status_of refusal) ⊎ (status ≡ statuses.Memory) → RoseForReading status s t f g
 counted refusals.Read status s t f g rose read own = record { failed = λ e. rose; steady = λ other. absurd (other (read refl)) }
@@ -95,14 +96,15 @@ asked_then library words told status final folder folder_after store store_after
     why (inl none) = inl none
     why (inr e) = inr (short e)
 
+    two : (command : Command) → WithDocs library command told (λ meaning. AreFiles meaning command told.files asked.names) ⊎ ((asked.names ≡ []) × IsStopped status)
+        → WithDocs library command told (λ meaning. AreFiles meaning command told.files asked.names) ⊎ ((asked.names ≡ []) × IsStopped final)
+    two command (inl with_) = inl with_
+    two command (inr (none, stopped)) = inr (none, stops stopped)
+
     one : ((asked.dirs ≡ []) × (asked.names ≡ []) × (SpellsNone words ⊎ (status ≡ statuses.Memory))) ⊎ ((command : Command) × Spells words command × AsksFor library command told status asked.dirs asked.names)
         → ((asked.dirs ≡ []) × (asked.names ≡ []) × (SpellsNone words ⊎ (final ≡ statuses.Memory))) ⊎ ((command : Command) × Spells words command × AsksFor library command told final asked.dirs asked.names)
     one (inl (dirs, names, w)) = inl (dirs, names, why w)
-    one (inr (command, spelled, asks)) = inr (command, spelled, record { folder = asks.folder; files = two asks.files })
-      where
-        two : _ ⊎ ((asked.names ≡ []) × IsStopped status) → _ ⊎ ((asked.names ≡ []) × IsStopped final)
-        two (inl with_) = inl with_
-        two (inr (none, stopped)) = inr (none, stops stopped)
+    one (inr (command, spelled, asks)) = inr (command, spelled, record { folder = asks.folder; files = two command asks.files })
 
 -- ---- the whole
 

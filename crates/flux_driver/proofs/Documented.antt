@@ -6,7 +6,11 @@ use Rattle.flux_values.specs.Meanings.{LibraryMeaning}
 use Rattle.flux_library.specs.Documents.{DocMap}
 use Rattle.flux_library.specs.DocumentLaws.{same_docs}
 use Rattle.flux_outside.specs.Causes.{Rose}
-use Rattle.flux_docs.proofs.Once.{one_docs, not_lost}
+use Rattle.std.specs.Cmp.Lexicographic.{nat_list_cmp_total}
+use Rattle.std.specs.FinMap.{same_map, slice_cmp-IsAntisymmetric, nat_cmp-IsAntisymmetric}
+use Rattle.flux_outside.specs.declared.memory.FileBytes.{FileBytes}
+use Rattle.flux_docs.specs.declared.faults.DocsFault.TheVariants as docs_faults
+use Rattle.flux_docs.specs.Documents.{AreRead}
 use Rattle.flux_words.specs.Commands.{Command, check, plan, format, run, help}
 use Rattle.flux_driver.specs.declared.refusals.Refusal.{Refusal}
 use Rattle.flux_driver.specs.declared.refusals.Refusal.TheVariants as refusals
@@ -26,15 +30,23 @@ use Rattle.flux_driver.proofs.Once.{View, same_view}
 
 -- ---- the documents are one, or lost
 
+one_docs : (found : Option (List FileBytes)) (a b : DocMap) → AreRead found (Ok a) → AreRead found (Ok b) → a ≡ b
+one_docs None a b x y = absurd x
+one_docs (Some files) a b x y = same_docs a b (same_map nat_list_cmp_total (slice_cmp-IsAntisymmetric nat_cmp-IsAntisymmetric) a.named b.named (λ name. x.1 name ∙ sym (y.1 name)))
+
+not_lost : (found : Option (List FileBytes)) (docs : DocMap) → AreRead found (Ok docs) → AreRead found (Err docs_faults.Missing) → ⊥
+not_lost None docs x lost = x
+not_lost (Some files) docs x lost = lost x.0
+
 docs_once : (folders : Folders) (dir : Option (List ℕ)) (a b : DocMap) → TellsDocs folders dir → AreDocs folders dir a → AreDocs folders dir b → a ≡ b
 docs_once folders None a b tells x y = same_docs a b (x ∙ sym y)
-docs_once None (Some dir) a b tells x y = absurd tells
-docs_once (Some held) (Some dir) a b tells x y = one_docs held dir a b x y
+docs_once None (Some dir) a b tells x y = absurd cc
+docs_once (Some held) (Some dir) a b tells x y = one_docs (held dir) a b x y
 
 not_both : (folders : Folders) (dir : Option (List ℕ)) (docs : DocMap) (name : List ℕ) → TellsDocs folders dir → AreDocs folders dir docs → IsDirLost folders dir name → ⊥
 not_both folders None docs name tells are lost = lost
-not_both None (Some dir) docs name tells are lost = tells
-not_both (Some held) (Some dir) docs name tells are lost = not_lost held dir docs are lost.1
+not_both None (Some dir) docs name tells are lost = absurd cc
+not_both (Some held) (Some dir) docs name tells are lost = not_lost (held dir) docs are lost.1
 
 -- ---- what was asked for
 
@@ -93,7 +105,7 @@ module _ (library : Libraries) (command : Command) (told : Told) where
   reads_program help unread = absurd unread
 
   none_unread : (dir : Option (List ℕ)) (refusal : Refusal) → (IsStopped (status_of refusal) → ⊥) → AreUnread told.folders dir refusal → ⊥
-  none_unread dir refusal no unread = no (unread_stops told.folders dir refusal unread)
+  none_unread dir refusal never unread = never (unread_stops told.folders dir refusal unread)
 
   pub refused_unread : (refusal : Refusal) → AreUnread told.folders (folder_of command) refusal → IsRefusedAll library command told refusal
   refused_unread (refusals.Missing name) unread = inl (inl (record { name = name.now; lost = lost_missing (folder_of command) name unread; said = refl }), refl)
@@ -165,7 +177,7 @@ module _ (library : Libraries) (command : Command) (files : Files) (folders : Fo
   due_with docs status text line are view firm tells due u m d = inl (one (seen due u m d))
     where
       same : (held : Files) → files ≡ held → (due : Status) (other : DocMap) → docs ≡ other → View (library other) command files due u m → status ≡ due
-      same None is due other e theirs = let told_ = tells.files in absurd (rw is at told_)
+      same None is due other e theirs = let told_ = rw is at tells.files in absurd cc
       same (Some held) is due other e theirs =
           same_view (library docs) held command status due text line u m (rw is at firm) (rw is at view)
           (rw is at (subst (λ (x : DocMap). View (library x) command files due u m) (sym e) theirs))

@@ -3,6 +3,8 @@ pub mod Writes
 pub mod Named
 pub mod Once
 pub mod Fitting
+pub mod RuleLists
+pub mod Runs
 pub mod Prepared
 pub mod Documented
 pub mod Answered

@@ -1,5 +1,5 @@
 -- What the steps of a command give, behind its documents, is what it and its files decide.
-use Rattle.std.proofs.Common.{◌≡◌, ◌<◌, ℕ, zero, suc, inl, inr, List, [], ◌∷◌, ◌++◌, length, Some, None, Result, Ok, Err, IfSome, IfOk, IfErr, refl, sym, ap, subst, ◌∙◌, append_assoc, arith}
+use Rattle.std.proofs.Common.{◌≡◌, ◌<◌, ℕ, zero, suc, inl, inr, List, [], ◌∷◌, ◌++◌, length, Option, Some, None, Result, Ok, Err, IfSome, IfOk, IfErr, refl, sym, ap, subst, ◌∙◌, append_assoc, arith}
 use Rattle.std.specs.List.{AllByRecursion, slice_get}
 use Rattle.std.specs.Result.{IsErrAnd}
 use Rattle.flux_values.specs.Identifiers.{IsIdentifier}
@@ -31,7 +31,7 @@ use Rattle.flux_items.specs.declared.rules.ItemRules.{ItemRules}
 use Rattle.flux_items.specs.declared.rules.ItemFault.{ItemFault}
 use Rattle.flux_items.specs.Items.{AreItemsOf}
 use Rattle.flux_items.specs.Faults.{IsFaultOf}
-use Rattle.flux_words.specs.Commands.{Command, check, plan, format}
+use Rattle.flux_words.specs.Commands.{Command, check, plan, format, run}
 use Rattle.flux_driver.specs.declared.files.TheConstants.{PROGRAM_FILE_LIMIT, ITEMS_FILE_LIMIT}
 use Rattle.flux_driver.specs.declared.refusals.Refusal.{Refusal}
 use Rattle.flux_driver.specs.declared.refusals.Refusal.TheVariants as refusals
@@ -44,7 +44,7 @@ use Rattle.flux_driver.specs.Headline.{IsTrueRun, printed_in}
 use Rattle.flux_driver.specs.Printed.{IsPrinted}
 use Rattle.flux_driver.specs.Causes.{IsStaticOf}
 use Rattle.flux_driver.specs.steps.Running.{HasSources, IsWritten, AreRefused}
-use Rattle.flux_driver.specs.steps.Refusals.{status_of, IsUnread, CountsRefusal, SaysOrMemory, IsFaultLine, IsTextRefused, IsCheckRefused, IsRefused}
+use Rattle.flux_driver.specs.steps.Refusals.{status_of, line_of, IsJudged, IsUnread, CountsRefusal, SaysOrMemory, IsFaultLine, IsTextRefused, IsCheckRefused, IsRefused}
 use Rattle.flux_driver.specs.steps.Preparing.{run_of, AsksFiles, prepared_status, IsFirm}
 use Rattle.flux_driver.proofs.Named.{sources_apart}
 use Rattle.flux_driver.proofs.Once.{Held, text_is, decls_is}
@@ -115,6 +115,29 @@ module _ (meaning : LibraryMeaning) (told : Files) where
 
   pub run_refused : (file items text : List ℕ) (wanted : Wanted) (refusal : Refusal) → Gives told file PROGRAM_FILE_LIMIT (Found text) → IsCheckRefused meaning text refusal → IsRefused meaning (run_of file items wanted) told refusal
   run_refused file items text wanted refusal gives says = says_refused (run_of file items wanted) file text (IsTextFault meaning text) refl gives (λ fault stands. stands) refusal says
+
+  -- ---- whichever documents `run` has
+
+  module _ (file items : List ℕ) (wanted : Wanted) (docs : Option (List ℕ)) where
+    abbrev any : Command
+    any = run file items (record { runtime = wanted.runtime; docs = docs; journal = wanted.journal })
+
+    judged_any : (refusal : Refusal) → IsJudged meaning (run_of file items wanted) told (status_of refusal) (line_of refusal) → IsJudged meaning any told (status_of refusal) (line_of refusal)
+    judged_any (refusals.Static line) s = record { file = s.file; reads = s.reads; text = s.text; gives = s.gives; fault = s.fault; stands = s.stands; said = s.said }
+    judged_any (refusals.Items fault) i = i
+    judged_any (refusals.Missing name) m = record { name = m.name; lost = m.lost; said = m.said }
+    judged_any refusals.Usage j = absurd j
+    judged_any refusals.Read j = absurd j
+    judged_any refusals.Memory j = absurd j
+
+    one_any : (refusal : Refusal) → IsRefused meaning (run_of file items wanted) told refusal → IsRefused meaning any told refusal
+    one_any refusal (inl judged) = inl (judged_any refusal judged)
+    one_any refusal (inr (inl fails)) = inr (inl (record { file = fails.file; reads = fails.reads; is = fails.is }))
+    one_any refusal (inr (inr short)) = inr (inr short)
+
+    pub refused_any : (result : Result (List ℕ) Refusal) → IfErr result (IsRefused meaning (run_of file items wanted) told) → IfErr result (IsRefused meaning any told)
+    refused_any (Ok text) refused = tt
+    refused_any (Err refusal) refused = one_any refusal refused
 
 -- ---- statuses that rest on no items
 
@@ -248,13 +271,13 @@ module _ (meaning : LibraryMeaning) (text : List ℕ) (program : Program) (sigs 
       abbrev has_items : HasItems meaning told file items
       has_items = record { decls = decls; program_ = record { has = record { text = text; gives = gives; declared = c.declared }; sound = c.checked.sound }; text = items_text; gives = more }
 
-      pub is_printed : (printed : List ℕ) → IsWritten meaning program rules items_text wanted.journal printed → IsPrinted meaning (run_of file items wanted) told printed
+      pub is_printed : (printed : List ℕ) → IsWritten meaning program rules items_text wanted printed → IsPrinted meaning (run_of file items wanted) told printed
       is_printed printed w = let written = w.journal in record {
         has = has_items;
         its = w.items;
         are_items = subst (λ (r : ItemRules). AreItemsOf r w.items items_text) own_rules w.are;
         journal = written.journal;
-        true_run = subst (λ (p : Program). let journal = written.journal in IsTrueRun p w.items meaning journal.entries) c.checked.is written.true_run;
+        true_run = subst (λ (p : Program). let journal = written.journal in IsTrueRun p w.items meaning wanted.runtime journal.entries) c.checked.is written.true_run;
         printed = written.is ∙ ap (λ (p : Program). printed_in wanted.journal p (length w.items) written.journal) c.checked.is;
       }
 

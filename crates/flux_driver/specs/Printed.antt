@@ -39,5 +39,5 @@ IsPrinted meaning (plan file) told text = IsPlanText meaning told file text
 IsPrinted meaning (format file) told text =
     (decls : List Decl) × HasDecls told file decls × (text ≡ formatted decls)
 IsPrinted meaning (run file items manner) told text =
-    IsJournalText meaning told file items manner text
+    IsJournalText meaning told file items manner.runtime manner.journal text
 IsPrinted meaning help told text = text ≡ help_text

@@ -2,7 +2,6 @@
 
 ghost use Rattle.std.specs.Prelude.{◌≡◌, ◌≤◌, [], IfOk, IfErr, option_copied};
 ghost use Rattle.std.specs.Arc.{arc_value};
-ghost use Rattle.nodes_all.specs.Alls.{all_meaning};
 ghost use Rattle.flux_words.specs.Asking.{asked};
 ghost use Rattle.flux_driver.specs.BuiltIn.{built_in};
 ghost use Rattle.flux_driver.specs.Commands.{folder_of};
@@ -34,7 +33,7 @@ fn dir_of<'a>(wanted: &Asked<'a>) -> Option<&'a [u8]>
 
 /// The library of these documents.
 fn share(alloc: Global, docs: Docs) -> Result<Arc<All>, Memory>
-    ensures { IfOk result (λ library. all_meaning (arc_value library).docs ≡ built_in docs) }
+    ensures { IfOk result (λ library. let all = arc_value library in all.docs ≡ docs) }
 {
     Ok(Arc::new(alloc, All { docs })?)
 }

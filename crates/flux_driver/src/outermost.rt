@@ -58,8 +58,7 @@ pub fn top_alone<S: Store, F: Folder, O: Sink, E: Sink, G: Gate>(
           err = record { written = E.written world.new.err; faults = E.faults world.new.err };
         }) }
 {
-    let prepared = prepare_words(alloc, &mut world.store, &mut world.folder, gate, words);
-    match prepared {
+    match prepare_words(alloc, &mut world.store, &mut world.folder, gate, words) {
         Ok(text) => print(&mut world.out, &mut world.err, text.as_bytes()),
         Err(refusal) => refuse(alloc, &mut world.err, refusal),
     }

@@ -1,11 +1,9 @@
 //! The sources of a checked program, as the reader of items wants them.
 
-ghost use Rattle.std.specs.Prelude.{◌≡◌, IfOk, Some, slice_get};
-ghost use Rattle.flux_values.specs.declared.values.Kind.{Kind};
-ghost use Rattle.flux_model.specs.Kinds.{kinds_at, kinds_of, sig_at};
-ghost use Rattle.flux_model.specs.Texts.{name_in, source_name};
+ghost use Rattle.std.specs.Prelude.{◌≡◌, IfOk, Some};
+ghost use Rattle.flux_model.specs.Kinds.{kinds_at, kinds_of};
+ghost use Rattle.flux_model.specs.Texts.{source_name};
 ghost use Rattle.flux_hoist.specs.Sets.{held_by};
-ghost use Rattle.flux_items.specs.Rules.{AreRules};
 ghost use Rattle.flux_driver.specs.Items.{rules_of};
 ghost use Rattle.flux_driver.specs.steps.Running.{HasSources, outs_at};
 
@@ -59,9 +57,8 @@ fn copy_sizes(alloc: Global, sizes: &[u32]) -> Result<List<u32>, Memory>
 /// The sources' names, kinds and sizes.
 pub fn rules_for(alloc: Global, checked: &Checked) -> Result<ItemRules, Memory>
     requires { HasSources checked.now.program (held_by checked.now.sets.nodes) checked.now.sizes }
-    ensures is { IfOk result (λ rules. rules ≡ rules_of checked.now.program
+    ensures { IfOk result (λ rules. rules ≡ rules_of checked.now.program
         (kinds_at checked.now.sigs.nodes) (held_by checked.now.sets.nodes)) }
-    ensures are { IfOk result AreRules }
 {
     let mut names = List::new(alloc);
     let mut kinds = List::new(alloc);

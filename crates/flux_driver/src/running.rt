@@ -1,6 +1,6 @@
 //! The run of an items text, from a checked program to the printed journal.
 
-ghost use Rattle.std.specs.Prelude.{◌≡◌, ◌≤◌, List, IfOk, IfErr, length};
+ghost use Rattle.std.specs.Prelude.{◌≡◌, [], List, IfOk, IfErr};
 ghost use Rattle.std.specs.Arc.{arc_value};
 ghost use Rattle.flux_model.specs.declared.journals.Item.{Item};
 ghost use Rattle.flux_model.specs.Kinds.{kinds_at};
@@ -8,16 +8,18 @@ ghost use Rattle.flux_model.specs.Soundness.{IsSound};
 ghost use Rattle.flux_plan.specs.Runs.{ArePlansOf};
 ghost use Rattle.flux_hoist.specs.Sets.{held_by};
 ghost use Rattle.flux_items.specs.declared.rules.ItemFault.{ItemFault};
-ghost use Rattle.flux_items.specs.declared.rules.TheConstants.{ITEM_LIMIT};
 ghost use Rattle.flux_items.specs.Items.{AreItemsOf};
 ghost use Rattle.flux_items.specs.Faults.{IsFaultOf};
+ghost use Rattle.flow_core.specs.States.{setup_in, opened};
 ghost use Rattle.flux_driver.specs.declared.refusals.Refusal.TheVariants as refusals;
-ghost use Rattle.flux_driver.specs.Headline.{IsTrueRun, printed_in};
+ghost use Rattle.flux_driver.specs.Headline.{printed_in};
 ghost use Rattle.flux_driver.specs.Items.{rules_of};
-ghost use Rattle.flux_driver.specs.steps.Running.{HasSources, CanRun, IsJournalOf, IsWritten, AreRefused};
+ghost use Rattle.flux_driver.specs.steps.Running.{HasSources, CanRun, IsDriven, IsJournalOf, IsWritten, AreRefused};
 
 use crate::refusals::Refusal;
 use crate::rules::rules_for;
+use flow_core::{Core, Setup};
+use flux_cells::Cells;
 use flux_compile::compile;
 use flux_hoist::Checked;
 use flux_items::read_items;
@@ -28,6 +30,8 @@ use flux_outside::Gate;
 use flux_plan::VerifiedPlan;
 use flux_values::{Bytes, List, Memory};
 use flux_words::{JournalFormat, Runtime};
+use rt_event::EventLoop;
+use rt_script::Script;
 use std::alloc::Global;
 use std::sync::Arc;
 
@@ -38,23 +42,46 @@ pub struct Wanted {
     pub journal: JournalFormat,
 }
 
-/// The journal of the items' flows.
-fn run<L: Library, G: Gate>(
+/// The journal of a core that is driven to its end.
+fn drive<L: Library, G: Gate>(
+    core: Core<L>,
+    runtime: Runtime,
+    gate: &G,
+) -> Result<Journal, Memory>
+    requires { core.entries ≡ [] }
+    ensures { IfOk result (λ journal. IsDriven (setup_in L.meaning core) runtime journal.entries) }
+{
+    let driven = match runtime {
+        Runtime::Event => EventLoop { helpers: 0 }.drive_alone(core, gate),
+        Runtime::Script(numbers) => Script { numbers }.drive_alone(core, gate),
+    };
+    match driven {
+        Ok(core) => Ok(core.into_parts().0),
+        Err(_) => Err(Memory),
+    }
+}
+
+/// The core of the items' flows, which have done nothing yet.
+fn open<L: Library>(
     alloc: Global,
     library: Arc<L>,
     program: Arc<Program>,
     plans: List<VerifiedPlan>,
     items: List<Item>,
-    runtime: Runtime,
-    gate: &G,
-) -> Result<Journal, Memory>
+) -> Result<Core<L>, Memory>
     requires can { CanRun (L.meaning (arc_value library)) (arc_value program) items }
     requires plans { ArePlansOf (arc_value program) plans }
-    ensures { IfOk result (λ journal. IsTrueRun (arc_value program) items
-        (L.meaning (arc_value library)) journal.entries) }
+    ensures { IfOk result (λ core. core ≡ opened (arc_value program) items [] (arc_value library)) }
 {
-    let _ = (alloc, library, program, plans, items, runtime, gate);
-    Err(Memory)
+    let plans = Arc::new(alloc, plans)?;
+    let setup = Setup {
+        program,
+        plans,
+        items,
+        opening: Cells::new(alloc),
+        library,
+    };
+    Core::new(alloc, setup)
 }
 
 /// The text of a journal of so many flows.
@@ -84,13 +111,14 @@ fn run_items<L: Library, G: Gate>(
 ) -> Result<Bytes, Memory>
     requires { CanRun (L.meaning (arc_value library)) checked.program items }
     ensures { IfOk result (IsJournalOf (L.meaning (arc_value library)) checked.program items
-        wanted.journal) }
+        wanted) }
 {
     let flows = items.len() as u32;
     let plans = compile(alloc, &checked)?;
     let program = Arc::new(alloc, checked.program)?;
     let kept = Arc::try_clone(&program)?;
-    let journal = run(alloc, library, program, plans, items, wanted.runtime, gate)?;
+    let core = open(alloc, library, program, plans, items)?;
+    let journal = drive(core, wanted.runtime, gate)?;
     print(alloc, wanted.journal, &kept, flows, &journal)
 }
 
@@ -109,7 +137,7 @@ pub fn run_text<'a, L: Library, G: Gate>(
     ensures printed { let rules = rules_of checked.program (kinds_at checked.sigs.nodes)
         (held_by checked.sets.nodes) in
         IfOk result (IsWritten (L.meaning (arc_value library)) checked.program rules text.now
-        wanted.journal) }
+        wanted) }
     ensures refused { let rules = rules_of checked.program (kinds_at checked.sigs.nodes)
         (held_by checked.sets.nodes) in
         IfErr result (AreRefused rules text.now) }

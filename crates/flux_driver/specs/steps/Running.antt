@@ -9,11 +9,14 @@ use Rattle.flux_model.specs.declared.programs.NodeNo.{NodeNo}
 use Rattle.flux_model.specs.declared.programs.SourceLine.{SourceLine}
 use Rattle.flux_model.specs.declared.programs.TheConstants.{COUNT_LIMIT}
 use Rattle.flux_model.specs.declared.signatures.NodeSig.{NodeSig}
+use Rattle.flux_model.specs.declared.journals.Entry.{Entry}
 use Rattle.flux_model.specs.declared.journals.Item.{Item}
 use Rattle.flux_model.specs.declared.journals.Journal.{Journal}
 use Rattle.flux_model.specs.Items.{IsItemFor}
 use Rattle.flux_model.specs.Kinds.{NodeKinds, kinds_at}
+use Rattle.flux_model.specs.Legal.{IsLegal, IsWhole}
 use Rattle.flux_model.specs.Locks.{Holds}
+use Rattle.flux_model.specs.Setup.{Setup}
 use Rattle.flux_model.specs.Sizes.{source_size}
 use Rattle.flux_model.specs.Soundness.{IsSound}
 use Rattle.flux_model.specs.Texts.{source_name}
@@ -21,10 +24,11 @@ use Rattle.flux_items.specs.declared.rules.ItemRules.{ItemRules}
 use Rattle.flux_items.specs.declared.rules.TheConstants.{ITEM_LIMIT}
 use Rattle.flux_items.specs.Items.{AreItemsOf}
 use Rattle.flux_items.specs.Faults.{IsFaultOf}
-use Rattle.flux_words.specs.declared.values.JournalFormat.{JournalFormat}
+use Rattle.flux_words.specs.declared.values.Runtime.{Runtime}
 use Rattle.flux_driver.specs.declared.refusals.Refusal.{Refusal}
 use Rattle.flux_driver.specs.declared.refusals.Refusal.TheVariants.{Usage, Static, Items, Read, Missing, Memory}
-use Rattle.flux_driver.specs.Headline.{IsTrueRun, printed_in}
+use Rattle.flux_driver.specs.declared.running.Wanted.{Wanted}
+use Rattle.flux_driver.specs.Headline.{IsOrderOf, IsTrueRun, printed_in}
 
 -- the kinds of what a node gives
 abbrev pub outs_at : List NodeSig → NodeNo → List Kind
@@ -46,19 +50,25 @@ pub record CanRun (meaning : LibraryMeaning) (p : Program) (items : List Item) :
   pub fit : AllByRecursion (IsItemFor p kinds) items
   pub few : length items ≤ ITEM_LIMIT
 
+-- a core was driven to its end by a runtime, from an empty journal
+pub record IsDriven (setup : Setup) (runtime : Runtime) (entries : List Entry) : Type 0 where
+  pub legal : IsLegal setup entries
+  pub whole : IsWhole setup entries
+  pub order : IsOrderOf runtime setup entries
+
 -- the journal of a true run of the items is printed
-pub record IsJournalOf (meaning : LibraryMeaning) (p : Program) (items : List Item)
-    (format : JournalFormat) (text : List ℕ) : Type 0 where
+pub record IsJournalOf (meaning : LibraryMeaning) (p : Program) (items : List Item) (wanted : Wanted)
+    (text : List ℕ) : Type 0 where
   pub journal : Journal
-  pub true_run : IsTrueRun p items meaning journal.entries
-  pub is : text ≡ printed_in format p (length items) journal
+  pub true_run : IsTrueRun p items meaning wanted.runtime journal.entries
+  pub is : text ≡ printed_in wanted.journal p (length items) journal
 
 -- that of the items of a text
 pub record IsWritten (meaning : LibraryMeaning) (p : Program) (rules : ItemRules)
-    (items_text : List ℕ) (format : JournalFormat) (text : List ℕ) : Type 0 where
+    (items_text : List ℕ) (wanted : Wanted) (text : List ℕ) : Type 0 where
   pub items : List Item
   pub are : AreItemsOf rules items items_text
-  pub journal : IsJournalOf meaning p items format text
+  pub journal : IsJournalOf meaning p items wanted text
 
 -- an items text is refused: it has a fault, or there was no memory
 abbrev pub AreRefused : ItemRules → List ℕ → Refusal → Type 0

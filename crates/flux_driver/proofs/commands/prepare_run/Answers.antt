@@ -18,7 +18,7 @@ pub returns-in_err-checked-clause-refused : goal.returns-in_err-checked-clause-r
 returns-in_err-checked-clause-refused g c =
     let meaning = g.L.Meaning.meaning (arc_value c.args.library) in
     let told = g.S.Store.files c.args.store.now in
-    let refused = rw c.as_bytes.ensures at c.in_err-checked.ensures.refused in
+    let refused = rw c.deref.ensures at (rw c.as_bytes.ensures at c.in_err-checked.ensures.refused) in
     passed (IsRefused meaning (run_of c.args.file.now c.args.items.now c.args.wanted) told) c.in_err-checked.field-0.0 c.from_residual-in_err-checked.result c.from_residual-in_err-checked.ensures.1
     (run_refused meaning told c.args.file.now c.args.items.now c.in_ok-text.text c.args.wanted c.in_err-checked.field-0.0 c.in_ok-text.ensures.found refused)
 
@@ -26,7 +26,7 @@ returns-in_err-checked-clause-refused g c =
 
 pub returns-in_err-items_text-clause-asked : goal.returns-in_err-items_text-clause-asked
 returns-in_err-items_text-clause-asked g c =
-    let checked = rw c.as_bytes.ensures at c.in_ok-checked.ensures.checked in
+    let checked = rw c.deref.ensures at (rw c.as_bytes.ensures at c.in_ok-checked.ensures.checked) in
     asks_both (g.L.Meaning.meaning (arc_value c.args.library)) c.in_ok-text.text c.in_ok-checked.checked.program c.in_ok-checked.checked.sigs.nodes c.in_ok-checked.checked.order.nodes c.in_ok-checked.checked.sets.nodes c.in_ok-checked.checked.sizes checked c.args.file.now c.args.items.now c.args.wanted
     (g.S.Store.files c.args.store.now) (g.S.Store.asked c.args.store.now) (g.S.Store.asked c.load.new.store) (g.S.Store.asked c.load-2.new.store)
     c.in_ok-text.ensures.found c.load.ensures.asked c.load-2.ensures.asked
@@ -35,7 +35,7 @@ pub returns-in_err-items_text-clause-refused : goal.returns-in_err-items_text-cl
 returns-in_err-items_text-clause-refused g c =
     let meaning = g.L.Meaning.meaning (arc_value c.args.library) in
     let told = g.S.Store.files c.args.store.now in
-    let checked = rw c.as_bytes.ensures at c.in_ok-checked.ensures.checked in
+    let checked = rw c.deref.ensures at (rw c.as_bytes.ensures at c.in_ok-checked.ensures.checked) in
     let unread = rw c.load.ensures.kept at c.in_err-items_text.ensures.unread in
     passed (IsRefused meaning (run_of c.args.file.now c.args.items.now c.args.wanted) told) c.in_err-items_text.field-0.0 c.from_residual-in_err-items_text.result c.from_residual-in_err-items_text.ensures.1
     (unread_items meaning told c.args.file.now c.args.items.now c.args.wanted _ c.in_err-items_text.field-0.0
@@ -50,18 +50,18 @@ returns-in_err-items_text-clause-firm g c =
 -- ---- the items are run
 
 pub run_text-requires-clause-sound : goal.run_text-requires-clause-sound
-run_text-requires-clause-sound g c =
-    let checked = rw c.as_bytes.ensures at c.in_ok-checked.ensures.checked in
+run_text-requires-clause-sound g c κs within =
+    let checked = rw c.deref.ensures at (rw c.as_bytes.ensures at c.in_ok-checked.ensures.checked) in
     for_library (g.L.Meaning.meaning (arc_value c.args.library)) c.in_ok-text.text c.in_ok-checked.checked.program c.in_ok-checked.checked.sigs.nodes c.in_ok-checked.checked.order.nodes c.in_ok-checked.checked.sets.nodes c.in_ok-checked.checked.sizes checked
 
 pub run_text-requires-clause-sources : goal.run_text-requires-clause-sources
-run_text-requires-clause-sources g c =
-    let checked = rw c.as_bytes.ensures at c.in_ok-checked.ensures.checked in
+run_text-requires-clause-sources g c κs within =
+    let checked = rw c.deref.ensures at (rw c.as_bytes.ensures at c.in_ok-checked.ensures.checked) in
     has_sources (g.L.Meaning.meaning (arc_value c.args.library)) c.in_ok-text.text c.in_ok-checked.checked.program c.in_ok-checked.checked.sigs.nodes c.in_ok-checked.checked.order.nodes c.in_ok-checked.checked.sets.nodes c.in_ok-checked.checked.sizes checked
 
 pub returns-clause-asked : goal.returns-clause-asked
 returns-clause-asked g c =
-    let checked = rw c.as_bytes.ensures at c.in_ok-checked.ensures.checked in
+    let checked = rw c.deref.ensures at (rw c.as_bytes.ensures at c.in_ok-checked.ensures.checked) in
     asks_both (g.L.Meaning.meaning (arc_value c.args.library)) c.in_ok-text.text c.in_ok-checked.checked.program c.in_ok-checked.checked.sigs.nodes c.in_ok-checked.checked.order.nodes c.in_ok-checked.checked.sets.nodes c.in_ok-checked.checked.sizes checked c.args.file.now c.args.items.now c.args.wanted
     (g.S.Store.files c.args.store.now) (g.S.Store.asked c.args.store.now) (g.S.Store.asked c.load.new.store) (g.S.Store.asked c.load-2.new.store)
     c.in_ok-text.ensures.found c.load.ensures.asked c.load-2.ensures.asked
@@ -70,19 +70,18 @@ pub returns-clause-done : goal.returns-clause-done
 returns-clause-done g c =
     let meaning = g.L.Meaning.meaning (arc_value c.args.library) in
     let told = g.S.Store.files c.args.store.now in
-    let checked = rw c.as_bytes.ensures at c.in_ok-checked.ensures.checked in
+    let checked = rw c.deref.ensures at (rw c.as_bytes.ensures at c.in_ok-checked.ensures.checked) in
     let more = rw c.load.ensures.kept at c.in_ok-items_text.ensures.found in
     let printed = rw c.as_bytes-2.ensures at c.run_text.ensures.printed in
     let rules = rules_of c.in_ok-checked.checked.program (kinds_at c.in_ok-checked.checked.sigs.nodes) (held_by c.in_ok-checked.checked.sets.nodes) in
-    let wanted = c.args.wanted in
-    if_ok (IsWritten meaning c.in_ok-checked.checked.program rules c.in_ok-items_text.items_text wanted.journal) (IsPrinted meaning (run_of c.args.file.now c.args.items.now c.args.wanted) told) c.run_text.result
+    if_ok (IsWritten meaning c.in_ok-checked.checked.program rules c.in_ok-items_text.items_text c.args.wanted) (IsPrinted meaning (run_of c.args.file.now c.args.items.now c.args.wanted) told) c.run_text.result
     (is_printed meaning c.in_ok-text.text c.in_ok-checked.checked.program c.in_ok-checked.checked.sigs.nodes c.in_ok-checked.checked.order.nodes c.in_ok-checked.checked.sets.nodes c.in_ok-checked.checked.sizes checked c.args.file.now c.args.items.now c.args.wanted told c.in_ok-items_text.items_text c.in_ok-text.ensures.found more) printed
 
 pub returns-clause-refused : goal.returns-clause-refused
 returns-clause-refused g c =
     let meaning = g.L.Meaning.meaning (arc_value c.args.library) in
     let told = g.S.Store.files c.args.store.now in
-    let checked = rw c.as_bytes.ensures at c.in_ok-checked.ensures.checked in
+    let checked = rw c.deref.ensures at (rw c.as_bytes.ensures at c.in_ok-checked.ensures.checked) in
     let more = rw c.load.ensures.kept at c.in_ok-items_text.ensures.found in
     let refused = rw c.as_bytes-2.ensures at c.run_text.ensures.refused in
     let rules = rules_of c.in_ok-checked.checked.program (kinds_at c.in_ok-checked.checked.sigs.nodes) (held_by c.in_ok-checked.checked.sets.nodes) in
@@ -91,7 +90,7 @@ returns-clause-refused g c =
 
 pub returns-clause-firm : goal.returns-clause-firm
 returns-clause-firm g c =
-    let checked = rw c.as_bytes.ensures at c.in_ok-checked.ensures.checked in
+    let checked = rw c.deref.ensures at (rw c.as_bytes.ensures at c.in_ok-checked.ensures.checked) in
     let more = rw c.load.ensures.kept at c.in_ok-items_text.ensures.found in
     let items = rw c.as_bytes-2.ensures at c.run_text.ensures.items in
     let fault = rw c.as_bytes-2.ensures at c.run_text.ensures.fault in
