@@ -1,166 +1,223 @@
 -- What is printed and said is the answer, and it is the one that is due.
-use Rattle.std.proofs.Common.{◌≡◌, ◌≤◌, ℕ, ◌⊎◌, inl, inr, List, [], Some, None, IfSome, refl, sym, subst, ◌∙◌, arith}
-use Rattle.flux_values.specs.Meanings.{LibraryMeaning}
+use Rattle.std.proofs.Common.{◌≡◌, ◌≤◌, ℕ, ◌⊎◌, inl, inr, List, [], ◌++◌, Some, Result, Ok, Err, IfErr, Option, refl, sym, ap, subst, ◌∙◌, arith}
+use Rattle.std.proofs.lemmas.List.{append-nil}
+use Rattle.flux_words.specs.Commands.{Command, Spells, SpellsNone}
 use Rattle.flux_driver.specs.declared.statuses.Status.{Status}
 use Rattle.flux_driver.specs.declared.statuses.Status.TheVariants as statuses
 use Rattle.flux_driver.specs.declared.refusals.Refusal.{Refusal}
 use Rattle.flux_driver.specs.declared.refusals.Refusal.TheVariants as refusals
-use Rattle.flux_driver.specs.Worlds.{Files, Stream, Wrote, WroteOrBroke}
-use Rattle.flux_driver.specs.Commands.{Command, Asks, AsksNothing}
-use Rattle.flux_driver.specs.Printed.{IsPrinted}
+use Rattle.flux_driver.specs.Worlds.{Told, Stream, Wrote, WroteOrBroke}
 use Rattle.flux_driver.specs.Causes.{write_line}
-use Rattle.flux_driver.specs.Answers.{Happened, IsDue, IsAnswer, OrMemory}
-use Rattle.flux_driver.specs.Top.{HaveAsked, HasAnswered, RoseFor, Decides, IsComplete, HasDone}
-use Rattle.flux_driver.specs.steps.Refusals.{status_of, line_of, CountsRefusal}
-use Rattle.flux_driver.specs.steps.Preparing.{IsFirm}
+use Rattle.flux_driver.specs.Answers.{Libraries, Decided, Happened, IsAnswer, OrMemory}
+use Rattle.flux_driver.specs.Documents.{WithDocs}
+use Rattle.flux_driver.specs.Top.{AreFiles, IsStopped, AsksFor, HasAsked, HasAnswered, RoseForReading, Decides, IsComplete, HasDone}
+use Rattle.flux_driver.specs.steps.Refusals.{status_of, line_of}
+use Rattle.flux_driver.specs.steps.Preparing.{AsksAll, IsRefusedAll, AreSteady, CountsBothRefusal, AnswersDue, AnswersWords, PrintsWords}
 use Rattle.flux_driver.specs.steps.Telling.{IsTold, IsPut}
 use Rattle.flux_driver.proofs.Writes.{wrote_none}
-use Rattle.flux_driver.proofs.Once.{due_once}
 
 -- ---- statuses of refusals
 
 not_write : (refusal : Refusal) → status_of refusal ≡ statuses.Write → ⊥
 not_write refusals.Usage e = absurd cc
 not_write (refusals.Static line) e = absurd cc
-not_write (refusals.Items place) e = absurd cc
+not_write (refusals.Items fault) e = absurd cc
 not_write refusals.Read e = absurd cc
 not_write (refusals.Missing name) e = absurd cc
 not_write refusals.Memory e = absurd cc
 
--- the count of the files rose exactly where reading failed
-counted : (refusal : Refusal) (status : Status) (s t : ℕ) → CountsRefusal refusal s t → (refusal ≡ refusals.Read → status ≡ statuses.Read) → (status ≡ status_of refusal) ⊎ (status ≡ statuses.Memory) → RoseFor statuses.Read status s t
-counted refusals.Read status s t rose read own = record { failed = λ e. rose; steady = λ other. absurd (other (read refl)) }
-counted refusals.Usage status s t same read (inl e) = record { failed = λ h. let no = sym e ∙ h in absurd cc; steady = λ other. same }
-counted refusals.Usage status s t same read (inr e) = record { failed = λ h. let no = sym e ∙ h in absurd cc; steady = λ other. same }
-counted (refusals.Static line) status s t same read (inl e) = record { failed = λ h. let no = sym e ∙ h in absurd cc; steady = λ other. same }
-counted (refusals.Static line) status s t same read (inr e) = record { failed = λ h. let no = sym e ∙ h in absurd cc; steady = λ other. same }
-counted (refusals.Items place) status s t same read (inl e) = record { failed = λ h. let no = sym e ∙ h in absurd cc; steady = λ other. same }
-counted (refusals.Items place) status s t same read (inr e) = record { failed = λ h. let no = sym e ∙ h in absurd cc; steady = λ other. same }
-counted (refusals.Missing name) status s t same read (inl e) = record { failed = λ h. let no = sym e ∙ h in absurd cc; steady = λ other. same }
-counted (refusals.Missing name) status s t same read (inr e) = record { failed = λ h. let no = sym e ∙ h in absurd cc; steady = λ other. same }
-counted refusals.Memory status s t same read (inl e) = record { failed = λ h. let no = sym e ∙ h in absurd cc; steady = λ other. same }
-counted refusals.Memory status s t same read (inr e) = record { failed = λ h. let no = sym e ∙ h in absurd cc; steady = λ other. same }
+-- the counts rose exactly where reading failed
+steady_counts : (status : Status) (s t f g : ℕ) → AreSteady s t f g → (status ≡ statuses.Read → ⊥) → RoseForReading status s t f g
+steady_counts status s t f g same never = record { failed = λ h. absurd (never h); steady = λ other. (same.store_, same.folder_) }
 
--- what else a refused command can come to is that reading failed
-happened_read : (meaning : LibraryMeaning) (command : Command) (told : Files) (refusal : Refusal) → Happened meaning command told (status_of refusal) [] (line_of refusal) → refusal ≡ refusals.Read
-happened_read meaning command told refusals.Read h = refl
-happened_read meaning command told refusals.Usage h = absurd h
-happened_read meaning command told (refusals.Static line) h = absurd h
-happened_read meaning command told (refusals.Items place) h = absurd h
-happened_read meaning command told (refusals.Missing name) h = absurd h
-happened_read meaning command told refusals.Memory h = absurd h
+not_read : (status own : Status) → (own ≡ statuses.Read → ⊥) → (status ≡ own) ⊎ (status ≡ statuses.Memory) → status ≡ statuses.Read → ⊥
+not_read status own never (inl e) h = never (sym e ∙ h)
+not_read status own never (inr e) h = let bad = sym e ∙ h in absurd cc
 
--- a command prints this
-abbrev pub Prints : LibraryMeaning → List (List ℕ) → Files → List ℕ → Type 0
-Prints meaning words told text = (command : Command) × Asks words command × IsPrinted meaning command told text
+counted : (refusal : Refusal) (status : Status) (s t f g : ℕ) → CountsBothRefusal refusal s t f g → (refusal ≡ refusals.Read → status ≡ statuses.Read) → (status ≡ status_of refusal) ⊎ (status ≡ statuses.Memory) → RoseForReading status s t f g
+counted refusals.Read status s t f g rose read own = record { failed = λ e. rose; steady = λ other. absurd (other (read refl)) }
+counted refusals.Usage status s t f g same read own = steady_counts status s t f g same (not_read status statuses.Usage (λ e. absurd cc) own)
+counted (refusals.Static line) status s t f g same read own = steady_counts status s t f g same (not_read status statuses.Static (λ e. absurd cc) own)
+counted (refusals.Items fault) status s t f g same read own = steady_counts status s t f g same (not_read status statuses.Items (λ e. absurd cc) own)
+counted (refusals.Missing name) status s t f g same read own = steady_counts status s t f g same (not_read status statuses.Missing (λ e. absurd cc) own)
+counted refusals.Memory status s t f g same read own = steady_counts status s t f g same (not_read status statuses.Memory (λ e. absurd cc) own)
 
--- what is prepared is firm
-abbrev pub Firm : LibraryMeaning → List (List ℕ) → Files → Status → Type 0
-Firm meaning words told status = IfSome told (λ files. (command : Command) → Asks words command → IsFirm meaning command (Some files) status)
+-- ---- words
 
-module _ (meaning : LibraryMeaning) (words : List (List ℕ)) (files after : Files) (asked asked_after : List (List ℕ)) (s t : ℕ) (kept : after ≡ files) (later : s ≤ t)
-    (asks : HaveAsked meaning words files asked asked_after) where
+module _ (library : Libraries) (words : List (List ℕ)) (told : Told) where
+  pub words_asked : (command : Command) (status : Status) (folder folder_after store store_after : List (List ℕ)) → Spells words command
+      → AsksAll library command told status folder folder_after store store_after → HasAsked library words told status folder folder_after store store_after
+  words_asked command status folder folder_after store store_after spelled asks = record {
+    dirs = asks.dirs;
+    names = asks.names;
+    folder_ = asks.folder_;
+    store_ = asks.store_;
+    are = inr (command, spelled, asks.are);
+  }
+
+  pub nothing_asked : (status : Status) (folder store : List (List ℕ)) → SpellsNone words ⊎ (status ≡ statuses.Memory) → HasAsked library words told status folder folder store store
+  nothing_asked status folder store why = record {
+    dirs = [];
+    names = [];
+    folder_ = sym (append-nil folder);
+    store_ = sym (append-nil store);
+    are = inl (refl, refl, why);
+  }
+
+  pub words_refused : (command : Command) (refusal : Refusal) → Spells words command → IsRefusedAll library command told refusal → IsAnswer library words told (status_of refusal) [] (line_of refusal)
+  words_refused command refusal spelled (inl decided) = inr (inl (record { command = command; spelled = spelled; cause = inl decided }))
+  words_refused command refusal spelled (inr (inl happened)) = inr (inl (record { command = command; spelled = spelled; cause = inr happened }))
+  words_refused command refusal spelled (inr (inr short)) = inr (inr (ap status_of short, refl, ap line_of short))
+
+  pub result_refused : (command : Command) (result : Result (List ℕ) Refusal) → Spells words command → IfErr result (IsRefusedAll library command told) → IfErr result (λ refusal. IsAnswer library words told (status_of refusal) [] (line_of refusal))
+  result_refused command (Ok text) spelled refused = tt
+  result_refused command (Err refusal) spelled refused = words_refused command refusal spelled refused
+
+  -- the words spell this command alone
+  pub words_due : (command : Command) (status : Status) → ((other : Command) → Spells words other → ◌≡◌ {A = Option Command} (Some command) (Some other)) → AnswersDue library command told status → AnswersWords library words told status
+  words_due command status only due other spelled =
+      let e = only other spelled in
+      let same : command ≡ other = cc in
+      subst (λ (x : Command). AnswersDue library x told status) same due
+
+-- ---- what was asked for, at another status
+
+asked_then : (library : Libraries) (words : List (List ℕ)) (told : Told) (status final : Status) (folder folder_after store store_after : List (List ℕ)) → (IsStopped status → IsStopped final) → (status ≡ statuses.Memory → final ≡ statuses.Memory)
+    → HasAsked library words told status folder folder_after store store_after → HasAsked library words told final folder folder_after store store_after
+asked_then library words told status final folder folder_after store store_after stops short asked = record {
+  dirs = asked.dirs;
+  names = asked.names;
+  folder_ = asked.folder_;
+  store_ = asked.store_;
+  are = one asked.are;
+}
+  where
+    why : SpellsNone words ⊎ (status ≡ statuses.Memory) → SpellsNone words ⊎ (final ≡ statuses.Memory)
+    why (inl none) = inl none
+    why (inr e) = inr (short e)
+
+    two : (command : Command) → WithDocs library command told (λ meaning. AreFiles meaning command told.files asked.names) ⊎ ((asked.names ≡ []) × IsStopped status)
+        → WithDocs library command told (λ meaning. AreFiles meaning command told.files asked.names) ⊎ ((asked.names ≡ []) × IsStopped final)
+    two command (inl with_) = inl with_
+    two command (inr (none, stopped)) = inr (none, stops stopped)
+
+    one : ((asked.dirs ≡ []) × (asked.names ≡ []) × (SpellsNone words ⊎ (status ≡ statuses.Memory))) ⊎ ((command : Command) × Spells words command × AsksFor library command told status asked.dirs asked.names)
+        → ((asked.dirs ≡ []) × (asked.names ≡ []) × (SpellsNone words ⊎ (final ≡ statuses.Memory))) ⊎ ((command : Command) × Spells words command × AsksFor library command told final asked.dirs asked.names)
+    one (inl (dirs, names, w)) = inl (dirs, names, why w)
+    one (inr (command, spelled, asks)) = inr (command, spelled, record { folder = asks.folder; files = two command asks.files })
+
+-- ---- the whole
+
+module _ (library : Libraries) (words : List (List ℕ)) (told after : Told) (folder folder_after store store_after : List (List ℕ)) (s t f g : ℕ) (kept : after ≡ told) (later : s ≤ t) (later_folder : f ≤ g) where
   abbrev Done : Status → Stream → Stream → Stream → Stream → Type 0
-  Done status out out_after err err_after = HasDone meaning words
-      (record { files = files; asked = asked; faults = s; out = out; err = err }) status
-      (record { files = after; asked = asked_after; faults = t; out = out_after; err = err_after })
+  Done status out out_after err err_after = HasDone library words
+      (record { told = told; store = record { asked = store; faults = s }; folder = record { asked = folder; faults = f }; out = out; err = err }) status
+      (record { told = after; store = record { asked = store_after; faults = t }; folder = record { asked = folder_after; faults = g }; out = out_after; err = err_after })
+
+  abbrev Asked : Status → Type 0
+  Asked status = HasAsked library words told status folder folder_after store store_after
 
   -- ---- a text was printed, or writing it failed
 
-  module _ (text : List ℕ) (prints : Prints meaning words files text) (same : t ≡ s) (firm : Firm meaning words files statuses.Done) where
-    complete_put : (status : Status) (told : Files) → files ≡ told → (status ≡ statuses.Done) ⊎ (status ≡ statuses.Write) → IsComplete meaning words told status
-    complete_put status None is own = tt
-    complete_put status (Some told) is own = λ due u m d.
-        let e : statuses.Done ≡ due = due_once meaning words told statuses.Done due text [] u m (rw is at firm) (inr (prints.0, prints.1, (rw is at prints.2, refl))) d in
-        decide due e own
+  module _ (text : List ℕ) (asked : Asked statuses.Done) (prints : PrintsWords library words told text) (same : AreSteady s t f g) (due : AnswersWords library words told statuses.Done) where
+    asked_put : (status : Status) → Asked status
+    asked_put status = asked_then library words told statuses.Done status folder folder_after store store_after (λ stopped. absurd stopped) (λ e. absurd cc) asked
+
+    complete_put : (status : Status) → (status ≡ statuses.Done) ⊎ (status ≡ statuses.Write) → IsComplete library words told status
+    complete_put status own command spelled tells other u m d = decide (due command spelled tells other u m d) own
       where
-        decide : (due : Status) → statuses.Done ≡ due → (status ≡ statuses.Done) ⊎ (status ≡ statuses.Write) → OrMemory status (Decides status due)
-        decide due e (inl a) = inl (inl (a ∙ e))
-        decide due e (inr a) = inl (inr (inr (a, sym e)))
+        decide : (statuses.Done ≡ other) ⊎ ((statuses.Done ≡ statuses.Read) ⊎ (statuses.Done ≡ statuses.Memory)) → (status ≡ statuses.Done) ⊎ (status ≡ statuses.Write) → OrMemory status (Decides status other)
+        decide (inl e) (inl a) = inl (inl (a ∙ e))
+        decide (inl e) (inr a) = inl (inr (inr (a, sym e)))
+        decide (inr (inl e)) a = absurd cc
+        decide (inr (inr e)) a = absurd cc
 
     pub put_done : (status : Status) (out out_after err err_after : Stream) → out.faults ≤ out_after.faults → err.faults ≤ err_after.faults → IsPut text status out out_after err err_after → Done status out out_after err err_after
     put_done status out out_after err err_after out_later err_later (inl put) = record {
       kept = kept;
-      later = record { reading = later; out = out_later; err = err_later };
-      asked = asks;
+      later = record { store = later; folder = later_folder; out = out_later; err = err_later };
+      asked = asked_put status;
       answered = record {
         text = text;
         line = [];
-        cause = subst (λ (x : Status). IsAnswer meaning words files x text []) (sym put.0) (inl (inr (prints.0, prints.1, (prints.2, refl))));
+        cause = subst (λ (x : Status). IsAnswer library words told x text []) (sym put.0) (inr (inl (record { command = prints.0; spelled = prints.1; cause = inl (prints.2, refl) })));
         out = inl put.1;
         err = inl put.2;
       };
-      reading = record { failed = λ h. let no = sym put.0 ∙ h in absurd cc; steady = λ other. same };
+      reading = record { failed = λ h. let no = sym put.0 ∙ h in absurd cc; steady = λ other. (same.store_, same.folder_) };
       writing = record { failed = λ h. let no = sym put.0 ∙ h in absurd cc; steady = λ other. let wrote = put.1 in wrote.steady };
       usage = λ none. absurd (none prints.0 prints.1);
-      complete = complete_put status files refl (inl put.0);
+      complete = complete_put status (inl put.0);
     }
     put_done status out out_after err err_after out_later err_later (inr put) = record {
       kept = kept;
-      later = record { reading = later; out = out_later; err = err_later };
-      asked = asks;
+      later = record { store = later; folder = later_folder; out = out_later; err = err_later };
+      asked = asked_put status;
       answered = record {
         text = text;
         line = write_line;
-        cause = subst (λ (x : Status). IsAnswer meaning words files x text write_line) (sym put.0) (inr (inl (prints.0, prints.1, (prints.2, refl))));
+        cause = subst (λ (x : Status). IsAnswer library words told x text write_line) (sym put.0) (inr (inl (record { command = prints.0; spelled = prints.1; cause = inr (prints.2, refl) })));
         out = inr (put.0, put.1);
         err = put.2;
       };
-      reading = record { failed = λ h. let no = sym put.0 ∙ h in absurd cc; steady = λ other. same };
+      reading = record { failed = λ h. let no = sym put.0 ∙ h in absurd cc; steady = λ other. (same.store_, same.folder_) };
       writing = record { failed = λ h. let broke = put.1 in broke.rose; steady = λ other. absurd (other put.0) };
       usage = λ none. absurd (none prints.0 prints.1);
-      complete = complete_put status files refl (inr put.0);
+      complete = complete_put status (inr put.0);
     }
 
   -- ---- a refusal was told
 
-  module _ (refusal : Refusal) (answers : IsAnswer meaning words files (status_of refusal) [] (line_of refusal)) (counts : CountsRefusal refusal s t) (firm : Firm meaning words files (status_of refusal)) where
-    complete_told : (status : Status) (told : Files) → files ≡ told → (refusal ≡ refusals.Read → status ≡ statuses.Read) → (status ≡ status_of refusal) ⊎ (status ≡ statuses.Memory) → IsComplete meaning words told status
-    complete_told status None is read own = tt
-    complete_told status (Some told) is read own = λ due u m d. decide due u m d (rw is at answers) own
-      where
-        decide : (due : Status) (u m : List ℕ) → IsDue meaning words (Some told) due u m → IsAnswer meaning words (Some told) (status_of refusal) [] (line_of refusal) → (status ≡ status_of refusal) ⊎ (status ≡ statuses.Memory) → OrMemory status (Decides status due)
-        decide due u m d answer (inr short) = inr short
-        decide due u m d (inl mine) (inl e) = inl (inl (e ∙ due_once meaning words told (status_of refusal) due [] (line_of refusal) u m (rw is at firm) mine d))
-        decide due u m d (inr (inl (command, asks, h))) (inl e) = inl (inr (inl (read (happened_read meaning command (Some told) refusal h))))
-        decide due u m d (inr (inr short)) (inl e) = inr (e ∙ short.0)
+  module _ (refusal : Refusal) (asked : Asked (status_of refusal)) (answers : IsAnswer library words told (status_of refusal) [] (line_of refusal)) (counts : CountsBothRefusal refusal s t f g) (due : AnswersWords library words told (status_of refusal)) where
+    asked_told : (status : Status) → (status ≡ status_of refusal) ⊎ (status ≡ statuses.Memory) → Asked status
+    asked_told status (inl e) = subst Asked (sym e) asked
+    asked_told status (inr e) = subst Asked (sym e) (asked_then library words told (status_of refusal) statuses.Memory folder folder_after store store_after (λ stopped. tt) (λ h. refl) asked)
 
-    usage_told : (status : Status) → (status ≡ status_of refusal) ⊎ (status ≡ statuses.Memory) → AsksNothing words → OrMemory status (status ≡ statuses.Usage)
+    complete_told : (status : Status) → (status ≡ status_of refusal) ⊎ (status ≡ statuses.Memory) → IsComplete library words told status
+    complete_told status own command spelled tells other u m d = decide (due command spelled tells other u m d) own
+      where
+        decide : (status_of refusal ≡ other) ⊎ ((status_of refusal ≡ statuses.Read) ⊎ (status_of refusal ≡ statuses.Memory)) → (status ≡ status_of refusal) ⊎ (status ≡ statuses.Memory) → OrMemory status (Decides status other)
+        decide a (inr short) = inr short
+        decide (inl a) (inl e) = inl (inl (e ∙ a))
+        decide (inr (inl a)) (inl e) = inl (inr (inl (e ∙ a)))
+        decide (inr (inr a)) (inl e) = inr (e ∙ a)
+
+    usage_told : (status : Status) → (status ≡ status_of refusal) ⊎ (status ≡ statuses.Memory) → SpellsNone words → OrMemory status (status ≡ statuses.Usage)
     usage_told status own none = decide answers own
       where
-        decide : IsAnswer meaning words files (status_of refusal) [] (line_of refusal) → (status ≡ status_of refusal) ⊎ (status ≡ statuses.Memory) → OrMemory status (status ≡ statuses.Usage)
+        decide : IsAnswer library words told (status_of refusal) [] (line_of refusal) → (status ≡ status_of refusal) ⊎ (status ≡ statuses.Memory) → OrMemory status (status ≡ statuses.Usage)
         decide answer (inr short) = inr short
-        decide (inl (inl use_)) (inl e) = inl (e ∙ use_.1)
-        decide (inl (inr (command, asks, d))) (inl e) = absurd (none command asks)
-        decide (inr (inl (command, asks, h))) (inl e) = absurd (none command asks)
+        decide (inl use_) (inl e) = inl (e ∙ use_.1)
+        decide (inr (inl of)) (inl e) = absurd (none of.command of.spelled)
         decide (inr (inr short)) (inl e) = inr (e ∙ short.0)
 
     pub told_done : (status : Status) (out err err_after : Stream) → err.faults ≤ err_after.faults → IsTold refusal status err err_after → Done status out out err err_after
-    told_done status out err err_after err_later told = one told.said
+    told_done status out err err_after err_later told_ = one told_.said
       where
         not_writing : (status ≡ status_of refusal) ⊎ (status ≡ statuses.Memory) → status ≡ statuses.Write → ⊥
         not_writing (inl e) h = not_write refusal (sym e ∙ h)
         not_writing (inr e) h = let no = sym e ∙ h in absurd cc
 
         done : (status ≡ status_of refusal) ⊎ (status ≡ statuses.Memory)
-            → HasAnswered meaning words (record { files = files; asked = asked; faults = s; out = out; err = err }) status (record { files = after; asked = asked_after; faults = t; out = out; err = err_after })
+            → HasAnswered library words (record { told = told; store = record { asked = store; faults = s }; folder = record { asked = folder; faults = f }; out = out; err = err }) status
+              (record { told = after; store = record { asked = store_after; faults = t }; folder = record { asked = folder_after; faults = g }; out = out; err = err_after })
             → Done status out out err err_after
         done own answered = record {
           kept = kept;
-          later = record { reading = later; out = omega arith; err = err_later };
-          asked = asks;
+          later = record { store = later; folder = later_folder; out = omega arith; err = err_later };
+          asked = asked_told status own;
           answered = answered;
-          reading = counted refusal status s t counts told.read own;
+          reading = counted refusal status s t f g counts told_.read own;
           writing = record { failed = λ h. absurd (not_writing own h); steady = λ other. refl };
           usage = usage_told status own;
-          complete = complete_told status files refl told.read own;
+          complete = complete_told status own;
         }
 
         one : ((status ≡ status_of refusal) × WroteOrBroke err err_after (line_of refusal)) ⊎ ((status ≡ statuses.Memory) × Wrote err err_after []) → Done status out out err err_after
         one (inl (e, said)) = done (inl e) (record {
           text = [];
           line = line_of refusal;
-          cause = subst (λ (x : Status). IsAnswer meaning words files x [] (line_of refusal)) (sym e) answers;
+          cause = subst (λ (x : Status). IsAnswer library words told x [] (line_of refusal)) (sym e) answers;
           out = inl (wrote_none out);
           err = said;
         })

@@ -1,14 +1,12 @@
--- The sources of sound declarations have names of their own, without a blank.
-use Rattle.std.proofs.Common.{◌≡◌, ◌==◌, ◌+◌, ◌++◌, ◌||◌, ℕ, zero, suc, Bool, true, false, ◌&&◌, List, [], ◌∷◌, map, Option, Some, None, refl, sym, ap, subst, ◌∙◌, arith}
-use Rattle.std.specs.List.{slice_get, flat_map, filter_map, AllByRecursion, list_all, list_any}
+-- The sources of sound declarations have names of their own.
+use Rattle.std.proofs.Common.{◌≡◌, ◌+◌, ◌++◌, ◌||◌, ℕ, zero, suc, Bool, true, false, ◌&&◌, List, [], ◌∷◌, map, Option, Some, None, refl, sym, ap, subst, ◌∙◌, arith}
+use Rattle.std.specs.List.{slice_get, flat_map, filter_map, list_any}
 use Rattle.std.specs.Option.{option_map}
 use Rattle.std.specs.Str.{bytes_eq}
-use Rattle.std.proofs.lemmas.Bool.Decides.{nat_tests}
 use Rattle.std.proofs.lemmas.Option.{slice_get-map}
 use Rattle.std.proofs.lemmas.Slice.Eq.{bytes_eq-Decides}
 use Rattle.std.proofs.lemmas.List.Elements.{filter_map-append}
 use Rattle.std.proofs.lemmas.List.{map-append, append-nil}
-use Rattle.flux_values.specs.Identifiers.{is_word_start, is_word_byte, is_word}
 use Rattle.flux_values.specs.Meanings.{LibraryMeaning}
 use Rattle.flux_faults.specs.declared.faults.FaultKind.{FaultKind}
 use Rattle.flux_model.specs.declared.programs.Program.{Program}
@@ -17,43 +15,10 @@ use Rattle.flux_model.specs.Texts.{name_in, source_name}
 use Rattle.flux_syntax.specs.declared.declarations.Word.{Word}
 use Rattle.flux_syntax.specs.declared.declarations.Decl.{Decl}
 use Rattle.flux_syntax.specs.declared.declarations.Decl.TheVariants.{Signature, Flow, Source, Typedef, Handler, Atomic, Session}
-use Rattle.flux_syntax.specs.Declares.{Declares}
 use Rattle.flux_syntax.specs.Words.{sourced, naming, defined, names_of, texts_of, known}
 use Rattle.flux_syntax.specs.ProgramOfText.{place_of, source_of, node_of, classes_of, program_of}
 use Rattle.flux_syntax.specs.Least.{sooner, soonest, fault_or, first_fault}
-use Rattle.flux_syntax.proofs.Printed.{word_of_name}
-use Rattle.flux_syntax.proofs.Standing.{IsName, AllStandIn, all_stand}
 use Rattle.flux_names.specs.Rows.{sessioned, used_names, handled, not_among, listed_if, repeats, repeated_after, repeated, twice_named, unknown_nodes, rows}
-use Rattle.flux_driver.specs.steps.ItemLines.{AreNamedSources}
-
--- ---- names have no blank
-
-no_blank : (b : ℕ) → is_word_byte b ≡ true → (b == 32) ≡ false
-no_blank b e = one (b == 32) refl
-  where
-    one : (t : Bool) → (b == 32) ≡ t → (b == 32) ≡ false
-    one false i = i
-    one true i =
-        let same : b ≡ 32 = grind (arith, nat_tests, i) in
-        let h : is_word_byte 32 ≡ true = subst (λ (x : ℕ). is_word_byte x ≡ true) same e in absurd cc
-
-both_true : (p q : Bool) → (p && q) ≡ true → (p ≡ true) × (q ≡ true)
-both_true true q e = (refl, e)
-both_true false q e = absurd cc
-
-start_is_byte : (b : ℕ) → is_word_start b ≡ true → is_word_byte b ≡ true
-start_is_byte b e = rw e refl
-
-bytes_clean : (bytes : List ℕ) → list_all is_word_byte bytes ≡ true → AllByRecursion (λ b. (b == 32) ≡ false) bytes
-bytes_clean [] e = tt
-bytes_clean (b ∷ bytes) e = let both = both_true (is_word_byte b) (list_all is_word_byte bytes) e in (no_blank b both.0, bytes_clean bytes both.1)
-
-name_clean : (text : List ℕ) → IsName text → AllByRecursion (λ b. (b == 32) ≡ false) text
-name_clean text name = word text (word_of_name text name.kind).0
-  where
-    word : (t : List ℕ) → is_word t ≡ true → AllByRecursion (λ b. (b == 32) ≡ false) t
-    word [] e = tt
-    word (b ∷ bytes) e = let both = both_true (is_word_start b) (list_all is_word_byte bytes) e in (no_blank b (start_is_byte b both.0), bytes_clean bytes both.1)
 
 -- ---- rows without a fault
 
@@ -187,16 +152,6 @@ texts_new before (Session source function ∷ decls) e =
     let d = Session source function in
     other_new before d (texts_of sourced decls) refl (texts_new (before ++ d ∷ []) decls (later (list_any (repeats sourced d) before) None (repeated_after sourced (before ++ d ∷ []) decls) e))
 
-texts_clean : (text : List ℕ) (decls : List Decl) → AllStandIn text decls → AllByRecursion (λ name. AllByRecursion (λ b. (b == 32) ≡ false) name) (texts_of sourced decls)
-texts_clean text [] all = tt
-texts_clean text (Source name target ∷ decls) all = let own = all.0.0.0 in (name_clean name.text own.name, texts_clean text decls all.1)
-texts_clean text (Signature name ins outs ∷ decls) all = texts_clean text decls all.1
-texts_clean text (Flow name patterns members ∷ decls) all = texts_clean text decls all.1
-texts_clean text (Typedef name function ∷ decls) all = texts_clean text decls all.1
-texts_clean text (Handler node codes handler ∷ decls) all = texts_clean text decls all.1
-texts_clean text (Atomic node constraints ∷ decls) all = texts_clean text decls all.1
-texts_clean text (Session source function ∷ decls) all = texts_clean text decls all.1
-
 -- ---- the sources of the program have these names
 
 module _ (decls : List Decl) where
@@ -231,21 +186,13 @@ module _ (decls : List Decl) where
   lines_named (Atomic node constraints ∷ ds) e = lines_named ds (nil_append (not_among names (used_names (Atomic node constraints))) (flat_map (λ d. not_among names (used_names d)) ds) e).1
   lines_named (Session source function ∷ ds) e = lines_named ds (nil_append (not_among names (used_names (Session source function))) (flat_map (λ d. not_among names (used_names d)) ds) e).1
 
-  at_of : {A : Type 0} (P : A → Type 0) (xs : List A) (n : ℕ) (x : A) → slice_get xs n ≡ Some x → AllByRecursion P xs → P x
-  at_of P [] n x at all = absurd cc
-  at_of P (y ∷ xs) zero x at all = let same : y ≡ x = cc in subst P same all.0
-  at_of P (y ∷ xs) (suc n) x at all = at_of P xs n x at all.1
-
   module _ (unknown : unknown_nodes decls ≡ []) (once : repeated decls sourced ≡ []) where
     text_at : (place : ℕ) (line : SourceLine) → slice_get p.sources place ≡ Some line → slice_get (texts_of sourced decls) place ≡ Some (named line)
     text_at place line at = ap (λ (l : List (List ℕ)). slice_get l place) (sym (lines_named decls unknown)) ∙ slice_get-map named p.sources place ∙ ap (option_map named) at
 
-    sources_named : (text : List ℕ) → AllStandIn text decls → AreNamedSources p
-    sources_named text stand = record {
-      clean = λ place line at. at_of (λ name. AllByRecursion (λ b. (b == 32) ≡ false) name) (texts_of sourced decls) place (named line) (text_at place line at) (texts_clean text decls stand);
-      apart = λ name a b x y. one_place [] (texts_of sourced decls) a b name (texts_new [] decls once)
-          (text_at a x.line x.at ∙ ap Some x.named) (text_at b y.line y.at ∙ ap Some y.named);
-    }
+    named_once : (a b : ℕ) (first second : SourceLine) → slice_get p.sources a ≡ Some first → slice_get p.sources b ≡ Some second → named first ≡ named second → a ≡ b
+    named_once a b first second at bt same =
+        one_place [] (texts_of sourced decls) a b (named first) (texts_new [] decls once) (text_at a first at) (text_at b second bt ∙ ap Some (sym same))
 
 once_of : (decls : List Decl) → twice_named decls ≡ [] → repeated decls sourced ≡ []
 once_of decls e =
@@ -253,8 +200,9 @@ once_of decls e =
     let b = nil_append (repeated decls defined) (repeated decls sourced ++ (repeated decls handled ++ (repeated decls sessioned ++ []))) a.1 in
     (nil_append (repeated decls sourced) (repeated decls handled ++ (repeated decls sessioned ++ [])) b.1).0
 
-pub are_named : (meaning : LibraryMeaning) (text : List ℕ) (decls : List Decl) → Declares decls text → first_fault (rows meaning decls) ≡ None → AreNamedSources (program_of decls)
-are_named meaning text decls declared none =
+pub sources_apart : (meaning : LibraryMeaning) (decls : List Decl) → first_fault (rows meaning decls) ≡ None → (a b : ℕ) (first second : SourceLine)
+    → let p = program_of decls in slice_get p.sources a ≡ Some first → slice_get p.sources b ≡ Some second → source_name p (Some first) ≡ source_name p (Some second) → a ≡ b
+sources_apart meaning decls none a b first second at bt same =
     let twice = rowless _ (twice_named decls) _ none in
     let unknown = rowless _ (unknown_nodes decls) _ twice.1 in
-    sources_named decls unknown.0 (once_of decls twice.0) text (all_stand decls text declared)
+    named_once decls unknown.0 (once_of decls twice.0) a b first second at bt same

@@ -1,5 +1,5 @@
--- Words and files decide one status.
-use Rattle.std.proofs.Common.{◌≡◌, ℕ, inl, inr, ◌⊎◌, List, Option, Some, None, IfSome, refl, sym, ap, subst, ◌∙◌}
+-- With their documents, a command and files decide one status.
+use Rattle.std.proofs.Common.{◌≡◌, ℕ, inl, inr, ◌⊎◌, List, Option, Some, sym, ap, subst, ◌∙◌}
 use Rattle.flux_values.specs.Meanings.{LibraryMeaning}
 use Rattle.flux_outside.specs.declared.stores.File.{File}
 use Rattle.flux_outside.specs.declared.stores.File.TheVariants.{Found, Missing, Longer}
@@ -7,41 +7,40 @@ use Rattle.flux_faults.specs.declared.faults.StaticFault.{StaticFault}
 use Rattle.flux_syntax.specs.declared.declarations.Decl.{Decl}
 use Rattle.flux_syntax.specs.Declares.{Declares}
 use Rattle.flux_syntax.proofs.Texts.{one_list, no_decls}
-use Rattle.flux_names.specs.Building.{first_unbuilt}
 use Rattle.flux_check.specs.Judgement.{IsTextFault}
 use Rattle.flux_check.proofs.Exclusive.{not_both}
+use Rattle.flux_words.specs.Commands.{Command, Manner, check, plan, format, run, help}
 use Rattle.flux_driver.specs.declared.files.TheConstants.{PROGRAM_FILE_LIMIT, ITEMS_FILE_LIMIT}
 use Rattle.flux_driver.specs.declared.statuses.Status.{Status}
 use Rattle.flux_driver.specs.declared.statuses.Status.TheVariants as statuses
 use Rattle.flux_driver.specs.Worlds.{Files, Gives, IsLost}
-use Rattle.flux_driver.specs.Commands.{Command, check, plan, format, run, help, Asks, ReadsProgram}
-use Rattle.flux_driver.specs.Inputs.{HasDecls, HasProgram, CanBeRun, HasItems}
+use Rattle.flux_driver.specs.Commands.{ReadsProgram}
+use Rattle.flux_driver.specs.Inputs.{HasDecls, HasProgram, HasItems}
 use Rattle.flux_driver.specs.Printed.{IsPrinted}
-use Rattle.flux_driver.specs.Causes.{IsNotRun, IsStaticOf, IsStatic, IsItems, AreItemsLost, IsMissing}
-use Rattle.flux_driver.specs.Answers.{Decided, IsDue}
+use Rattle.flux_driver.specs.Causes.{IsStaticOf, IsStatic, IsItems, AreItemsLost, IsMissing}
 use Rattle.flux_driver.specs.steps.Preparing.{IsFirm}
 
 -- ---- one text, one list of declarations, one program
 
-abbrev pub Told : Type 0
-Told = List ℕ → Option (List ℕ)
+abbrev pub Held : Type 0
+Held = List ℕ → Option (List ℕ)
 
-found_is : (files : Told) (name : List ℕ) (max : ℕ) (a b : File) → Gives (Some files) name max a → Gives (Some files) name max b → a ≡ b
+found_is : (files : Held) (name : List ℕ) (max : ℕ) (a b : File) → Gives (Some files) name max a → Gives (Some files) name max b → a ≡ b
 found_is files name max a b x y = x.same ∙ sym y.same
 
-pub text_is : (files : Told) (name : List ℕ) (max : ℕ) (a b : List ℕ) → Gives (Some files) name max (Found a) → Gives (Some files) name max (Found b) → a ≡ b
+pub text_is : (files : Held) (name : List ℕ) (max : ℕ) (a b : List ℕ) → Gives (Some files) name max (Found a) → Gives (Some files) name max (Found b) → a ≡ b
 text_is files name max a b x y = let e = found_is files name max (Found a) (Found b) x y in cc
 
-not_lost : (files : Told) (name : List ℕ) (max : ℕ) (text : List ℕ) → Gives (Some files) name max (Found text) → IsLost (Some files) name max → ⊥
+not_lost : (files : Held) (name : List ℕ) (max : ℕ) (text : List ℕ) → Gives (Some files) name max (Found text) → IsLost (Some files) name max → ⊥
 not_lost files name max text x (inl y) = let e = found_is files name max (Found text) Missing x y in absurd cc
 not_lost files name max text x (inr y) = let e = found_is files name max (Found text) Longer x y in absurd cc
 
-pub decls_is : (files : Told) (file : List ℕ) (a b : List Decl) → HasDecls (Some files) file a → HasDecls (Some files) file b → a ≡ b
+pub decls_is : (files : Held) (file : List ℕ) (a b : List Decl) → HasDecls (Some files) file a → HasDecls (Some files) file b → a ≡ b
 decls_is files file a b x y = one_list x.text a b x.declared (subst (Declares b) (text_is files file PROGRAM_FILE_LIMIT y.text x.text y.gives x.gives) y.declared)
 
 -- ---- what excludes what
 
-module _ (meaning : LibraryMeaning) (files : Told) where
+module _ (meaning : LibraryMeaning) (files : Held) where
   -- the text that has a fault is the one that stands under the command's name
   gives_here : (file other text : List ℕ) → other ≡ file → Gives (Some files) other PROGRAM_FILE_LIMIT (Found text) → Gives (Some files) file PROGRAM_FILE_LIMIT (Found text)
   gives_here file other text same gives = subst (λ (name : List ℕ). Gives (Some files) name PROGRAM_FILE_LIMIT (Found text)) same gives
@@ -54,41 +53,30 @@ module _ (meaning : LibraryMeaning) (files : Told) where
   not_faulty file text fault decls h gives stands =
       not_both meaning text fault (record { decls = decls; declared = declared_here file text decls h.has gives; sound = h.sound }) stands
 
-  not_unbuilt : (file text : List ℕ) (fault : StaticFault) (decls : List Decl) → CanBeRun meaning (Some files) file decls → Gives (Some files) file PROGRAM_FILE_LIMIT (Found text) → IsNotRun meaning text fault → ⊥
-  not_unbuilt file text fault decls h gives n =
-      let program = h.program in
-      let form = n.form in
-      let same : form.decls ≡ decls = one_list text form.decls decls form.declared (declared_here file text decls program.has gives) in
-      let none = sym h.built ∙ sym (ap first_unbuilt same) ∙ form.first in absurd cc
-
-  not_static : (file text : List ℕ) (fault : StaticFault) (decls : List Decl) → CanBeRun meaning (Some files) file decls → Gives (Some files) file PROGRAM_FILE_LIMIT (Found text) → IsTextFault meaning text fault ⊎ IsNotRun meaning text fault → ⊥
-  not_static file text fault decls h gives (inl stands) = not_faulty file text fault decls h.program gives stands
-  not_static file text fault decls h gives (inr stands) = not_unbuilt file text fault decls h gives stands
-
   printed_static : (command : Command) (text line : List ℕ) → IsPrinted meaning command (Some files) text → IsStatic meaning command (Some files) line → ⊥
   printed_static (check file) text line p s = not_faulty file s.text s.fault p.decls p.has (gives_here file s.file s.text s.reads s.gives) s.stands
   printed_static (plan file) text line p s = not_faulty file s.text s.fault p.decls p.has (gives_here file s.file s.text s.reads s.gives) s.stands
   printed_static (format file) text line (decls, h, is) s =
       let fault = s.fault in no_decls fault.kind fault.at s.text decls s.stands.0 (declared_here file s.text decls h (gives_here file s.file s.text s.reads s.gives))
-  printed_static (run file items) text line p s = let has = p.has in not_static file s.text s.fault has.decls has.source (gives_here file s.file s.text s.reads s.gives) s.stands
+  printed_static (run file items manner) text line p s = let has = p.has in not_faulty file s.text s.fault has.decls has.program_ (gives_here file s.file s.text s.reads s.gives) s.stands
   printed_static help text line p s = s.stands
 
   items_static : (command : Command) (said line : List ℕ) → IsItems meaning command (Some files) said → IsStatic meaning command (Some files) line → ⊥
   items_static (check file) said line i s = i
   items_static (plan file) said line i s = i
   items_static (format file) said line i s = i
-  items_static (run file items) said line i s = let has = i.has in not_static file s.text s.fault has.decls has.source (gives_here file s.file s.text s.reads s.gives) s.stands
+  items_static (run file items manner) said line i s = let has = i.has in not_faulty file s.text s.fault has.decls has.program_ (gives_here file s.file s.text s.reads s.gives) s.stands
   items_static help said line i s = i
 
   -- a file that was found isn't lost
   file_there : (file name text : List ℕ) → Gives (Some files) file PROGRAM_FILE_LIMIT (Found text) → name ≡ file → IsLost (Some files) name PROGRAM_FILE_LIMIT → ⊥
   file_there file name text gives same lost = not_lost files file PROGRAM_FILE_LIMIT text gives (subst (λ (n : List ℕ). IsLost (Some files) n PROGRAM_FILE_LIMIT) same lost)
 
-  items_there : (file items line : List ℕ) → HasItems meaning (Some files) file items → IsMissing meaning (run file items) (Some files) line → ⊥
-  items_there file items line h m = one m.lost
+  items_there : (file items line : List ℕ) (manner : Manner) → HasItems meaning (Some files) file items → IsMissing meaning (run file items manner) (Some files) line → ⊥
+  items_there file items line manner h m = one m.lost
     where
-      one : ((m.name ≡ file) × IsLost (Some files) m.name PROGRAM_FILE_LIMIT) ⊎ AreItemsLost meaning (run file items) (Some files) m.name → ⊥
-      one (inl (same, lost)) = let source = h.source in let program = source.program in let has = program.has in file_there file m.name has.text has.gives same lost
+      one : ((m.name ≡ file) × IsLost (Some files) m.name PROGRAM_FILE_LIMIT) ⊎ AreItemsLost meaning (run file items manner) (Some files) m.name → ⊥
+      one (inl (same, lost)) = let program = h.program_ in let has = program.has in file_there file m.name has.text has.gives same lost
       one (inr (same, lost, decls, source)) = not_lost files items ITEMS_FILE_LIMIT h.text h.gives lost
 
   program_there : (file : List ℕ) (decls : List Decl) → HasProgram meaning (Some files) file decls → (name : List ℕ) → ((name ≡ file) × IsLost (Some files) name PROGRAM_FILE_LIMIT) ⊎ ⊥ → ⊥
@@ -103,7 +91,7 @@ module _ (meaning : LibraryMeaning) (files : Told) where
       one : ((m.name ≡ file) × IsLost (Some files) m.name PROGRAM_FILE_LIMIT) ⊎ AreItemsLost meaning (format file) (Some files) m.name → ⊥
       one (inl (same, lost)) = file_there file m.name h.text h.gives same lost
       one (inr none) = none
-  printed_missing (run file items) text line p m = items_there file items line p.has m
+  printed_missing (run file items manner) text line p m = items_there file items line manner p.has m
   printed_missing help text line p m = one m.lost
     where
       one : (⊥ × IsLost (Some files) m.name PROGRAM_FILE_LIMIT) ⊎ ⊥ → ⊥
@@ -114,7 +102,7 @@ module _ (meaning : LibraryMeaning) (files : Told) where
   items_missing (check file) said line i m = i
   items_missing (plan file) said line i m = i
   items_missing (format file) said line i m = i
-  items_missing (run file items) said line i m = items_there file items line i.has m
+  items_missing (run file items manner) said line i m = items_there file items line manner i.has m
   items_missing help said line i m = i
 
   -- both names are the program's
@@ -122,7 +110,7 @@ module _ (meaning : LibraryMeaning) (files : Told) where
   same_program (check file) a b x y = x ∙ sym y
   same_program (plan file) a b x y = x ∙ sym y
   same_program (format file) a b x y = x ∙ sym y
-  same_program (run file items) a b x y = x ∙ sym y
+  same_program (run file items manner) a b x y = x ∙ sym y
   same_program help a b x y = absurd x
 
   static_missing : (command : Command) (said line : List ℕ) → IsStatic meaning command (Some files) said → IsMissing meaning command (Some files) line → ⊥
@@ -133,34 +121,22 @@ module _ (meaning : LibraryMeaning) (files : Told) where
       one (check file) reads stands (inr none) = none
       one (plan file) reads stands (inr none) = none
       one (format file) reads stands (inr none) = none
-      one (run file items) reads stands (inr (name, lost, decls, source)) = not_static file s.text s.fault decls source (gives_here file s.file s.text reads s.gives) stands
+      one (run file items manner) reads stands (inr (name, lost, decls, source)) = not_faulty file s.text s.fault decls source (gives_here file s.file s.text reads s.gives) stands
       one help reads stands (inr none) = none
 
 -- ---- one status
 
-abbrev View : LibraryMeaning → Command → Files → Status → List ℕ → List ℕ → Type 0
+-- a status with what it says: a text that is printed, or a line
+abbrev pub View : LibraryMeaning → Command → Files → Status → List ℕ → List ℕ → Type 0
 View meaning command told status text line =
     ((status ≡ statuses.Done) × IsPrinted meaning command told text) ⊎ (((status ≡ statuses.Static) × IsStatic meaning command told line)
     ⊎ (((status ≡ statuses.Items) × IsItems meaning command told line) ⊎ ((status ≡ statuses.Missing) × IsMissing meaning command told line)))
 
-view : (meaning : LibraryMeaning) (command : Command) (told : Files) (status : Status) (text line : List ℕ) → Decided meaning command told status text line → View meaning command told status text line
-view meaning command told statuses.Done text line d = inl (refl, d.0)
-view meaning command told statuses.Static text line d = inr (inl (refl, d.0))
-view meaning command told statuses.Items text line d = inr (inr (inl (refl, d.0)))
-view meaning command told statuses.Missing text line d = inr (inr (inr (refl, d.0)))
-view meaning command told statuses.Usage text line d = absurd d
-view meaning command told statuses.Read text line d = absurd d
-view meaning command told statuses.Write text line d = absurd d
-view meaning command told statuses.Door text line d = absurd d
-view meaning command told statuses.No text line d = absurd d
-view meaning command told statuses.NotServed text line d = absurd d
-view meaning command told statuses.Memory text line d = absurd d
-
-module _ (meaning : LibraryMeaning) (files : Told) (command : Command) where
+module _ (meaning : LibraryMeaning) (files : Held) (command : Command) where
   abbrev Views : Status → List ℕ → List ℕ → Type 0
   Views = View meaning command (Some files)
 
-  same_view : (s r : Status) (t l u m : List ℕ) → IsFirm meaning command (Some files) s → Views s t l → Views r u m → s ≡ r
+  pub same_view : (s r : Status) (t l u m : List ℕ) → IsFirm meaning command (Some files) s → Views s t l → Views r u m → s ≡ r
   same_view s r t l u m firm (inl (a, p)) (inl (b, q)) = a ∙ sym b
   same_view s r t l u m firm (inl (a, p)) (inr (inl (b, q))) = absurd (printed_static meaning files command t m p q)
   same_view s r t l u m firm (inl (a, p)) (inr (inr (inl (b, q)))) = absurd (subst (IsFirm meaning command (Some files)) a firm m q)
@@ -177,53 +153,3 @@ module _ (meaning : LibraryMeaning) (files : Told) (command : Command) where
   same_view s r t l u m firm (inr (inr (inr (a, p)))) (inr (inl (b, q))) = absurd (static_missing meaning files command m l q p)
   same_view s r t l u m firm (inr (inr (inr (a, p)))) (inr (inr (inl (b, q)))) = absurd (items_missing meaning files command m l q p)
   same_view s r t l u m firm (inr (inr (inr (a, p)))) (inr (inr (inr (b, q)))) = a ∙ sym b
-
-one_command : (words : List (List ℕ)) (a b : Command) → Asks words a → Asks words b → a ≡ b
-one_command words (check file) (check other) x y = let e = sym x.0 ∙ y.0 in cc
-one_command words (check file) (plan other) x y = let e = sym x.0 ∙ y.0 in absurd cc
-one_command words (check file) (format other) x y = let e = sym x.0 ∙ y.0 in absurd cc
-one_command words (check file) (run other others) x y = let e = sym x.0 ∙ y.0 in absurd cc
-one_command words (check file) help x (inl y) = let e = sym x.0 ∙ y in absurd cc
-one_command words (check file) help x (inr y) = let e = sym x.0 ∙ y in absurd cc
-one_command words (plan file) (check other) x y = let e = sym x.0 ∙ y.0 in absurd cc
-one_command words (plan file) (plan other) x y = let e = sym x.0 ∙ y.0 in cc
-one_command words (plan file) (format other) x y = let e = sym x.0 ∙ y.0 in absurd cc
-one_command words (plan file) (run other others) x y = let e = sym x.0 ∙ y.0 in absurd cc
-one_command words (plan file) help x (inl y) = let e = sym x.0 ∙ y in absurd cc
-one_command words (plan file) help x (inr y) = let e = sym x.0 ∙ y in absurd cc
-one_command words (format file) (check other) x y = let e = sym x.0 ∙ y.0 in absurd cc
-one_command words (format file) (plan other) x y = let e = sym x.0 ∙ y.0 in absurd cc
-one_command words (format file) (format other) x y = let e = sym x.0 ∙ y.0 in cc
-one_command words (format file) (run other others) x y = let e = sym x.0 ∙ y.0 in absurd cc
-one_command words (format file) help x (inl y) = let e = sym x.0 ∙ y in absurd cc
-one_command words (format file) help x (inr y) = let e = sym x.0 ∙ y in absurd cc
-one_command words (run file items) (check other) x y = let e = sym x.0 ∙ y.0 in absurd cc
-one_command words (run file items) (plan other) x y = let e = sym x.0 ∙ y.0 in absurd cc
-one_command words (run file items) (format other) x y = let e = sym x.0 ∙ y.0 in absurd cc
-one_command words (run file items) (run other others) x y = let e = sym x.0 ∙ y.0 in cc
-one_command words (run file items) help x (inl y) = let e = sym x.0 ∙ y in absurd cc
-one_command words (run file items) help x (inr y) = let e = sym x.0 ∙ y in absurd cc
-one_command words help (check other) (inl x) y = let e = sym x ∙ y.0 in absurd cc
-one_command words help (check other) (inr x) y = let e = sym x ∙ y.0 in absurd cc
-one_command words help (plan other) (inl x) y = let e = sym x ∙ y.0 in absurd cc
-one_command words help (plan other) (inr x) y = let e = sym x ∙ y.0 in absurd cc
-one_command words help (format other) (inl x) y = let e = sym x ∙ y.0 in absurd cc
-one_command words help (format other) (inr x) y = let e = sym x ∙ y.0 in absurd cc
-one_command words help (run other others) (inl x) y = let e = sym x ∙ y.0 in absurd cc
-one_command words help (run other others) (inr x) y = let e = sym x ∙ y.0 in absurd cc
-one_command words help help x y = refl
-
-pub due_once : (meaning : LibraryMeaning) (words : List (List ℕ)) (files : Told) (s r : Status) (t l u m : List ℕ) → ((command : Command) → Asks words command → IsFirm meaning command (Some files) s)
-    → IsDue meaning words (Some files) s t l → IsDue meaning words (Some files) r u m → s ≡ r
-due_once meaning words files s r t l u m firm (inl a) (inl b) = a.1 ∙ sym b.1
-due_once meaning words files s r t l u m firm (inl a) (inr (c, asks, d)) = absurd (a.0 c asks)
-due_once meaning words files s r t l u m firm (inr (c, asks, d)) (inl b) = absurd (b.0 c asks)
-due_once meaning words files s r t l u m firm (inr (c, asks, d)) (inr (e, asked, f)) =
-    let same = one_command words e c asked asks in
-    same_view meaning files c s r t l u m (firm c asks) (view meaning c (Some files) s t l d) (view meaning c (Some files) r u m (subst (λ (x : Command). Decided meaning x (Some files) r u m) same f))
-
--- what is firm for the command that was asked for is firm for any
-pub firm_any : (meaning : LibraryMeaning) (words : List (List ℕ)) (own : Command) (told : Files) (status : Status) → Asks words own → IfSome told (λ files. IsFirm meaning own (Some files) status)
-    → IfSome told (λ files. (command : Command) → Asks words command → IsFirm meaning command (Some files) status)
-firm_any meaning words own None status mine firm = tt
-firm_any meaning words own (Some files) status mine firm = λ command asks. subst (λ (c : Command). IsFirm meaning c (Some files) status) (one_command words own command mine asks) firm

@@ -1,7 +1,8 @@
 -- The library that the program is built with.
 use Rattle.flux_values.specs.Meanings.{LibraryMeaning}
-use Rattle.nodes_counter.specs.Counters.{counter_meaning}
+use Rattle.flux_library.specs.Documents.{DocMap}
+use Rattle.nodes_all.specs.Alls.{all_meaning}
 
--- this goes with the library that `top` names
-abbrev pub built_in : LibraryMeaning
-built_in = counter_meaning
+-- its meaning, by its documents; this goes with the library that `top` names
+abbrev pub built_in : DocMap → LibraryMeaning
+built_in docs = all_meaning docs

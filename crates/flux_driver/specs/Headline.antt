@@ -1,5 +1,5 @@
 -- The headline: what `run` prints is the journal of a run that really follows the program.
-use Rattle.std.specs.Prelude.{◌≡◌, ℕ, List}
+use Rattle.std.specs.Prelude.{◌≡◌, ℕ, List, [], length}
 use Rattle.flux_values.specs.Meanings.{LibraryMeaning}
 use Rattle.flux_values.specs.Cells.{no_cell}
 use Rattle.flux_model.specs.declared.programs.Program.{Program}
@@ -9,12 +9,19 @@ use Rattle.flux_model.specs.declared.journals.Journal.{Journal}
 use Rattle.flux_model.specs.Locks.{Holds}
 use Rattle.flux_model.specs.Setup.{Setup}
 use Rattle.flux_model.specs.Legal.{IsLegal, IsWhole}
-use Rattle.flux_model.specs.Serial.{AreWalks}
 use Rattle.flux_model.specs.Texts.{printed_journal}
+use Rattle.flux_journal.specs.Formats.{printed_journal_2}
+use Rattle.flux_items.specs.Items.{AreItemsOf}
 use Rattle.flux_syntax.specs.ProgramOfText.{program_of}
+use Rattle.rt_event.specs.Round.{IsRound}
+use Rattle.rt_script.specs.Follow.{IsFollow}
+use Rattle.flux_words.specs.declared.values.Runtime.{Runtime}
+use Rattle.flux_words.specs.declared.values.Runtime.TheVariants.{Event, Script}
+use Rattle.flux_words.specs.declared.values.JournalFormat.{JournalFormat}
+use Rattle.flux_words.specs.declared.values.JournalFormat.TheVariants.{One, Two}
 use Rattle.flux_driver.specs.Worlds.{Files}
-use Rattle.flux_driver.specs.Inputs.{HasItems, kinds_in}
-use Rattle.flux_driver.specs.Items.{AreItemsOf}
+use Rattle.flux_driver.specs.Inputs.{HasItems}
+use Rattle.flux_driver.specs.Items.{rules_in}
 
 -- a program with its locks, items, a library, and cells that are all empty at the start
 abbrev pub setup_of : Program → Holds → List Item → LibraryMeaning → Setup
@@ -26,28 +33,38 @@ setup_of program locks items meaning = record {
   meaning = meaning;
 }
 
--- The entries are a true run of the items:
+-- the order in which a runtime lets flows go on: one event of each in turn, or as the script's numbers say
+abbrev pub IsOrderOf : Runtime → Setup → List Entry → Type 0
+IsOrderOf Event setup entries = IsRound setup [] entries
+IsOrderOf (Script numbers) setup entries = IsFollow setup [] numbers entries
+
+-- The entries are a true run of the items by a runtime:
 --   whole           each item's flow is one whole path of its walk, on its own calls' answers;
---   legal.answers   each call has its library node's answer, on the cells as they then stand;
+--   legal.answers   each call has its library node's answer, on the cells as earlier calls left them;
 --   legal.excludes  no take and no section overlaps one of another flow in conflict with it;
 --   legal.waits     each wait stands where a take is blocked, and nobody overtakes it;
 --   legal.free      at no moment do flows wait for each other in a circle;
--- and the flows come one after the other, in the order of the items. `legal` says too that the
--- locks are the program's.
+--   order           the flows went on in the runtime's order.
+-- `legal` says too that the locks are the program's.
 pub record IsTrueRun (program : Program) (items : List Item) (meaning : LibraryMeaning)
-    (entries : List Entry) : Type 0 where
+    (runtime : Runtime) (entries : List Entry) : Type 0 where
   pub locks : Holds
   pub legal : IsLegal (setup_of program locks items meaning) entries
   pub whole : IsWhole (setup_of program locks items meaning) entries
-  pub serial : AreWalks (setup_of program locks items meaning) 0 items entries
+  pub order : IsOrderOf runtime (setup_of program locks items meaning) entries
+
+-- a journal of so many flows in a format
+abbrev pub printed_in : JournalFormat → Program → ℕ → Journal → List ℕ
+printed_in One program flows journal = printed_journal program journal
+printed_in Two program flows journal = printed_journal_2 program flows journal
 
 -- the text is the printed journal of a true run: of the items of the one file, through the program of
--- the other
-pub record IsJournalText (meaning : LibraryMeaning) (told : Files) (file items text : List ℕ)
-    : Type 0 where
+-- the other, by a runtime and in a format
+pub record IsJournalText (meaning : LibraryMeaning) (told : Files) (file items : List ℕ)
+    (runtime : Runtime) (format : JournalFormat) (text : List ℕ) : Type 0 where
   pub has : HasItems meaning told file items
   pub its : List Item
-  pub are_items : AreItemsOf (program_of has.decls) (kinds_in meaning has.decls) its has.text
+  pub are_items : let own = has.program_ in AreItemsOf (rules_in meaning has.decls own.sound) its has.text
   pub journal : Journal
-  pub true_run : IsTrueRun (program_of has.decls) its meaning journal.entries
-  pub printed : text ≡ printed_journal (program_of has.decls) journal
+  pub true_run : IsTrueRun (program_of has.decls) its meaning runtime journal.entries
+  pub printed : text ≡ printed_in format (program_of has.decls) (length its) journal

@@ -1,12 +1,9 @@
 -- What the files of a command hold.
-use Rattle.std.specs.Prelude.{◌≡◌, ℕ, List, None}
+use Rattle.std.specs.Prelude.{◌≡◌, ℕ, List}
 use Rattle.flux_values.specs.Meanings.{LibraryMeaning}
 use Rattle.flux_outside.specs.declared.stores.File.TheVariants.{Found}
 use Rattle.flux_syntax.specs.declared.declarations.Decl.{Decl}
 use Rattle.flux_syntax.specs.Declares.{Declares}
-use Rattle.flux_model.specs.Kinds.{NodeKinds, node_kinds}
-use Rattle.flux_names.specs.Building.{first_unbuilt}
-use Rattle.flux_types.specs.Signatures.{sig_of}
 use Rattle.flux_check.specs.Judgement.{AreSound}
 use Rattle.flux_driver.specs.declared.files.TheConstants.{PROGRAM_FILE_LIMIT, ITEMS_FILE_LIMIT}
 use Rattle.flux_driver.specs.Worlds.{Files, Gives}
@@ -23,19 +20,9 @@ pub record HasProgram (meaning : LibraryMeaning) (told : Files) (file : List ℕ
   pub has : HasDecls told file decls
   pub sound : AreSound meaning decls
 
--- and no form stands in them that isn't run yet: an `atomic` line
-pub record CanBeRun (meaning : LibraryMeaning) (told : Files) (file : List ℕ) (decls : List Decl)
-    : Type 0 where
-  pub program : HasProgram meaning told file decls
-  pub built : first_unbuilt decls ≡ None
-
 -- and the items file is there too, within its limit
 pub record HasItems (meaning : LibraryMeaning) (told : Files) (file items : List ℕ) : Type 0 where
   pub decls : List Decl
-  pub source : CanBeRun meaning told file decls
+  pub program_ : HasProgram meaning told file decls
   pub text : List ℕ
   pub gives : Gives told items ITEMS_FILE_LIMIT (Found text)
-
--- what the nodes of sound declarations take and give
-abbrev pub kinds_in : LibraryMeaning → List Decl → ℕ → NodeKinds
-kinds_in meaning decls number = node_kinds (sig_of meaning.kind decls number)

@@ -1,36 +1,29 @@
--- The items text: printed items of the sources, each on a line.
-use Rattle.std.specs.Prelude.{◌≡◌, ℕ, ◌+◌, ◌<◌, ◌≤◌, ◌⊎◌, List, ◌++◌, length, codes}
-use Rattle.std.specs.List.{AllByRecursion, flat_map}
+-- What an items text is read by.
+use Rattle.std.specs.Prelude.{ℕ, List, map, Some}
+use Rattle.flux_values.specs.Meanings.{LibraryMeaning}
 use Rattle.flux_model.specs.declared.programs.Program.{Program}
-use Rattle.flux_model.specs.declared.journals.Item.{Item}
-use Rattle.flux_model.specs.Kinds.{NodeKinds}
-use Rattle.flux_model.specs.Items.{IsItemFor}
-use Rattle.flux_model.specs.Texts.{printed_item}
-use Rattle.flux_driver.specs.declared.items.TheConstants.{ITEM_LIMIT}
+use Rattle.flux_model.specs.Kinds.{NodeKinds, node_kinds}
+use Rattle.flux_model.specs.Locks.{Holds}
+use Rattle.flux_model.specs.Sizes.{source_size}
+use Rattle.flux_model.specs.Texts.{source_name}
+use Rattle.flux_syntax.specs.declared.declarations.Decl.{Decl}
+use Rattle.flux_syntax.specs.ProgramOfText.{program_of}
+use Rattle.flux_types.specs.Signatures.{sig_of}
+use Rattle.flux_check.specs.Judgement.{AreSound}
+use Rattle.flux_items.specs.declared.rules.ItemRules.{ItemRules}
 
--- a printed item, ended by LF
-abbrev pub item_line : Program → Item → List ℕ
-item_line p item = printed_item p item ++ codes "\n"
+-- the sources of a program: their names, the kinds of what they give, and how many events their flows have at most
+abbrev pub rules_of : Program → (ℕ → NodeKinds) → Holds → ItemRules
+rules_of p kinds locks = record {
+  names = map (λ line. source_name p (Some line)) p.sources;
+  kinds = map (λ line. let from = kinds line.node.0 in from.outs) p.sources;
+  sizes = map (source_size locks p) p.sources;
+}
 
--- the text is these items, at most 64 of them
-pub record AreItemsOf (p : Program) (kinds : ℕ → NodeKinds) (items : List Item) (text : List ℕ)
-    : Type 0 where
-  pub lines : text ≡ flat_map (item_line p) items
-  pub each : AllByRecursion (IsItemFor p kinds) items
-  pub few : length items ≤ ITEM_LIMIT
+-- what the nodes of sound declarations take and give
+abbrev pub kinds_in : LibraryMeaning → List Decl → ℕ → NodeKinds
+kinds_in meaning decls number = node_kinds (sig_of meaning.kind decls number)
 
--- no printed item of a source, ended by LF, begins the text
-abbrev pub BeginsNoItem : Program → (ℕ → NodeKinds) → List ℕ → Type 0
-BeginsNoItem p kinds text = (item : Item) (rest : List ℕ) → IsItemFor p kinds item
-    → text ≡ item_line p item ++ rest → ⊥
-
--- line n is the first that isn't a printed item ended by LF, or it is the 65th
-pub record IsItemFault (p : Program) (kinds : ℕ → NodeKinds) (n : ℕ) (text : List ℕ) : Type 0 where
-  pub items : List Item
-  pub rest : List ℕ
-  pub lines : text ≡ flat_map (item_line p) items ++ rest
-  pub each : AllByRecursion (IsItemFor p kinds) items
-  pub some : 0 < length rest
-  pub place : length items + 1 ≡ n
-  pub limit : n ≤ ITEM_LIMIT + 1
-  pub cause : (n ≡ ITEM_LIMIT + 1) ⊎ BeginsNoItem p kinds rest
+-- the sources of sound declarations
+abbrev pub rules_in : (meaning : LibraryMeaning) (decls : List Decl) → AreSound meaning decls → ItemRules
+rules_in meaning decls sound = rules_of (program_of decls) (kinds_in meaning decls) sound.locks

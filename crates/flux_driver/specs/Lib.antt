@@ -1,6 +1,7 @@
 pub mod steps
 pub mod Statuses
 pub mod Worlds
+pub mod Documents
 pub mod Commands
 pub mod Inputs
 pub mod Items

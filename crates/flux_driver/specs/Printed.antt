@@ -8,14 +8,14 @@ use Rattle.flux_model.specs.declared.signatures.NodeSig.{NodeSig}
 use Rattle.flux_types.specs.Signatures.{AreSigs}
 use Rattle.flux_hoist.specs.Reports.{IsReport}
 use Rattle.flux_hoist.specs.Plans.{printed_plan}
+use Rattle.flux_words.specs.Commands.{Command, check, plan, format, run, help}
 use Rattle.flux_driver.specs.Worlds.{Files}
-use Rattle.flux_driver.specs.Commands.{Command, check, plan, format, run, help}
 use Rattle.flux_driver.specs.Inputs.{HasDecls, HasProgram}
 use Rattle.flux_driver.specs.Headline.{IsJournalText}
 
 -- a line for each command that is built
 abbrev pub help_text : List ℕ
-help_text = codes "flux check FILE\nflux plan FILE\nflux format FILE\nflux run FILE ITEMS\nflux help or --help\n"
+help_text = codes "flux check FILE\nflux plan FILE\nflux format FILE\nflux run FILE ITEMS [--runtime R] [--docs DIR] [--journal J]\nflux help or --help\n"
 
 -- the report on the locks of a sound program
 pub record IsReportText (meaning : LibraryMeaning) (told : Files) (file text : List ℕ) : Type 0 where
@@ -38,5 +38,6 @@ IsPrinted meaning (check file) told text = IsReportText meaning told file text
 IsPrinted meaning (plan file) told text = IsPlanText meaning told file text
 IsPrinted meaning (format file) told text =
     (decls : List Decl) × HasDecls told file decls × (text ≡ formatted decls)
-IsPrinted meaning (run file items) told text = IsJournalText meaning told file items text
+IsPrinted meaning (run file items manner) told text =
+    IsJournalText meaning told file items manner.runtime manner.journal text
 IsPrinted meaning help told text = text ≡ help_text

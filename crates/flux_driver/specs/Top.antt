@@ -1,63 +1,88 @@
 -- What a call of the program has done, by what is seen of the world before and after.
-use Rattle.std.specs.Prelude.{◌≡◌, ◌≢◌, ◌≤◌, ℕ, ◌⊎◌, List, [], ◌∷◌, ◌++◌, Some, IfSome}
+use Rattle.std.specs.Prelude.{◌≡◌, ◌≢◌, ◌≤◌, ℕ, ◌⊎◌, List, [], ◌∷◌, ◌++◌, option_to_list, ⊤}
 use Rattle.flux_values.specs.Meanings.{LibraryMeaning}
 use Rattle.flux_outside.specs.Causes.{Rose}
 use Rattle.flux_syntax.specs.declared.declarations.Decl.{Decl}
+use Rattle.flux_words.specs.Commands.{Command, check, plan, format, run, help, Spells, SpellsNone}
 use Rattle.flux_driver.specs.declared.statuses.Status.{Status}
 use Rattle.flux_driver.specs.declared.statuses.Status.TheVariants as statuses
-use Rattle.flux_driver.specs.Worlds.{Files, Seen, Wrote, Broke, WroteOrBroke}
-use Rattle.flux_driver.specs.Commands.{Command, check, plan, format, run, help, Asks, AsksNothing}
-use Rattle.flux_driver.specs.Inputs.{CanBeRun}
-use Rattle.flux_driver.specs.Answers.{IsDue, IsAnswer, OrMemory}
+use Rattle.flux_driver.specs.Worlds.{Files, Told, Seen, Wrote, Broke, WroteOrBroke}
+use Rattle.flux_driver.specs.Documents.{WithDocs, TellsAll}
+use Rattle.flux_driver.specs.Commands.{folder_of}
+use Rattle.flux_driver.specs.Inputs.{HasProgram}
+use Rattle.flux_driver.specs.Answers.{Libraries, Decided, IsAnswer, OrMemory}
 
 -- ---- what was asked for
 
--- the names of files that a command asks for, in order: `run` asks for the items only behind a program
--- that can be run
-abbrev pub AreAsked : LibraryMeaning → Command → Files → List (List ℕ) → Type 0
-AreAsked meaning (check file) told names = names ≡ file ∷ []
-AreAsked meaning (plan file) told names = names ≡ file ∷ []
-AreAsked meaning (format file) told names = names ≡ file ∷ []
-AreAsked meaning (run file items) told names = (names ≡ file ∷ [])
-    ⊎ ((names ≡ file ∷ items ∷ []) × (decls : List Decl) × CanBeRun meaning told file decls)
-AreAsked meaning help told names = names ≡ []
+-- the names of files that a command asks for, in order: `run` asks for the items only behind a sound
+-- program
+abbrev pub AreFiles : LibraryMeaning → Command → Files → List (List ℕ) → Type 0
+AreFiles meaning (check file) told names = names ≡ file ∷ []
+AreFiles meaning (plan file) told names = names ≡ file ∷ []
+AreFiles meaning (format file) told names = names ≡ file ∷ []
+AreFiles meaning (run file items manner) told names = (names ≡ file ∷ [])
+    ⊎ ((names ≡ file ∷ items ∷ []) × (decls : List Decl) × HasProgram meaning told file decls)
+AreFiles meaning help told names = names ≡ []
 
--- so a command has asked
-pub record AsksFor (meaning : LibraryMeaning) (command : Command) (told : Files)
-    (before after : List (List ℕ)) : Type 0 where
+-- the statuses that come where the documents weren't read
+abbrev pub IsStopped : Status → Type 0
+IsStopped statuses.Read = ⊤
+IsStopped statuses.Missing = ⊤
+IsStopped statuses.Memory = ⊤
+IsStopped other = ⊥
+
+-- a command asks first for its folder of documents, where one is named, and for files only behind the
+-- documents
+pub record AsksFor (library : Libraries) (command : Command) (told : Told) (status : Status)
+    (dirs names : List (List ℕ)) : Type 0 where
+  pub folder : dirs ≡ option_to_list (folder_of command)
+  pub files : WithDocs library command told (λ meaning. AreFiles meaning command told.files names)
+      ⊎ ((names ≡ []) × IsStopped status)
+
+-- words that are no command ask for nothing, nor do those that there was no memory to read
+abbrev pub AsksNothing : List (List ℕ) → Status → List (List ℕ) → List (List ℕ) → Type 0
+AsksNothing words status dirs names = (dirs ≡ []) × (names ≡ [])
+    × (SpellsNone words ⊎ (status ≡ statuses.Memory))
+
+-- so words have asked the folder and the store
+pub record HasAsked (library : Libraries) (words : List (List ℕ)) (told : Told) (status : Status)
+    (folder folder_after store store_after : List (List ℕ)) : Type 0 where
+  pub dirs : List (List ℕ)
   pub names : List (List ℕ)
-  pub more : after ≡ before ++ names
-  pub are : AreAsked meaning command told names
-
--- words that are no command ask for nothing
-abbrev pub HaveAsked : LibraryMeaning → List (List ℕ) → Files → List (List ℕ) → List (List ℕ)
-    → Type 0
-HaveAsked meaning words told before after = (AsksNothing words × (after ≡ before))
-    ⊎ ((command : Command) × Asks words command × AsksFor meaning command told before after)
+  pub folder_ : folder_after ≡ folder ++ dirs
+  pub store_ : store_after ≡ store ++ names
+  pub are : AsksNothing words status dirs names
+      ⊎ ((command : Command) × Spells words command × AsksFor library command told status dirs names)
 
 -- ---- what was printed and said
 
 -- the text is on `out`, all of it, or a front of it where writing failed; the line is on `err`, all of
 -- it, or a front of it where `err` failed
-pub record HasAnswered (meaning : LibraryMeaning) (words : List (List ℕ)) (before : Seen)
+pub record HasAnswered (library : Libraries) (words : List (List ℕ)) (before : Seen)
     (status : Status) (after : Seen) : Type 0 where
   pub text : List ℕ
   pub line : List ℕ
-  pub cause : IsAnswer meaning words before.files status text line
+  pub cause : IsAnswer library words before.told status text line
   pub out : Wrote before.out after.out text
       ⊎ ((status ≡ statuses.Write) × Broke before.out after.out text)
   pub err : WroteOrBroke before.err after.err line
 
 -- ---- counts of failures
 
--- the count rose where the status is this one, and stands as before where it is another
-pub record RoseFor (own status : Status) (before after : ℕ) : Type 0 where
-  pub failed : status ≡ own → Rose before after
-  pub steady : status ≢ own → after ≡ before
+-- status 5 comes only where the store's count rose, or the folder's; with any other both stand as before
+pub record RoseForReading (status : Status) (store store_after folder folder_after : ℕ) : Type 0 where
+  pub failed : status ≡ statuses.Read → Rose store store_after ⊎ Rose folder folder_after
+  pub steady : status ≢ statuses.Read → (store_after ≡ store) × (folder_after ≡ folder)
 
--- none of the three counts fell
+-- the same of status 6 and the count of `out`
+pub record RoseForWriting (status : Status) (out out_after : ℕ) : Type 0 where
+  pub failed : status ≡ statuses.Write → Rose out out_after
+  pub steady : status ≢ statuses.Write → out_after ≡ out
+
+-- none of the four counts fell
 pub record AreLater (before after : Seen) : Type 0 where
-  pub reading : before.faults ≤ after.faults
+  pub store : let own = before.store in let later = after.store in own.faults ≤ later.faults
+  pub folder : let own = before.folder in let later = after.folder in own.faults ≤ later.faults
   pub out : let own = before.out in let later = after.out in own.faults ≤ later.faults
   pub err : let own = before.err in let later = after.err in own.faults ≤ later.faults
 
@@ -68,27 +93,34 @@ abbrev pub Decides : Status → Status → Type 0
 Decides status due = (status ≡ due) ⊎ ((status ≡ statuses.Read)
     ⊎ ((status ≡ statuses.Write) × (due ≡ statuses.Done)))
 
--- what words and told files decide is answered
-abbrev pub IsComplete : LibraryMeaning → List (List ℕ) → Files → Status → Type 0
-IsComplete meaning words told status = IfSome told (λ files. (due : Status) (text line : List ℕ)
-    → IsDue meaning words (Some files) due text line → OrMemory status (Decides status due))
+-- what a command decides, where all that it reads is told, is answered
+abbrev pub IsComplete : Libraries → List (List ℕ) → Told → Status → Type 0
+IsComplete library words told status = (command : Command) → Spells words command
+    → TellsAll told command → (due : Status) (text line : List ℕ)
+    → Decided library command told due text line → OrMemory status (Decides status due)
 
 -- ---- the whole
 
 -- A call with these words answers this status:
---   the files are as before, no count of failures falls, and the words say which files were asked for;
+--   what is told of files and folders is as before, no count of failures falls, and the words say which
+--   folder and which files were asked for, in which order;
 --   the status has its cause, and `out` and `err` have gained what belongs to it;
---   with status 5 the count of the files rose, and with any other it stands as before; the same of
---   status 6 and the count of `out`;
+--   with status 5 the count of the store or of the folder rose, and with any other both stand as
+--   before; the same of status 6 and the count of `out`;
 --   words that are no command are refused, and what is due is answered, unless memory was short.
-pub record HasDone (meaning : LibraryMeaning) (words : List (List ℕ)) (before : Seen)
+pub record HasDone (library : Libraries) (words : List (List ℕ)) (before : Seen)
     (status : Status) (after : Seen) : Type 0 where
-  pub kept : after.files ≡ before.files
+  pub kept : after.told ≡ before.told
   pub later : AreLater before after
-  pub asked : HaveAsked meaning words before.files before.asked after.asked
-  pub answered : HasAnswered meaning words before status after
-  pub reading : RoseFor statuses.Read status before.faults after.faults
+  pub asked : let folder = before.folder in let folder_after = after.folder in
+      let store = before.store in let store_after = after.store in
+      HasAsked library words before.told status folder.asked folder_after.asked store.asked
+      store_after.asked
+  pub answered : HasAnswered library words before status after
+  pub reading : let folder = before.folder in let folder_after = after.folder in
+      let store = before.store in let store_after = after.store in
+      RoseForReading status store.faults store_after.faults folder.faults folder_after.faults
   pub writing : let own = before.out in let later = after.out in
-      RoseFor statuses.Write status own.faults later.faults
-  pub usage : AsksNothing words → OrMemory status (status ≡ statuses.Usage)
-  pub complete : IsComplete meaning words before.files status
+      RoseForWriting status own.faults later.faults
+  pub usage : SpellsNone words → OrMemory status (status ≡ statuses.Usage)
+  pub complete : IsComplete library words before.told status

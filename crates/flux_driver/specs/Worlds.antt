@@ -3,6 +3,7 @@ use Rattle.std.specs.Prelude.{◌≡◌, ℕ, ◌⊎◌, List, ◌++◌, Option,
 use Rattle.std.specs.Option.{option_map}
 use Rattle.flux_outside.specs.Causes.{Rose}
 use Rattle.flux_outside.specs.Stores.{file_of, FitsIn}
+use Rattle.flux_outside.specs.declared.memory.FileBytes.{FileBytes}
 use Rattle.flux_outside.specs.declared.stores.File.{File}
 use Rattle.flux_outside.specs.declared.stores.File.TheVariants.{Missing, Longer}
 
@@ -10,16 +11,30 @@ use Rattle.flux_outside.specs.declared.stores.File.TheVariants.{Missing, Longer}
 abbrev pub Files : Type 0
 Files = Option (List ℕ → Option (List ℕ))
 
+-- the documents of folders by their names, in order, where they are told
+abbrev pub Folders : Type 0
+Folders = Option (List ℕ → Option (List FileBytes))
+
+-- what is told of both
+pub record Told : Type 0 where
+  pub files : Files
+  pub folders : Folders
+
+-- what gives files: the names that it was asked for, and how often it has failed; the same of folders
+pub record Giver : Type 0 where
+  pub asked : List (List ℕ)
+  pub faults : ℕ
+
 -- a stream: what was written on it, where that is told, and how often it has failed
 pub record Stream : Type 0 where
   pub written : Option (List ℕ)
   pub faults : ℕ
 
--- the files, the names that were asked for, how often reading has failed, and the two streams
+-- what files and folders hold, who gives them, and the two streams
 pub record Seen : Type 0 where
-  pub files : Files
-  pub asked : List (List ℕ)
-  pub faults : ℕ
+  pub told : Told
+  pub store : Giver
+  pub folder : Giver
   pub out : Stream
   pub err : Stream
 

@@ -1,6 +1,6 @@
-pub mod ItemLines
-pub mod Running
-pub mod Flows
+-- Mirrors of what the code does step by step. No public clause cites them.
+pub mod Documents
 pub mod Refusals
+pub mod Running
 pub mod Preparing
 pub mod Telling

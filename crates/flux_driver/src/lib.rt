@@ -5,20 +5,21 @@
 //! comes exactly for its cause.
 #![tactic(auto)]
 
+mod asking;
 mod commands;
+mod documents;
 mod files;
-mod items;
 mod outermost;
-mod printing;
 mod refusals;
+mod rules;
 mod running;
 mod statuses;
 mod telling;
 #[cfg(test)]
 mod tests;
 mod texts;
-mod words;
 mod writing;
 
-pub use outermost::{World, top};
+pub use flux_words::needs_threads;
+pub use outermost::{World, top, top_alone};
 pub use statuses::Status;

@@ -1,51 +1,64 @@
 //! All that the program does, as one call.
 
+ghost use Rattle.flux_words.specs.Commands.{Command, Spells, NeedsThreads};
 ghost use Rattle.flux_driver.specs.BuiltIn.{built_in};
 ghost use Rattle.flux_driver.specs.Top.{HasDone};
 
-use crate::commands::prepare;
+use crate::asking::prepare_words;
 use crate::statuses::Status;
 use crate::telling::{print, refuse};
-use flux_library::Library;
-use flux_outside::{Sink, Store};
+use flux_outside::{Folder, Gate, Sink, Store};
 use flux_values::Bytes;
-use nodes_counter::Counter;
+use flux_words::needs_threads;
 use std::alloc::Global;
+use std::marker::Sync;
+use std::sync::Wait;
+use std::thread::Threads;
 
-/// The outside world: the files that are named, the stream that is printed on, and the stream for lines
-/// about what went wrong.
+/// The outside world: the files that are named, the folders of documents, the stream that is printed on,
+/// and the stream for lines about what went wrong.
 #[derive(Drop)]
-pub struct World<S: Store, O: Sink, E: Sink> {
+pub struct World<S: Store, F: Folder, O: Sink, E: Sink> {
     pub store: S,
+    pub folder: F,
     pub out: O,
     pub err: E,
 }
 
-/// Does what the words say with a library.
-fn carry_out<L: Library, S: Store, O: Sink, E: Sink>(
+/// Does what the words say without starting a thread, and answers how it ended.
+///
+/// It has the whole clause of `top`. `needs_threads` tells whether words may come here.
+pub fn top_alone<S: Store, F: Folder, O: Sink, E: Sink, G: Gate>(
     alloc: Global,
-    library: &L,
     words: &[Bytes],
-    world: &mut World<S, O, E>,
+    world: &mut World<S, F, O, E>,
+    gate: &G,
 ) -> Status
-    ensures { HasDone (L.meaning library.now) words.now
+    requires { (command : Command) → Spells words.now command → NeedsThreads command → ⊥ }
+    ensures { HasDone built_in words.now
         (record {
-          files = S.files world.old.store;
-          asked = S.asked world.old.store;
-          faults = S.faults world.old.store;
+          told = record {
+            files = S.files world.old.store;
+            folders = F.folders world.old.folder;
+          };
+          store = record { asked = S.asked world.old.store; faults = S.faults world.old.store };
+          folder = record { asked = F.asked world.old.folder; faults = F.faults world.old.folder };
           out = record { written = O.written world.old.out; faults = O.faults world.old.out };
           err = record { written = E.written world.old.err; faults = E.faults world.old.err };
         })
         result
         (record {
-          files = S.files world.new.store;
-          asked = S.asked world.new.store;
-          faults = S.faults world.new.store;
+          told = record {
+            files = S.files world.new.store;
+            folders = F.folders world.new.folder;
+          };
+          store = record { asked = S.asked world.new.store; faults = S.faults world.new.store };
+          folder = record { asked = F.asked world.new.folder; faults = F.faults world.new.folder };
           out = record { written = O.written world.new.out; faults = O.faults world.new.out };
           err = record { written = E.written world.new.err; faults = E.faults world.new.err };
         }) }
 {
-    match prepare(alloc, library, &mut world.store, words) {
+    match prepare_words(alloc, &mut world.store, &mut world.folder, gate, words) {
         Ok(text) => print(&mut world.out, &mut world.err, text.as_bytes()),
         Err(refusal) => refuse(alloc, &mut world.err, refusal),
     }
@@ -57,28 +70,42 @@ fn carry_out<L: Library, S: Store, O: Sink, E: Sink>(
 /// and reports on its locks, `plan FILE` prints what its nodes take, give, hold and count,
 /// `format FILE` prints its formatted text, `run FILE ITEMS` runs the items of one file through the program
 /// of another and prints the journal of their flows, and `help` prints the commands. The clause speaks of
-/// what is seen of the world before and after the call.
-pub fn top<S: Store, O: Sink, E: Sink>(
+/// what is seen of the world before and after the call. The gate is told before and after each call of a
+/// node.
+pub fn top<S: Store, F: Folder, O: Sink, E: Sink, G: Gate, Rt: Threads + Wait + Sync>(
+    rt: &Rt,
     alloc: Global,
     words: &[Bytes],
-    world: &mut World<S, O, E>,
+    world: &mut World<S, F, O, E>,
+    gate: &G,
 ) -> Status
     ensures { HasDone built_in words.now
         (record {
-          files = S.files world.old.store;
-          asked = S.asked world.old.store;
-          faults = S.faults world.old.store;
+          told = record {
+            files = S.files world.old.store;
+            folders = F.folders world.old.folder;
+          };
+          store = record { asked = S.asked world.old.store; faults = S.faults world.old.store };
+          folder = record { asked = F.asked world.old.folder; faults = F.faults world.old.folder };
           out = record { written = O.written world.old.out; faults = O.faults world.old.out };
           err = record { written = E.written world.old.err; faults = E.faults world.old.err };
         })
         result
         (record {
-          files = S.files world.new.store;
-          asked = S.asked world.new.store;
-          faults = S.faults world.new.store;
+          told = record {
+            files = S.files world.new.store;
+            folders = F.folders world.new.folder;
+          };
+          store = record { asked = S.asked world.new.store; faults = S.faults world.new.store };
+          folder = record { asked = F.asked world.new.folder; faults = F.faults world.new.folder };
           out = record { written = O.written world.new.out; faults = O.faults world.new.out };
           err = record { written = E.written world.new.err; faults = E.faults world.new.err };
         }) }
 {
-    carry_out(alloc, &Counter, words, world)
+    // No runtime that starts threads can be asked for yet.
+    let _ = rt;
+    if needs_threads(words) {
+        unreachable!()
+    }
+    top_alone(alloc, words, world, gate)
 }

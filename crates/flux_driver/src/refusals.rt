@@ -1,10 +1,13 @@
 //! Why a command was not carried out, and what is said about it.
 
-ghost use Rattle.std.specs.Prelude.{◌≡◌, IfOk};
+ghost use Rattle.std.specs.Prelude.{◌≡◌, ◌++◌, IfOk, OnOk};
 ghost use Rattle.flux_driver.specs.declared.refusals.Refusal.TheVariants as refusals;
-ghost use Rattle.flux_driver.specs.steps.Refusals.{status_of, line_of};
+ghost use Rattle.flux_driver.specs.Causes.{item_fault_name, item_fault_line};
+ghost use Rattle.flux_driver.specs.steps.Refusals.{status_of, line_of, of_items};
+ghost use Rattle.flux_items.specs.Faults.{line_of as number_of};
 
 use crate::statuses::Status;
+use flux_items::ItemFault;
 use flux_values::{Bytes, Memory, append_number};
 use std::alloc::Global;
 
@@ -14,10 +17,10 @@ pub enum Refusal<'a> {
     Usage,
     /// The line about a fault of the program's text.
     Static(Bytes),
-    /// The first line of the items text that is none, from 1.
-    Items(u64),
+    /// The fault of the items text.
+    Items(ItemFault),
     Read,
-    /// The name of a file that is missing or too long.
+    /// The name of a file or a folder that is missing or too long.
     Missing(&'a [u8]),
     Memory,
 }
@@ -28,6 +31,53 @@ impl<'a> From<Memory> for Refusal<'a> {
     fn from(_e: Memory) -> Refusal<'a> {
         Refusal::Memory
     }
+}
+
+impl<'a> From<ItemFault> for Refusal<'a> {
+    ghost from_gives = { λ fault e. e ≡ of_items fault };
+
+    fn from(fault: ItemFault) -> Refusal<'a> {
+        match fault {
+            ItemFault::Memory => Refusal::Memory,
+            _ => Refusal::Items(fault),
+        }
+    }
+}
+
+/// The number of the line of an item fault.
+fn number_of(fault: ItemFault) -> u64
+    ensures { result ≡ number_of fault }
+{
+    match fault {
+        ItemFault::BadItem { line } => line,
+        ItemFault::UnknownSource { line } => line,
+        ItemFault::ItemTypes { line } => line,
+        ItemFault::TooMany { line } => line,
+        ItemFault::Memory => 0,
+    }
+}
+
+/// The number and the name of an item fault.
+fn name_of(fault: ItemFault) -> &'static [u8]
+    ensures { result.now ≡ item_fault_name fault }
+{
+    match fault {
+        ItemFault::BadItem { .. } => b"1 BadItem",
+        ItemFault::UnknownSource { .. } => b"2 UnknownSource",
+        ItemFault::ItemTypes { .. } => b"3 ItemTypes",
+        ItemFault::TooMany { .. } => b"4 TooMany",
+        ItemFault::Memory => b"",
+    }
+}
+
+fn append_fault(alloc: Global, line: &mut Bytes, fault: ItemFault) -> Result<(), Memory>
+    ensures { OnOk result (line.new ≡ line.old ++ item_fault_line fault) }
+{
+    line.append(b"line ")?;
+    append_number(alloc, line, number_of(fault))?;
+    line.append(b": item fault ")?;
+    line.append(name_of(fault))?;
+    line.append(b"\n")
 }
 
 impl<'a> Refusal<'a> {
@@ -52,11 +102,7 @@ impl<'a> Refusal<'a> {
         match self {
             Refusal::Usage => line.append(b"flux: bad command line, try flux --help\n")?,
             Refusal::Static(text) => line.append(text.as_bytes())?,
-            Refusal::Items(place) => {
-                line.append(b"line ")?;
-                append_number(alloc, &mut line, *place)?;
-                line.append(b": item fault 0 NotBuilt\n")?;
-            }
+            Refusal::Items(fault) => append_fault(alloc, &mut line, *fault)?,
             Refusal::Read => line.append(b"flux: read failed\n")?,
             Refusal::Missing(name) => {
                 line.append(b"flux: missing or too long: ")?;

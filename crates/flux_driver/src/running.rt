@@ -1,200 +1,154 @@
-//! The flows of items, run one after the other: each goes by the plan of its item's source line, event by event.
+//! The run of an items text, from a checked program to the printed journal.
 
-ghost use Rattle.std.specs.Prelude.{◌≡◌, ◌≢◌, ◌++◌, ◌∷◌, [], ◌<◌, ◌≤◌, Some, IfOk, OnOk, length, slice_get};
-ghost use Rattle.flux_model.specs.Locks.{no_locks};
-ghost use Rattle.flux_model.specs.Matching.{patterns_match};
-ghost use Rattle.flux_plan.specs.declared.locals.Next.TheVariants as nexts;
+ghost use Rattle.std.specs.Prelude.{◌≡◌, [], List, IfOk, IfErr};
+ghost use Rattle.std.specs.Arc.{arc_value};
+ghost use Rattle.flux_model.specs.declared.journals.Item.{Item};
+ghost use Rattle.flux_model.specs.Kinds.{kinds_at};
+ghost use Rattle.flux_model.specs.Soundness.{IsSound};
 ghost use Rattle.flux_plan.specs.Runs.{ArePlansOf};
-ghost use Rattle.flux_plan.specs.Moves.{next_in, IsReached};
-ghost use Rattle.flux_driver.specs.Headline.{setup_of, IsTrueRun};
-ghost use Rattle.flux_driver.specs.steps.Running.{CanRun};
-ghost use Rattle.flux_driver.specs.steps.Flows.{IsReady, IsReply, IsComing, IsEventNext, MayBegin, IsOnWay, HasGoneOn, HasRun};
+ghost use Rattle.flux_hoist.specs.Sets.{held_by};
+ghost use Rattle.flux_items.specs.declared.rules.ItemFault.{ItemFault};
+ghost use Rattle.flux_items.specs.Items.{AreItemsOf};
+ghost use Rattle.flux_items.specs.Faults.{IsFaultOf};
+ghost use Rattle.flow_core.specs.States.{setup_in, opened};
+ghost use Rattle.flux_driver.specs.declared.refusals.Refusal.TheVariants as refusals;
+ghost use Rattle.flux_driver.specs.Headline.{printed_in};
+ghost use Rattle.flux_driver.specs.Items.{rules_of};
+ghost use Rattle.flux_driver.specs.steps.Running.{HasSources, CanRun, IsDriven, IsJournalOf, IsWritten, AreRefused};
 
+use crate::refusals::Refusal;
+use crate::rules::rules_for;
+use flow_core::{Core, Setup};
+use flux_cells::Cells;
+use flux_compile::compile;
+use flux_hoist::Checked;
+use flux_items::read_items;
+use flux_journal::{print_journal, print_journal_2};
 use flux_library::Library;
-use flux_model::{Body, CallMade, Entry, Event, FlowNo, Item, Journal, NodeNo, Program};
-use flux_plan::{Local, Next, VerifiedPlan, advance, answered, next};
-use flux_values::{Answer, List, Memory, Value};
+use flux_model::{Item, Journal, Program};
+use flux_outside::Gate;
+use flux_plan::VerifiedPlan;
+use flux_values::{Bytes, List, Memory};
+use flux_words::{JournalFormat, Runtime};
+use rt_event::EventLoop;
+use rt_script::Script;
 use std::alloc::Global;
+use std::sync::Arc;
 
-/// An item's flow, with the plan that it goes by.
-#[derive(Drop)]
-struct Flow<'a, L: Library> {
-    library: &'a L,
-    program: &'a Program,
-    items: &'a [Item],
-    plan: &'a VerifiedPlan,
-    number: FlowNo,
+/// How items are run: by which runtime, and in which format their journal is printed.
+#[derive(Debug, Drop)]
+pub struct Wanted {
+    pub runtime: Runtime,
+    pub journal: JournalFormat,
 }
 
-fn copy_values(alloc: Global, values: &[Value]) -> Result<List<Value>, Memory>
-    ensures { IfOk result (λ copies. copies ≡ values.now) }
-{
-    let mut copies = List::new(alloc);
-    for value in values {
-        copies.add(value.copy(alloc)?)?;
-    }
-    Ok(copies)
-}
-
-impl<L: Library> Flow<'_, L> {
-    /// What comes next; None where the flow has ended.
-    fn coming(&self, local: &Local) -> Option<Next>
-        requires { let matches = patterns_match (L.meaning self.now.library.now)
-            self.now.program.now.predicates in
-            IsReached self.now.plan.now matches local.now }
-        ensures { let matches = patterns_match (L.meaning self.now.library.now)
-            self.now.program.now.predicates in
-            IsComing self.now.plan.now matches local.now result }
-    {
-        match next(self.program, self.plan, local, self.library) {
-            Next::Ended => None,
-            coming => Some(coming),
-        }
-    }
-
-    fn record(&self, event: Event, entries: &mut List<Entry>) -> Result<(), Memory>
-        ensures { OnOk result (entries.new ≡ entries.old
-            ++ record { flow = self.now.number; event = event } ∷ []) }
-    {
-        entries.add(Entry {
-            flow: self.number,
-            event,
-        })
-    }
-
-    /// The answer of a concrete node. Where no node declares a constraint, none uses a cell.
-    fn ask(&self, alloc: Global, node: NodeNo, args: &[Value]) -> Result<Answer, Memory>
-        requires { IsReady (L.meaning self.now.library.now)
-            (slice_get self.now.program.now.nodes node.0) args.now }
-        ensures { IfOk result (IsReply (L.meaning self.now.library.now)
-            (slice_get self.now.program.now.nodes node.0) args.now) }
-    {
-        let Some(found) = self.program.nodes.get(node.0 as usize) else {
-            unreachable!();
-        };
-        match &found.body {
-            Body::Concrete(name) => self.library.call(alloc, name.as_bytes(), args, &[]),
-            Body::Abstract(_) => unreachable!(),
-        }
-    }
-
-    /// Calls a node, and takes its answer.
-    fn call(
-        &self,
-        alloc: Global,
-        node: NodeNo,
-        local: &mut Local,
-        entries: &mut List<Entry>,
-    ) -> Result<(), Memory>
-        requires can { CanRun self.now.program.now self.now.items.now
-            (L.meaning self.now.library.now) }
-        requires on_way { IsOnWay (setup_of self.now.program.now no_locks self.now.items.now
-            (L.meaning self.now.library.now))
-            self.now.plan.now entries.old self.now.number.0 local.old }
-        requires coming { let matches = patterns_match (L.meaning self.now.library.now)
-            self.now.program.now.predicates in
-            next_in self.now.plan.now matches local.old ≡ Some (nexts.Call node) }
-        ensures { OnOk result (HasGoneOn (setup_of self.now.program.now no_locks
-            self.now.items.now (L.meaning self.now.library.now))
-            self.now.plan.now self.now.number.0 entries.old entries.new local.new) }
-    {
-        let args = copy_values(alloc, local.args())?;
-        let answer = self.ask(alloc, node, args.as_slice())?;
-        answered(self.plan, local, &answer)?;
-        self.record(Event::Call(CallMade { node, args, answer }), entries)
-    }
-
-    /// Makes the event that comes next.
-    fn make(&self, event: Event, local: &mut Local, entries: &mut List<Entry>) -> Result<(), Memory>
-        requires on_way { IsOnWay (setup_of self.now.program.now no_locks self.now.items.now
-            (L.meaning self.now.library.now))
-            self.now.plan.now entries.old self.now.number.0 local.old }
-        requires coming { let matches = patterns_match (L.meaning self.now.library.now)
-            self.now.program.now.predicates in
-            IsEventNext self.now.plan.now matches local.old event }
-        ensures { OnOk result (HasGoneOn (setup_of self.now.program.now no_locks
-            self.now.items.now (L.meaning self.now.library.now))
-            self.now.plan.now self.now.number.0 entries.old entries.new local.new) }
-    {
-        advance(self.program, self.plan, local, self.library)?;
-        self.record(event, entries)
-    }
-
-    /// Does what comes next. Where no node declares a constraint, nothing is taken or dropped.
-    fn go_on(
-        &self,
-        alloc: Global,
-        coming: Next,
-        local: &mut Local,
-        entries: &mut List<Entry>,
-    ) -> Result<(), Memory>
-        requires can { CanRun self.now.program.now self.now.items.now
-            (L.meaning self.now.library.now) }
-        requires on_way { IsOnWay (setup_of self.now.program.now no_locks self.now.items.now
-            (L.meaning self.now.library.now))
-            self.now.plan.now entries.old self.now.number.0 local.old }
-        requires coming { let matches = patterns_match (L.meaning self.now.library.now)
-            self.now.program.now.predicates in
-            IsComing self.now.plan.now matches local.old (Some coming) }
-        ensures { OnOk result (HasGoneOn (setup_of self.now.program.now no_locks
-            self.now.items.now (L.meaning self.now.library.now))
-            self.now.plan.now self.now.number.0 entries.old entries.new local.new) }
-    {
-        match coming {
-            Next::Enter(node) => self.make(Event::Enter(node), local, entries),
-            Next::Choose(number) => self.make(Event::Choose(number), local, entries),
-            Next::Call(node) => self.call(alloc, node, local, entries),
-            Next::Exit(node, outcome) => self.make(Event::Exit(node, outcome), local, entries),
-            Next::End(outcome) => self.make(Event::End(outcome), local, entries),
-            Next::Take(_, _) | Next::Drop(_) | Next::Ended => unreachable!(),
-        }
-    }
-
-    /// Runs the flow to its end.
-    fn run(&self, alloc: Global, entries: &mut List<Entry>) -> Result<(), Memory>
-        requires can { CanRun self.now.program.now self.now.items.now
-            (L.meaning self.now.library.now) }
-        requires number { self.now.number.0 < length self.now.items.now }
-        requires begins { MayBegin (setup_of self.now.program.now no_locks self.now.items.now
-            (L.meaning self.now.library.now)) self.now.plan.now entries.old self.now.number.0 }
-        ensures { OnOk result (HasRun (setup_of self.now.program.now no_locks self.now.items.now
-            (L.meaning self.now.library.now)) self.now.number.0 entries.old entries.new) }
-    {
-        let item = &self.items[self.number.0 as usize];
-        let values = copy_values(alloc, item.values.as_slice())?;
-        let mut local = Local::new(alloc, values)?;
-        while let Some(coming) = self.coming(&local) {
-            self.go_on(alloc, coming, &mut local, entries)?;
-        }
-        Ok(())
-    }
-}
-
-/// The journal of the items' flows, one after the other, by the plans of the program.
-pub fn run<L: Library>(
-    alloc: Global,
-    library: &L,
-    program: &Program,
-    plans: &[VerifiedPlan],
-    items: &[Item],
+/// The journal of a core that is driven to its end.
+fn drive<L: Library, G: Gate>(
+    core: Core<L>,
+    runtime: Runtime,
+    gate: &G,
 ) -> Result<Journal, Memory>
-    requires can { CanRun program.now items.now (L.meaning library.now) }
-    requires plans { ArePlansOf program.now plans.now }
-    requires few { length items.now ≤ 64 }
-    ensures { IfOk result (λ journal. IsTrueRun program.now items.now
-        (L.meaning library.now) journal.entries) }
+    requires { core.entries ≡ [] }
+    ensures { IfOk result (λ journal. IsDriven (setup_in L.meaning core) runtime journal.entries) }
 {
-    let mut entries = List::new(alloc);
-    for number in 0..items.len() {
-        let source = items[number].source;
-        let flow = Flow {
-            library,
-            program,
-            items,
-            plan: &plans[source.0 as usize],
-            number: FlowNo(number as u32),
-        };
-        flow.run(alloc, &mut entries)?;
+    let driven = match runtime {
+        Runtime::Event => EventLoop { helpers: 0 }.drive_alone(core, gate),
+        Runtime::Script(numbers) => Script { numbers }.drive_alone(core, gate),
+    };
+    match driven {
+        Ok(core) => Ok(core.into_parts().0),
+        Err(_) => Err(Memory),
     }
-    Ok(Journal { entries })
+}
+
+/// The core of the items' flows, which have done nothing yet.
+fn open<L: Library>(
+    alloc: Global,
+    library: Arc<L>,
+    program: Arc<Program>,
+    plans: List<VerifiedPlan>,
+    items: List<Item>,
+) -> Result<Core<L>, Memory>
+    requires can { CanRun (L.meaning (arc_value library)) (arc_value program) items }
+    requires plans { ArePlansOf (arc_value program) plans }
+    ensures { IfOk result (λ core. core ≡ opened (arc_value program) items [] (arc_value library)) }
+{
+    let plans = Arc::new(alloc, plans)?;
+    let setup = Setup {
+        program,
+        plans,
+        items,
+        opening: Cells::new(alloc),
+        library,
+    };
+    Core::new(alloc, setup)
+}
+
+/// The text of a journal of so many flows.
+fn print(
+    alloc: Global,
+    format: JournalFormat,
+    program: &Program,
+    flows: u32,
+    journal: &Journal,
+) -> Result<Bytes, Memory>
+    ensures { IfOk result (λ text. text ≡ printed_in format program.now flows journal.now) }
+{
+    match format {
+        JournalFormat::One => print_journal(alloc, program, journal),
+        JournalFormat::Two => print_journal_2(alloc, program, journal, flows),
+    }
+}
+
+/// The printed journal of items.
+fn run_items<L: Library, G: Gate>(
+    alloc: Global,
+    library: Arc<L>,
+    checked: Checked,
+    items: List<Item>,
+    wanted: Wanted,
+    gate: &G,
+) -> Result<Bytes, Memory>
+    requires { CanRun (L.meaning (arc_value library)) checked.program items }
+    ensures { IfOk result (IsJournalOf (L.meaning (arc_value library)) checked.program items
+        wanted) }
+{
+    let flows = items.len() as u32;
+    let plans = compile(alloc, &checked)?;
+    let program = Arc::new(alloc, checked.program)?;
+    let kept = Arc::try_clone(&program)?;
+    let core = open(alloc, library, program, plans, items)?;
+    let journal = drive(core, wanted.runtime, gate)?;
+    print(alloc, wanted.journal, &kept, flows, &journal)
+}
+
+/// The printed journal of an items text's flows.
+pub fn run_text<'a, L: Library, G: Gate>(
+    alloc: Global,
+    library: Arc<L>,
+    checked: Checked,
+    text: &[u8],
+    wanted: Wanted,
+    gate: &G,
+) -> Result<Bytes, Refusal<'a>>
+    requires sound { IsSound (L.meaning (arc_value library)) checked.program
+        (kinds_at checked.sigs.nodes) }
+    requires sources { HasSources checked.program (held_by checked.sets.nodes) checked.sizes }
+    ensures printed { let rules = rules_of checked.program (kinds_at checked.sigs.nodes)
+        (held_by checked.sets.nodes) in
+        IfOk result (IsWritten (L.meaning (arc_value library)) checked.program rules text.now
+        wanted) }
+    ensures refused { let rules = rules_of checked.program (kinds_at checked.sigs.nodes)
+        (held_by checked.sets.nodes) in
+        IfErr result (AreRefused rules text.now) }
+    ensures items { let rules = rules_of checked.program (kinds_at checked.sigs.nodes)
+        (held_by checked.sets.nodes) in (items : List Item) → AreItemsOf rules items text.now
+        → IfErr result (λ refusal. refusal ≡ refusals.Memory) }
+    ensures fault { let rules = rules_of checked.program (kinds_at checked.sigs.nodes)
+        (held_by checked.sets.nodes) in (fault : ItemFault) → IsFaultOf rules fault text.now
+        → IfOk result (λ _. ⊥) }
+{
+    let rules = rules_for(alloc, &checked)?;
+    let items = read_items(alloc, text, &rules)?;
+    Ok(run_items(alloc, library, checked, items, wanted, gate)?)
 }

@@ -1,20 +1,17 @@
 //! Programs' texts, and the lines about their faults.
 
-ghost use Rattle.std.specs.Prelude.{◌≡◌, ◌≤◌, ◌<◌, List, IfOk, IfErr, OnOk, None, length};
+ghost use Rattle.std.specs.Prelude.{◌≡◌, ◌≤◌, ◌<◌, IfOk, IfErr, length};
 ghost use Rattle.flux_faults.specs.declared.places.TheConstants.{PLACE_LIMIT};
-ghost use Rattle.flux_syntax.specs.declared.declarations.Decl.{Decl};
 ghost use Rattle.flux_syntax.specs.Declares.{Declares};
-ghost use Rattle.flux_names.specs.Building.{first_unbuilt};
 ghost use Rattle.flux_check.specs.Judgement.{IsChecked};
 ghost use Rattle.flux_driver.specs.Causes.{fault_text};
-ghost use Rattle.flux_driver.specs.steps.Refusals.{SaysOrMemory, IsTextRefused, IsCheckRefused, IsRunRefused};
+ghost use Rattle.flux_driver.specs.steps.Refusals.{SaysOrMemory, IsTextRefused, IsCheckRefused};
 
 use crate::refusals::Refusal;
 use flux_check::check;
-use flux_faults::{CheckFault, FaultKind, StaticFault, fault_line};
+use flux_faults::{CheckFault, StaticFault, fault_line};
 use flux_hoist::Checked;
 use flux_library::Library;
-use flux_names::first_unbuilt;
 use flux_syntax::{Decl, read};
 use flux_values::{Bytes, List, Memory};
 use std::alloc::Global;
@@ -67,26 +64,5 @@ pub fn check_text<'a, L: Library>(
         Ok(checked) => Ok(checked),
         Err(CheckFault::Static(fault)) => Err(refuse_text(alloc, text, &fault)),
         Err(CheckFault::Memory) => Err(Refusal::Memory),
-    }
-}
-
-/// Refuses a text with an `atomic` line: these aren't run yet.
-pub fn expect_built<'a>(alloc: Global, text: &[u8]) -> Result<(), Refusal<'a>>
-    requires { (decls : List Decl) × Declares decls text.now }
-    ensures built { OnOk result ((decls : List Decl) → Declares decls text.now
-        → first_unbuilt decls ≡ None) }
-    ensures refused { IfErr result (IsRunRefused text.now) }
-{
-    let decls = read_text(alloc, text)?;
-    match first_unbuilt(&decls) {
-        None => Ok(()),
-        Some(at) => {
-            let fault = StaticFault {
-                kind: FaultKind::NotBuilt,
-                at,
-                path: List::new(alloc),
-            };
-            Err(refuse_text(alloc, text, &fault))
-        }
     }
 }

@@ -1,4 +1,4 @@
-//! The program `flux`: the real files and streams, the words of the command line, and one call of `top`.
+//! The program `flux`: the real files, folders and streams, the words of the command line, and one call of `top`.
 #![tactic(auto)]
 
 ghost use Rattle.std.specs.Prelude.{◌≡◌, ◌≢◌, [], drop, map, string_bytes, IfOk, IfErr, IsErr};
@@ -12,22 +12,31 @@ ghost use Rattle.flux_driver.specs.Top.{HasDone};
 mod tests;
 
 use flux_driver::{Status, World, top};
-use flux_outside::{RealSink, RealStore, Sink, Store};
+use flux_outside::{Folder, Gate, OpenGate, RealFolder, RealSink, RealStore, Sink, Store};
 use flux_values::{Bytes, List, Memory};
 use std::alloc::Global;
 use std::io::{ErrorKind, Stderr, Stdout};
+use std::marker::Sync;
 use std::process::ExitCode;
+use std::sync::Wait;
+use std::thread::Threads;
 use std::{env, io};
 
-/// The files and the two streams of the system, which differ in type.
-type Outside<'a> = World<RealStore<&'a HostRuntime>, RealSink<Stdout>, RealSink<Stderr>>;
+/// The files, the folders and the two streams of the system, which differ in type.
+type Outside<'a> = World<
+    RealStore<&'a HostRuntime>,
+    RealFolder<&'a HostRuntime>,
+    RealSink<Stdout>,
+    RealSink<Stderr>,
+>;
 
-fn outside(rt: &HostRuntime) -> Outside {
-    World {
+fn outside(rt: &HostRuntime) -> Result<Outside, Memory> {
+    Ok(World {
         store: RealStore::new(rt),
+        folder: RealFolder::new(rt.alloc(), rt)?,
         out: RealSink::new(rt.stdout()),
         err: RealSink::new(rt.stderr()),
-    }
+    })
 }
 
 /// What the system gives, the program's own name first.
@@ -64,24 +73,32 @@ fn read_words(alloc: Global, arguments: &io::Result<Vec<String>>) -> Result<List
 }
 
 /// Does what the words say; where there was no memory for them, nothing.
-fn answer<S: Store, O: Sink, E: Sink>(
+fn answer<S: Store, F: Folder, O: Sink, E: Sink, G: Gate, Rt: Threads + Wait + Sync>(
+    rt: &Rt,
     alloc: Global,
     words: Result<List<Bytes>, Memory>,
-    world: &mut World<S, O, E>,
+    world: &mut World<S, F, O, E>,
+    gate: &G,
 ) -> Status
     ensures words { IfOk words (λ given. HasDone built_in given
         (record {
-          files = S.files world.old.store;
-          asked = S.asked world.old.store;
-          faults = S.faults world.old.store;
+          told = record {
+            files = S.files world.old.store;
+            folders = F.folders world.old.folder;
+          };
+          store = record { asked = S.asked world.old.store; faults = S.faults world.old.store };
+          folder = record { asked = F.asked world.old.folder; faults = F.faults world.old.folder };
           out = record { written = O.written world.old.out; faults = O.faults world.old.out };
           err = record { written = E.written world.old.err; faults = E.faults world.old.err };
         })
         result
         (record {
-          files = S.files world.new.store;
-          asked = S.asked world.new.store;
-          faults = S.faults world.new.store;
+          told = record {
+            files = S.files world.new.store;
+            folders = F.folders world.new.folder;
+          };
+          store = record { asked = S.asked world.new.store; faults = S.faults world.new.store };
+          folder = record { asked = F.asked world.new.folder; faults = F.faults world.new.folder };
           out = record { written = O.written world.new.out; faults = O.faults world.new.out };
           err = record { written = E.written world.new.err; faults = E.faults world.new.err };
         })) }
@@ -89,7 +106,7 @@ fn answer<S: Store, O: Sink, E: Sink>(
     ensures nothing { IsErr words → world.new ≡ world.old }
 {
     match words {
-        Ok(words) => top(alloc, words.as_slice(), world),
+        Ok(words) => top(rt, alloc, words.as_slice(), world, gate),
         Err(Memory) => Status::Memory,
     }
 }
@@ -101,7 +118,9 @@ fn exit_code(status: Status) -> ExitCode
 }
 
 fn main(rt: HostRuntime) -> ExitCode {
-    let mut world = outside(&rt);
+    let Ok(mut world) = outside(&rt) else {
+        return exit_code(Status::Memory);
+    };
     let words = read_words(rt.alloc(), &arguments(&rt));
-    exit_code(answer(rt.alloc(), words, &mut world))
+    exit_code(answer(&rt, rt.alloc(), words, &mut world, &OpenGate))
 }

@@ -4,7 +4,7 @@ ghost use Rattle.std.specs.Prelude.{◌<◌};
 
 use super::{answer, exit_code, read_words};
 use flux_driver::{Status, World};
-use flux_outside::{RealSink, RealStore};
+use flux_outside::{OpenGate, RealFolder, RealSink, RealStore};
 use flux_values::{Bytes, List, Memory, append_number};
 use std::alloc::Global;
 use std::fs::OpenOptions;
@@ -46,11 +46,12 @@ fn run(rt: &HostRuntime, words: &[&str]) -> Result<Ended, Fail> {
     let alloc = rt.alloc();
     let mut world = World {
         store: RealStore::new(rt),
+        folder: RealFolder::new(alloc, rt)?,
         out: RealSink::new(fs::create(rt, "out.txt")?),
         err: RealSink::new(fs::create(rt, "err.txt")?),
     };
     let list = list_of(alloc, words)?;
-    let status = answer(alloc, Ok(list), &mut world);
+    let status = answer(rt, alloc, Ok(list), &mut world, &OpenGate);
     let ended = Ended {
         status,
         out: fs::read_to_string(rt, "out.txt")?,
@@ -173,13 +174,14 @@ fn a_narrow_stream_gets_all(rt: HostRuntime) -> Result<(), Fail> {
     };
     let mut world = World {
         store: RealStore::new(&rt),
+        folder: RealFolder::new(alloc, &rt)?,
         out: RealSink::new(&mut narrow),
         err: RealSink::new(fs::create(&rt, "err.txt")?),
     };
     let words = list_of(alloc, &["format", "program"])?;
-    assert_eq!(rt; answer(alloc, Ok(words), &mut world), Status::Done);
+    assert_eq!(&rt; answer(&rt, alloc, Ok(words), &mut world, &OpenGate), Status::Done);
     drop(world);
-    assert_eq!(rt; narrow.taken.as_slice(), PROGRAM.as_bytes());
+    assert_eq!(&rt; narrow.taken.as_slice(), PROGRAM.as_bytes());
     fs::remove_file(&rt, "err.txt")?;
     fs::remove_file(&rt, "program")?;
     Ok(())
@@ -191,13 +193,14 @@ fn a_full_device_is_a_write_that_failed(rt: HostRuntime) -> Result<(), Fail> {
     fs::write(&rt, "program", PROGRAM.as_bytes())?;
     let mut world = World {
         store: RealStore::new(&rt),
+        folder: RealFolder::new(alloc, &rt)?,
         out: RealSink::new(OpenOptions::new().write(true).open(&rt, "/dev/full")?),
         err: RealSink::new(fs::create(&rt, "err.txt")?),
     };
     let words = list_of(alloc, &["check", "program"])?;
-    assert_eq!(rt; answer(alloc, Ok(words), &mut world), Status::Write);
+    assert_eq!(&rt; answer(&rt, alloc, Ok(words), &mut world, &OpenGate), Status::Write);
     let said = fs::read_to_string(&rt, "err.txt")?;
-    assert_eq!(rt; said.as_str(), WRITE_FAILED);
+    assert_eq!(&rt; said.as_str(), WRITE_FAILED);
     fs::remove_file(&rt, "err.txt")?;
     fs::remove_file(&rt, "program")?;
     Ok(())
@@ -224,9 +227,9 @@ fn words_are_those_behind_the_program(rt: HostRuntime) -> Result<(), Fail> {
 
 #[test]
 fn want_of_memory_for_the_words_is_status_12(rt: HostRuntime) -> Result<(), Fail> {
-    let mut world = super::outside(&rt);
-    let status = answer(rt.alloc(), Err(Memory), &mut world);
-    assert_eq!(rt; status, Status::Memory);
-    assert_eq!(rt; exit_code(status), ExitCode::from(12));
+    let mut world = super::outside(&rt)?;
+    let status = answer(&rt, rt.alloc(), Err(Memory), &mut world, &OpenGate);
+    assert_eq!(&rt; status, Status::Memory);
+    assert_eq!(&rt; exit_code(status), ExitCode::from(12));
     Ok(())
 }

@@ -5,20 +5,22 @@ use Rattle.flux_outside.specs.Causes.{Rose}
 use Rattle.flux_faults.specs.declared.faults.StaticFault.{StaticFault}
 use Rattle.flux_syntax.specs.Unexpected.{IsFaulty}
 use Rattle.flux_check.specs.Judgement.{IsTextFault}
+use Rattle.flux_items.specs.declared.rules.ItemFault.{ItemFault}
+use Rattle.flux_items.specs.declared.rules.ItemFault.TheVariants as items_
+use Rattle.flux_words.specs.Commands.{Command}
 use Rattle.flux_driver.specs.declared.statuses.Status.{Status}
 use Rattle.flux_driver.specs.declared.statuses.Status.TheVariants as statuses
 use Rattle.flux_driver.specs.declared.refusals.Refusal.{Refusal}
 use Rattle.flux_driver.specs.declared.refusals.Refusal.TheVariants.{Usage, Static, Items, Read, Missing, Memory}
 use Rattle.flux_driver.specs.Worlds.{Files, IsLost}
-use Rattle.flux_driver.specs.Commands.{Command}
-use Rattle.flux_driver.specs.Causes.{usage_line, fault_text, item_fault_line, read_line, lost_line, IsUnbuilt}
-use Rattle.flux_driver.specs.Answers.{Decided, Happened}
+use Rattle.flux_driver.specs.Commands.{ReadsProgram}
+use Rattle.flux_driver.specs.Causes.{usage_line, fault_text, item_fault_line, read_line, lost_line, IsStatic, IsItems, IsMissing}
 
 -- the status of a refusal
 abbrev pub status_of : Refusal → Status
 status_of Usage = statuses.Usage
 status_of (Static line) = statuses.Static
-status_of (Items place) = statuses.Items
+status_of (Items fault) = statuses.Items
 status_of Read = statuses.Read
 status_of (Missing name) = statuses.Missing
 status_of Memory = statuses.Memory
@@ -27,10 +29,18 @@ status_of Memory = statuses.Memory
 abbrev pub line_of : Refusal → List ℕ
 line_of Usage = usage_line
 line_of (Static line) = line
-line_of (Items place) = item_fault_line place
+line_of (Items fault) = item_fault_line fault
 line_of Read = read_line
 line_of (Missing name) = lost_line name.now
 line_of Memory = []
+
+-- the refusal of an items text
+abbrev pub of_items : ItemFault → Refusal
+of_items (items_.BadItem line) = Items (items_.BadItem line)
+of_items (items_.UnknownSource line) = Items (items_.UnknownSource line)
+of_items (items_.ItemTypes line) = Items (items_.ItemTypes line)
+of_items (items_.TooMany line) = Items (items_.TooMany line)
+of_items items_.Memory = Memory
 
 -- ---- files
 
@@ -41,19 +51,19 @@ IsUnread told name max Read = ⊤
 IsUnread told name max Memory = ⊤
 IsUnread told name max Usage = ⊥
 IsUnread told name max (Static line) = ⊥
-IsUnread told name max (Items place) = ⊥
+IsUnread told name max (Items fault) = ⊥
 
--- the count of the files rose where reading failed, and stands as before in every other answer
+-- a count rose where reading failed, and stands as before in every other answer
 abbrev pub CountsRefusal : Refusal → ℕ → ℕ → Type 0
 CountsRefusal Read before after = Rose before after
 CountsRefusal Usage before after = after ≡ before
 CountsRefusal (Static line) before after = after ≡ before
-CountsRefusal (Items place) before after = after ≡ before
+CountsRefusal (Items fault) before after = after ≡ before
 CountsRefusal (Missing name) before after = after ≡ before
 CountsRefusal Memory before after = after ≡ before
 
-abbrev pub Counts : Result (List ℕ) Refusal → ℕ → ℕ → Type 0
-Counts (Ok text) before after = after ≡ before
+abbrev pub Counts : {T : Type 0} → Result T Refusal → ℕ → ℕ → Type 0
+Counts (Ok value) before after = after ≡ before
 Counts (Err refusal) before after = CountsRefusal refusal before after
 
 -- ---- texts
@@ -63,7 +73,7 @@ abbrev pub SaysOrMemory : (List ℕ → Type 0) → Refusal → Type 0
 SaysOrMemory Says (Static line) = Says line
 SaysOrMemory Says Memory = ⊤
 SaysOrMemory Says Usage = ⊥
-SaysOrMemory Says (Items place) = ⊥
+SaysOrMemory Says (Items fault) = ⊥
 SaysOrMemory Says Read = ⊥
 SaysOrMemory Says (Missing name) = ⊥
 
@@ -82,14 +92,23 @@ IsTextRefused text =
 abbrev pub IsCheckRefused : LibraryMeaning → List ℕ → Refusal → Type 0
 IsCheckRefused meaning text = SaysOrMemory (IsFaultLine (IsTextFault meaning text) text)
 
--- it has a form that isn't run yet
-abbrev pub IsRunRefused : List ℕ → Refusal → Type 0
-IsRunRefused text = SaysOrMemory (IsFaultLine (IsUnbuilt text) text)
+-- ---- commands, behind their documents
 
--- ---- commands
+-- a command was refused for this: a fault of a text, or a file that isn't there
+abbrev pub IsJudged : LibraryMeaning → Command → Files → Status → List ℕ → Type 0
+IsJudged meaning command told statuses.Static line = IsStatic meaning command told line
+IsJudged meaning command told statuses.Items line = IsItems meaning command told line
+IsJudged meaning command told statuses.Missing line = IsMissing meaning command told line
+IsJudged meaning command told other line = ⊥
+
+-- reading failed
+pub record FailsToRead (command : Command) (refusal : Refusal) : Type 0 where
+  pub file : List ℕ
+  pub reads : ReadsProgram command file
+  pub is : refusal ≡ Read
 
 -- a command was refused: that is decided, or reading failed, or there was no memory
 abbrev pub IsRefused : LibraryMeaning → Command → Files → Refusal → Type 0
 IsRefused meaning command told refusal =
-    Decided meaning command told (status_of refusal) [] (line_of refusal)
-    ⊎ (Happened meaning command told (status_of refusal) [] (line_of refusal) ⊎ (refusal ≡ Memory))
+    IsJudged meaning command told (status_of refusal) (line_of refusal)
+    ⊎ (FailsToRead command refusal ⊎ (refusal ≡ Memory))

@@ -1,26 +1,80 @@
--- Steps of running: which programs and items can be run as yet.
-use Rattle.std.specs.Prelude.{◌≡◌, ℕ, List, []}
-use Rattle.std.specs.List.{AllByRecursion}
+-- Steps of running: from a checked program and an items text to the printed journal.
+use Rattle.std.specs.Prelude.{◌≡◌, ◌≤◌, ℕ, List, length, map, Some, ⊤}
+use Rattle.std.specs.List.{AllByRecursion, slice_get}
+use Rattle.flux_values.specs.declared.values.Kind.{Kind}
+use Rattle.flux_values.specs.Identifiers.{IsIdentifier}
 use Rattle.flux_values.specs.Meanings.{LibraryMeaning}
 use Rattle.flux_model.specs.declared.programs.Program.{Program}
-use Rattle.flux_model.specs.declared.programs.Node.{Node}
+use Rattle.flux_model.specs.declared.programs.NodeNo.{NodeNo}
+use Rattle.flux_model.specs.declared.programs.SourceLine.{SourceLine}
+use Rattle.flux_model.specs.declared.programs.TheConstants.{COUNT_LIMIT}
+use Rattle.flux_model.specs.declared.signatures.NodeSig.{NodeSig}
+use Rattle.flux_model.specs.declared.journals.Entry.{Entry}
 use Rattle.flux_model.specs.declared.journals.Item.{Item}
-use Rattle.flux_model.specs.Kinds.{NodeKinds}
-use Rattle.flux_model.specs.Soundness.{IsSound}
+use Rattle.flux_model.specs.declared.journals.Journal.{Journal}
 use Rattle.flux_model.specs.Items.{IsItemFor}
+use Rattle.flux_model.specs.Kinds.{NodeKinds, kinds_at}
+use Rattle.flux_model.specs.Legal.{IsLegal, IsWhole}
+use Rattle.flux_model.specs.Locks.{Holds}
+use Rattle.flux_model.specs.Setup.{Setup}
+use Rattle.flux_model.specs.Sizes.{source_size}
+use Rattle.flux_model.specs.Soundness.{IsSound}
+use Rattle.flux_model.specs.Texts.{source_name}
+use Rattle.flux_items.specs.declared.rules.ItemRules.{ItemRules}
+use Rattle.flux_items.specs.declared.rules.TheConstants.{ITEM_LIMIT}
+use Rattle.flux_items.specs.Items.{AreItemsOf}
+use Rattle.flux_items.specs.Faults.{IsFaultOf}
+use Rattle.flux_words.specs.declared.values.Runtime.{Runtime}
+use Rattle.flux_driver.specs.declared.refusals.Refusal.{Refusal}
+use Rattle.flux_driver.specs.declared.refusals.Refusal.TheVariants.{Usage, Static, Items, Read, Missing, Memory}
+use Rattle.flux_driver.specs.declared.running.Wanted.{Wanted}
+use Rattle.flux_driver.specs.Headline.{IsOrderOf, IsTrueRun, printed_in}
 
--- a node without constraints
-abbrev pub IsFree : Node → Type 0
-IsFree node = node.declared ≡ []
+-- the kinds of what a node gives
+abbrev pub outs_at : List NodeSig → NodeNo → List Kind
+outs_at sigs node = let own = kinds_at sigs node.0 in own.outs
 
--- the program is sound for the library, with these kinds, and no node declares a constraint
-pub record IsRunnable (meaning : LibraryMeaning) (program : Program) (kinds : ℕ → NodeKinds)
-    : Type 0 where
-  pub sound : IsSound meaning program kinds
-  pub free : AllByRecursion IsFree program.nodes
+-- the sources are not too many; each has a name of its own, an identifier; and these are their sizes
+pub record HasSources (p : Program) (locks : Holds) (sizes : List ℕ) : Type 0 where
+  pub few : length p.sources ≤ COUNT_LIMIT
+  pub identifiers : AllByRecursion (λ line. IsIdentifier (source_name p (Some line))) p.sources
+  pub apart : (a b : ℕ) (first second : SourceLine) → slice_get p.sources a ≡ Some first
+      → slice_get p.sources b ≡ Some second
+      → source_name p (Some first) ≡ source_name p (Some second) → a ≡ b
+  pub sizes_ : sizes ≡ map (source_size locks p) p.sources
 
--- and the items have the values that their sources give
-pub record CanRun (program : Program) (items : List Item) (meaning : LibraryMeaning) : Type 0 where
+-- items of a sound program: they have the values that their sources give, and are not too many
+pub record CanRun (meaning : LibraryMeaning) (p : Program) (items : List Item) : Type 0 where
   pub kinds : ℕ → NodeKinds
-  pub runs : IsRunnable meaning program kinds
-  pub items_ : AllByRecursion (IsItemFor program kinds) items
+  pub sound : IsSound meaning p kinds
+  pub fit : AllByRecursion (IsItemFor p kinds) items
+  pub few : length items ≤ ITEM_LIMIT
+
+-- a core was driven to its end by a runtime, from an empty journal
+pub record IsDriven (setup : Setup) (runtime : Runtime) (entries : List Entry) : Type 0 where
+  pub legal : IsLegal setup entries
+  pub whole : IsWhole setup entries
+  pub order : IsOrderOf runtime setup entries
+
+-- the journal of a true run of the items is printed
+pub record IsJournalOf (meaning : LibraryMeaning) (p : Program) (items : List Item) (wanted : Wanted)
+    (text : List ℕ) : Type 0 where
+  pub journal : Journal
+  pub true_run : IsTrueRun p items meaning wanted.runtime journal.entries
+  pub is : text ≡ printed_in wanted.journal p (length items) journal
+
+-- that of the items of a text
+pub record IsWritten (meaning : LibraryMeaning) (p : Program) (rules : ItemRules)
+    (items_text : List ℕ) (wanted : Wanted) (text : List ℕ) : Type 0 where
+  pub items : List Item
+  pub are : AreItemsOf rules items items_text
+  pub journal : IsJournalOf meaning p items wanted text
+
+-- an items text is refused: it has a fault, or there was no memory
+abbrev pub AreRefused : ItemRules → List ℕ → Refusal → Type 0
+AreRefused rules items_text (Items fault) = IsFaultOf rules fault items_text
+AreRefused rules items_text Memory = ⊤
+AreRefused rules items_text Usage = ⊥
+AreRefused rules items_text (Static line) = ⊥
+AreRefused rules items_text Read = ⊥
+AreRefused rules items_text (Missing name) = ⊥

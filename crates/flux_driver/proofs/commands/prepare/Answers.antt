@@ -1,9 +1,16 @@
-use Rattle.flux_driver.specs.Commands.{run}
-use Rattle.flux_driver.specs.steps.Preparing.{prepared_status}
-use Rattle.flux_driver.proofs.Once.{firm_any}
+use Rattle.std.specs.Arc.{arc_value}
+use Rattle.std.specs.Prelude.{option_copied}
+use Rattle.flux_driver.proofs.Prepared.{refused_any}
 use Rattle.flux_driver.proofs.commands.prepare.Goals as goal
 
-pub returns-in-Some-Run-clause-firm : goal.returns-in-Some-Run-clause-firm
-returns-in-Some-Run-clause-firm g c =
-    firm_any (g.L.Meaning.meaning c.args.library.now) c.args.words.now (run c.in-Some-Run.file.now c.in-Some-Run.items.now) (g.S.Store.files c.args.store.now) (prepared_status c.prepare_run.result)
-    (rw c.in-Some-Run.field-0-is at c.in-Some-Run.ensures.found) c.prepare_run.ensures.firm
+pub returns-in-Run-clause-done : goal.returns-in-Run-clause-done
+returns-in-Run-clause-done g c = rw c.in-Run.is c.prepare_run.ensures.done
+
+pub returns-in-Run-clause-refused : goal.returns-in-Run-clause-refused
+returns-in-Run-clause-refused g c =
+    rw c.in-Run.is
+    (refused_any (g.L.Meaning.meaning (arc_value c.args.library)) (g.S.Store.files c.args.store.now) c.in-Run.file.now c.in-Run.items.now
+    (record { runtime = c.in-Run.runtime; journal = c.in-Run.journal }) (option_copied c.in-Run.docs) c.prepare_run.result c.prepare_run.ensures.refused)
+
+pub returns-in-Run-clause-firm : goal.returns-in-Run-clause-firm
+returns-in-Run-clause-firm g c = rw c.in-Run.is c.prepare_run.ensures.firm

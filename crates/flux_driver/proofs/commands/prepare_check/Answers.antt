@@ -1,4 +1,4 @@
-use Rattle.flux_driver.specs.Commands.{check}
+use Rattle.flux_words.specs.Commands.{check}
 use Rattle.flux_driver.specs.steps.Refusals.{IsRefused}
 use Rattle.flux_driver.proofs.Passed.{passed}
 use Rattle.flux_driver.proofs.Prepared.{check_refused, is_ordered, are_locks, is_reported}

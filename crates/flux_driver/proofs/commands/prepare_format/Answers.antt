@@ -1,4 +1,4 @@
-use Rattle.flux_driver.specs.Commands.{format}
+use Rattle.flux_words.specs.Commands.{format}
 use Rattle.flux_driver.specs.steps.Refusals.{IsRefused}
 use Rattle.flux_driver.proofs.Passed.{passed}
 use Rattle.flux_driver.proofs.Prepared.{format_refused}

@@ -1,4 +1,4 @@
-use Rattle.flux_driver.specs.Commands.{plan}
+use Rattle.flux_words.specs.Commands.{plan}
 use Rattle.flux_driver.specs.steps.Refusals.{IsRefused}
 use Rattle.flux_driver.proofs.Passed.{passed}
 use Rattle.flux_driver.proofs.Prepared.{plan_refused, is_planned}

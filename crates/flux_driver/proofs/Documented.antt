@@ -1,0 +1,220 @@
+-- What a command answers behind its documents is what it answers with them.
+use Rattle.std.proofs.Common.{◌≡◌, ◌++◌, ℕ, inl, inr, ◌⊎◌, List, [], Option, Some, None, Result, Ok, Err, IfSome, IfOk, IfErr, refl, sym, ap, subst, ◌∙◌}
+use Rattle.std.specs.Prelude.{option_to_list, ⊤}
+use Rattle.std.proofs.lemmas.List.{append-nil}
+use Rattle.flux_values.specs.Meanings.{LibraryMeaning}
+use Rattle.flux_library.specs.Documents.{DocMap}
+use Rattle.flux_library.specs.DocumentLaws.{same_docs}
+use Rattle.flux_outside.specs.Causes.{Rose}
+use Rattle.std.specs.Cmp.Lexicographic.{nat_list_cmp_total}
+use Rattle.std.specs.FinMap.{same_map, slice_cmp-IsAntisymmetric, nat_cmp-IsAntisymmetric}
+use Rattle.flux_outside.specs.declared.memory.FileBytes.{FileBytes}
+use Rattle.flux_docs.specs.declared.faults.DocsFault.TheVariants as docs_faults
+use Rattle.flux_docs.specs.Documents.{AreRead}
+use Rattle.flux_words.specs.Commands.{Command, check, plan, format, run, help}
+use Rattle.flux_driver.specs.declared.refusals.Refusal.{Refusal}
+use Rattle.flux_driver.specs.declared.refusals.Refusal.TheVariants as refusals
+use Rattle.flux_driver.specs.declared.statuses.Status.{Status}
+use Rattle.flux_driver.specs.declared.statuses.Status.TheVariants as statuses
+use Rattle.flux_driver.specs.Worlds.{Files, Folders, Told}
+use Rattle.flux_driver.specs.Commands.{ReadsProgram, folder_of}
+use Rattle.flux_driver.specs.Documents.{AreDocs, WithDocs, IsDirLost, TellsDocs}
+use Rattle.flux_driver.specs.Printed.{IsPrinted}
+use Rattle.flux_driver.specs.Causes.{lost_line}
+use Rattle.flux_driver.specs.Answers.{Libraries, Decided, IsFolderMissing, Prints}
+use Rattle.flux_driver.specs.Top.{IsStopped}
+use Rattle.flux_driver.specs.steps.Documents.{AreUnread}
+use Rattle.flux_driver.specs.steps.Refusals.{status_of, line_of, CountsRefusal, Counts, IsRefused}
+use Rattle.flux_driver.specs.steps.Preparing.{AsksFiles, AsksAll, IsRefusedAll, AreSteady, CountsBothRefusal, CountsBoth, AnswersDue, IsFirm, prepared_status}
+use Rattle.flux_driver.proofs.Once.{View, same_view}
+
+-- ---- the documents are one, or lost
+
+one_docs : (found : Option (List FileBytes)) (a b : DocMap) → AreRead found (Ok a) → AreRead found (Ok b) → a ≡ b
+one_docs None a b x y = absurd x
+one_docs (Some files) a b x y = same_docs a b (same_map nat_list_cmp_total (slice_cmp-IsAntisymmetric nat_cmp-IsAntisymmetric) a.named b.named (λ name. x.1 name ∙ sym (y.1 name)))
+
+not_lost : (found : Option (List FileBytes)) (docs : DocMap) → AreRead found (Ok docs) → AreRead found (Err docs_faults.Missing) → ⊥
+not_lost None docs x lost = x
+not_lost (Some files) docs x lost = lost x.0
+
+docs_once : (folders : Folders) (dir : Option (List ℕ)) (a b : DocMap) → TellsDocs folders dir → AreDocs folders dir a → AreDocs folders dir b → a ≡ b
+docs_once folders None a b tells x y = same_docs a b (x ∙ sym y)
+docs_once None (Some dir) a b tells x y = absurd cc
+docs_once (Some held) (Some dir) a b tells x y = one_docs (held dir) a b x y
+
+not_both : (folders : Folders) (dir : Option (List ℕ)) (docs : DocMap) (name : List ℕ) → TellsDocs folders dir → AreDocs folders dir docs → IsDirLost folders dir name → ⊥
+not_both folders None docs name tells are lost = lost
+not_both None (Some dir) docs name tells are lost = absurd cc
+not_both (Some held) (Some dir) docs name tells are lost = not_lost (held dir) docs are lost.1
+
+-- ---- what was asked for
+
+pub asks_with : (library : Libraries) (command : Command) (told : Told) (status : Status) (docs : DocMap) (folder folder_after store store_after : List (List ℕ)) → AreDocs told.folders (folder_of command) docs
+    → folder_after ≡ folder ++ option_to_list (folder_of command) → AsksFiles (library docs) command told.files store store_after → AsksAll library command told status folder folder_after store store_after
+asks_with library command told status docs folder folder_after store store_after are first files = record {
+  dirs = option_to_list (folder_of command);
+  names = files.names;
+  folder_ = first;
+  store_ = files.more;
+  are = record { folder = refl; files = inl (record { docs = docs; are = are; says = files.are }) };
+}
+
+pub asks_stopped : (library : Libraries) (command : Command) (told : Told) (status : Status) (folder folder_after store : List (List ℕ))
+    → folder_after ≡ folder ++ option_to_list (folder_of command) → IsStopped status → AsksAll library command told status folder folder_after store store
+asks_stopped library command told status folder folder_after store first stopped = record {
+  dirs = option_to_list (folder_of command);
+  names = [];
+  folder_ = first;
+  store_ = sym (append-nil store);
+  are = record { folder = refl; files = inr (refl, stopped) };
+}
+
+-- documents that weren't read stop a command
+pub unread_stops : (folders : Folders) (dir : Option (List ℕ)) (refusal : Refusal) → AreUnread folders dir refusal → IsStopped (status_of refusal)
+unread_stops folders None refusal unread = absurd unread
+unread_stops folders (Some dir) (refusals.Missing name) unread = tt
+unread_stops folders (Some dir) refusals.Read unread = tt
+unread_stops folders (Some dir) refusals.Memory unread = tt
+unread_stops folders (Some dir) refusals.Usage unread = absurd unread
+unread_stops folders (Some dir) (refusals.Static line) unread = absurd unread
+unread_stops folders (Some dir) (refusals.Items fault) unread = absurd unread
+
+-- ---- refusals
+
+module _ (library : Libraries) (command : Command) (told : Told) where
+  pub refused_with : (docs : DocMap) (refusal : Refusal) → AreDocs told.folders (folder_of command) docs → IsRefused (library docs) command told.files refusal → IsRefusedAll library command told refusal
+  refused_with docs (refusals.Static line) are (inl judged) = inl (record { docs = docs; are = are; says = judged }, refl)
+  refused_with docs (refusals.Items fault) are (inl judged) = inl (record { docs = docs; are = are; says = judged }, refl)
+  refused_with docs (refusals.Missing name) are (inl judged) = inl (inr (record { docs = docs; are = are; says = judged }), refl)
+  refused_with docs refusals.Usage are (inl judged) = absurd judged
+  refused_with docs refusals.Read are (inl judged) = absurd judged
+  refused_with docs refusals.Memory are (inl judged) = absurd judged
+  refused_with docs refusal are (inr (inl fails)) = subst (IsRefusedAll library command told) (sym fails.is) (inr (inl ((fails.file, fails.reads), refl, refl)))
+  refused_with docs refusal are (inr (inr short)) = inr (inr short)
+
+  lost_missing : (dir : Option (List ℕ)) (name : _) → AreUnread told.folders dir (refusals.Missing name) → IsDirLost told.folders dir name.now
+  lost_missing None name unread = absurd unread
+  lost_missing (Some dir) name unread = unread
+
+  reads_program : (other : Command) → AreUnread told.folders (folder_of other) refusals.Read → (file : List ℕ) × ReadsProgram other file
+  reads_program (check file) unread = absurd unread
+  reads_program (plan file) unread = absurd unread
+  reads_program (format file) unread = absurd unread
+  reads_program (run file items manner) unread = (file, refl)
+  reads_program help unread = absurd unread
+
+  none_unread : (dir : Option (List ℕ)) (refusal : Refusal) → (IsStopped (status_of refusal) → ⊥) → AreUnread told.folders dir refusal → ⊥
+  none_unread dir refusal never unread = never (unread_stops told.folders dir refusal unread)
+
+  pub refused_unread : (refusal : Refusal) → AreUnread told.folders (folder_of command) refusal → IsRefusedAll library command told refusal
+  refused_unread (refusals.Missing name) unread = inl (inl (record { name = name.now; lost = lost_missing (folder_of command) name unread; said = refl }), refl)
+  refused_unread refusals.Read unread = inr (inl (reads_program command unread, refl, refl))
+  refused_unread refusals.Memory unread = inr (inr refl)
+  refused_unread refusals.Usage unread = absurd (none_unread (folder_of command) refusals.Usage (λ x. x) unread)
+  refused_unread (refusals.Static line) unread = absurd (none_unread (folder_of command) (refusals.Static line) (λ x. x) unread)
+  refused_unread (refusals.Items fault) unread = absurd (none_unread (folder_of command) (refusals.Items fault) (λ x. x) unread)
+
+  pub prints_with : (docs : DocMap) (result : Result (List ℕ) Refusal) → AreDocs told.folders (folder_of command) docs → IfOk result (IsPrinted (library docs) command told.files) → IfOk result (Prints library command told)
+  prints_with docs (Ok text) are printed = record { docs = docs; are = are; says = printed }
+  prints_with docs (Err refusal) are printed = tt
+
+  pub result_refused : (docs : DocMap) (result : Result (List ℕ) Refusal) → AreDocs told.folders (folder_of command) docs → IfErr result (IsRefused (library docs) command told.files) → IfErr result (IsRefusedAll library command told)
+  result_refused docs (Ok text) are refused = tt
+  result_refused docs (Err refusal) are refused = refused_with docs refusal are refused
+
+-- ---- counts
+
+both_store : (refusal : Refusal) (s t f g : ℕ) → g ≡ f → CountsRefusal refusal s t → CountsBothRefusal refusal s t f g
+both_store refusals.Read s t f g same counts = inl counts
+both_store refusals.Usage s t f g same counts = record { store_ = counts; folder_ = same }
+both_store (refusals.Static line) s t f g same counts = record { store_ = counts; folder_ = same }
+both_store (refusals.Items fault) s t f g same counts = record { store_ = counts; folder_ = same }
+both_store (refusals.Missing name) s t f g same counts = record { store_ = counts; folder_ = same }
+both_store refusals.Memory s t f g same counts = record { store_ = counts; folder_ = same }
+
+pub counts_store : (result : Result (List ℕ) Refusal) (s t f g : ℕ) → g ≡ f → Counts result s t → CountsBoth result s t f g
+counts_store (Ok text) s t f g same counts = record { store_ = counts; folder_ = same }
+counts_store (Err refusal) s t f g same counts = both_store refusal s t f g same counts
+
+pub counts_folder : (refusal : Refusal) (s f g : ℕ) → CountsRefusal refusal f g → CountsBothRefusal refusal s s f g
+counts_folder refusals.Read s f g counts = inr counts
+counts_folder refusals.Usage s f g counts = record { store_ = refl; folder_ = counts }
+counts_folder (refusals.Static line) s f g counts = record { store_ = refl; folder_ = counts }
+counts_folder (refusals.Items fault) s f g counts = record { store_ = refl; folder_ = counts }
+counts_folder (refusals.Missing name) s f g counts = record { store_ = refl; folder_ = counts }
+counts_folder refusals.Memory s f g counts = record { store_ = refl; folder_ = counts }
+
+-- ---- what is due
+
+module _ (library : Libraries) (command : Command) (files : Files) (folders : Folders) where
+  abbrev told : Told
+  told = record { files = files; folders = folders }
+
+  abbrev Missed : Status → List ℕ → Type 0
+  Missed due line = (due ≡ statuses.Missing) × IsFolderMissing command told line
+
+  abbrev Seen_with : Status → List ℕ → List ℕ → Type 0
+  Seen_with due text line = (docs : DocMap) × AreDocs folders (folder_of command) docs × View (library docs) command files due text line
+
+  -- what is decided is decided with documents, or they are lost
+  seen : (due : Status) (text line : List ℕ) → Decided library command told due text line → Seen_with due text line ⊎ Missed due line
+  seen statuses.Done text line d = let w = d.0 in inl (w.docs, w.are, inl (refl, w.says))
+  seen statuses.Static text line d = let w = d.0 in inl (w.docs, w.are, inr (inl (refl, w.says)))
+  seen statuses.Items text line d = let w = d.0 in inl (w.docs, w.are, inr (inr (inl (refl, w.says))))
+  seen statuses.Missing text line (inl lost, none) = inr (refl, lost)
+  seen statuses.Missing text line (inr w, none) = inl (w.docs, w.are, inr (inr (inr (refl, w.says))))
+  seen statuses.Usage text line d = absurd d
+  seen statuses.Read text line d = absurd d
+  seen statuses.Write text line d = absurd d
+  seen statuses.Door text line d = absurd d
+  seen statuses.No text line d = absurd d
+  seen statuses.NotServed text line d = absurd d
+  seen statuses.Memory text line d = absurd d
+
+  pub due_with : (docs : DocMap) (status : Status) (text line : List ℕ) → AreDocs folders (folder_of command) docs → View (library docs) command files status text line
+      → IfSome files (λ held. IsFirm (library docs) command (Some held) status) → AnswersDue library command told status
+  due_with docs status text line are view firm tells due u m d = inl (one (seen due u m d))
+    where
+      same : (held : Files) → files ≡ held → (due : Status) (other : DocMap) → docs ≡ other → View (library other) command files due u m → status ≡ due
+      same None is due other e theirs = let told_ = rw is at tells.files in absurd cc
+      same (Some held) is due other e theirs =
+          same_view (library docs) held command status due text line u m (rw is at firm) (rw is at view)
+          (rw is at (subst (λ (x : DocMap). View (library x) command files due u m) (sym e) theirs))
+
+      one : Seen_with due u m ⊎ Missed due m → status ≡ due
+      one (inl (other, theirs, v)) = same files refl due other (docs_once folders (folder_of command) docs other tells.docs are theirs) v
+      one (inr (is, missing)) = absurd (not_both folders (folder_of command) docs missing.name tells.docs are missing.lost)
+
+  pub due_lost : (name : List ℕ) → IsDirLost folders (folder_of command) name → AnswersDue library command told statuses.Missing
+  due_lost name lost tells due u m d = inl (one (seen due u m d))
+    where
+      one : Seen_with due u m ⊎ Missed due m → statuses.Missing ≡ due
+      one (inl (other, theirs, v)) = absurd (not_both folders (folder_of command) other name tells.docs theirs lost)
+      one (inr (is, missing)) = sym is
+
+  -- ---- of a refusal, and of what was prepared
+
+  pub due_refused : (docs : DocMap) (refusal : Refusal) → AreDocs folders (folder_of command) docs → IsRefused (library docs) command files refusal
+      → IfSome files (λ held. IsFirm (library docs) command (Some held) (status_of refusal)) → AnswersDue library command told (status_of refusal)
+  due_refused docs (refusals.Static line) are (inl judged) firm = due_with docs statuses.Static [] line are (inr (inl (refl, judged))) firm
+  due_refused docs (refusals.Items fault) are (inl judged) firm = due_with docs statuses.Items [] (line_of (refusals.Items fault)) are (inr (inr (inl (refl, judged)))) firm
+  due_refused docs (refusals.Missing name) are (inl judged) firm = due_with docs statuses.Missing [] (lost_line name.now) are (inr (inr (inr (refl, judged)))) firm
+  due_refused docs refusals.Usage are (inl judged) firm = absurd judged
+  due_refused docs refusals.Read are (inl judged) firm = absurd judged
+  due_refused docs refusals.Memory are (inl judged) firm = absurd judged
+  due_refused docs refusal are (inr (inl fails)) firm = λ tells due u m d. inr (inl (ap status_of fails.is))
+  due_refused docs refusal are (inr (inr short)) firm = λ tells due u m d. inr (inr (ap status_of short))
+
+  pub due_unread : (refusal : Refusal) → AreUnread folders (folder_of command) refusal → AnswersDue library command told (status_of refusal)
+  due_unread (refusals.Missing name) unread = due_lost name.now (lost_missing library command told (folder_of command) name unread)
+  due_unread refusals.Read unread = λ tells due u m d. inr (inl refl)
+  due_unread refusals.Memory unread = λ tells due u m d. inr (inr refl)
+  due_unread refusals.Usage unread = absurd (none_unread library command told (folder_of command) refusals.Usage (λ x. x) unread)
+  due_unread (refusals.Static line) unread = absurd (none_unread library command told (folder_of command) (refusals.Static line) (λ x. x) unread)
+  due_unread (refusals.Items fault) unread = absurd (none_unread library command told (folder_of command) (refusals.Items fault) (λ x. x) unread)
+
+  pub due_prepared : (docs : DocMap) (result : Result (List ℕ) Refusal) → AreDocs folders (folder_of command) docs → IfOk result (IsPrinted (library docs) command files) → IfErr result (IsRefused (library docs) command files)
+      → IfSome files (λ held. IsFirm (library docs) command (Some held) (prepared_status result)) → AnswersDue library command told (prepared_status result)
+  due_prepared docs (Ok text) are printed refused firm = due_with docs statuses.Done text [] are (inl (refl, printed)) firm
+  due_prepared docs (Err refusal) are printed refused firm = due_refused docs refusal are refused firm

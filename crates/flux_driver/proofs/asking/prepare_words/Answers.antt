@@ -1,0 +1,21 @@
+use Rattle.std.proofs.Common.{◌≡◌, inl, inr, refl}
+use Rattle.flux_driver.specs.declared.refusals.Refusal.TheVariants as refusals
+use Rattle.flux_driver.specs.declared.statuses.Status.{Status}
+use Rattle.flux_driver.specs.declared.statuses.Status.TheVariants as statuses
+use Rattle.flux_driver.specs.BuiltIn.{built_in}
+use Rattle.flux_driver.specs.Worlds.{Told}
+use Rattle.flux_driver.specs.steps.Preparing.{prepared_status}
+use Rattle.flux_driver.proofs.Passed.{passed_status}
+use Rattle.flux_driver.proofs.Answered.{nothing_asked}
+use Rattle.flux_driver.proofs.asking.prepare_words.Goals as goal
+
+pub returns-in_err-wanted-clause-asked : goal.returns-in_err-wanted-clause-asked
+returns-in_err-wanted-clause-asked g c =
+    let told : Told = record { files = g.S.Store.files c.args.store.now; folders = g.F.Folder.folders c.args.folder.now } in
+    nothing_asked built_in c.args.words.now told (prepared_status c.from_residual.result) _ _
+    (inr (passed_status (λ (s : Status). s ≡ statuses.Memory) refusals.Memory c.from_residual.result c.from_residual.ensures.1 refl))
+
+pub returns-in-None-clause-asked : goal.returns-in-None-clause-asked
+returns-in-None-clause-asked g c =
+    let told : Told = record { files = g.S.Store.files c.args.store.now; folders = g.F.Folder.folders c.args.folder.now } in
+    nothing_asked built_in c.args.words.now told statuses.Usage _ _ (inl (rw c.in-None.is at c.in_ok-wanted.ensures.none))

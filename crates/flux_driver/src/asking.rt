@@ -1,0 +1,103 @@
+//! What the words ask for: the documents first, and then the command's files.
+
+ghost use Rattle.std.specs.Prelude.{◌≡◌, ◌≤◌, [], IfOk, IfErr, option_copied};
+ghost use Rattle.std.specs.Arc.{arc_value};
+ghost use Rattle.flux_words.specs.Asking.{asked};
+ghost use Rattle.flux_driver.specs.BuiltIn.{built_in};
+ghost use Rattle.flux_driver.specs.Commands.{folder_of};
+ghost use Rattle.flux_driver.specs.Answers.{Prints, IsAnswer};
+ghost use Rattle.flux_driver.specs.Top.{HasAsked};
+ghost use Rattle.flux_driver.specs.steps.Refusals.{status_of, line_of};
+ghost use Rattle.flux_driver.specs.steps.Preparing.{AsksAll, IsRefusedAll, CountsBoth, AnswersDue, AnswersWords, PrintsWords, prepared_status};
+
+use crate::commands::prepare;
+use crate::documents::load_docs;
+use crate::refusals::Refusal;
+use flux_library::Docs;
+use flux_outside::{Folder, Gate, Store};
+use flux_values::{Bytes, Memory};
+use flux_words::{Asked, read_words};
+use nodes_all::All;
+use std::alloc::Global;
+use std::sync::Arc;
+
+/// The folder of documents, where one is named.
+fn dir_of<'a>(wanted: &Asked<'a>) -> Option<&'a [u8]>
+    ensures { option_copied result ≡ folder_of (asked wanted.now) }
+{
+    match wanted {
+        Asked::Run { docs, .. } => *docs,
+        _ => None,
+    }
+}
+
+/// The library of these documents.
+fn share(alloc: Global, docs: Docs) -> Result<Arc<All>, Memory>
+    ensures { IfOk result (λ library. let all = arc_value library in all.docs ≡ docs) }
+{
+    Ok(Arc::new(alloc, All { docs })?)
+}
+
+/// What a command prints: all of it is made before any of it is written.
+fn prepare_asked<'a, S: Store, F: Folder, G: Gate>(
+    alloc: Global,
+    store: &mut S,
+    folder: &mut F,
+    gate: &G,
+    wanted: Asked<'a>,
+) -> Result<Bytes, Refusal<'a>>
+    ensures kept { S.files store.new ≡ S.files store.old }
+    ensures kept_folders { F.folders folder.new ≡ F.folders folder.old }
+    ensures later { S.faults store.old ≤ S.faults store.new }
+    ensures later_folder { F.faults folder.old ≤ F.faults folder.new }
+    ensures asked { AsksAll built_in (asked wanted.entry)
+        (record { files = S.files store.old; folders = F.folders folder.old })
+        (prepared_status result) (F.asked folder.old) (F.asked folder.new)
+        (S.asked store.old) (S.asked store.new) }
+    ensures done { IfOk result (Prints built_in (asked wanted.entry)
+        (record { files = S.files store.old; folders = F.folders folder.old })) }
+    ensures refused { IfErr result (IsRefusedAll built_in (asked wanted.entry)
+        (record { files = S.files store.old; folders = F.folders folder.old })) }
+    ensures counts { CountsBoth result (S.faults store.old) (S.faults store.new)
+        (F.faults folder.old) (F.faults folder.new) }
+    ensures complete { AnswersDue built_in (asked wanted.entry)
+        (record { files = S.files store.old; folders = F.folders folder.old })
+        (prepared_status result) }
+{
+    let docs = load_docs(alloc, folder, dir_of(&wanted))?;
+    let library = share(alloc, docs)?;
+    prepare(alloc, library, store, gate, wanted)
+}
+
+/// What the words print.
+pub fn prepare_words<'a, S: Store, F: Folder, G: Gate>(
+    alloc: Global,
+    store: &mut S,
+    folder: &mut F,
+    gate: &G,
+    words: &'a [Bytes],
+) -> Result<Bytes, Refusal<'a>>
+    ensures kept { S.files store.new ≡ S.files store.old }
+    ensures kept_folders { F.folders folder.new ≡ F.folders folder.old }
+    ensures later { S.faults store.old ≤ S.faults store.new }
+    ensures later_folder { F.faults folder.old ≤ F.faults folder.new }
+    ensures asked { HasAsked built_in words.now
+        (record { files = S.files store.old; folders = F.folders folder.old })
+        (prepared_status result) (F.asked folder.old) (F.asked folder.new)
+        (S.asked store.old) (S.asked store.new) }
+    ensures done { IfOk result (PrintsWords built_in words.now
+        (record { files = S.files store.old; folders = F.folders folder.old })) }
+    ensures refused { IfErr result (λ refusal. IsAnswer built_in words.now
+        (record { files = S.files store.old; folders = F.folders folder.old })
+        (status_of refusal) [] (line_of refusal)) }
+    ensures counts { CountsBoth result (S.faults store.old) (S.faults store.new)
+        (F.faults folder.old) (F.faults folder.new) }
+    ensures complete { AnswersWords built_in words.now
+        (record { files = S.files store.old; folders = F.folders folder.old })
+        (prepared_status result) }
+{
+    match read_words(alloc, words)? {
+        Some(wanted) => prepare_asked(alloc, store, folder, gate, wanted),
+        None => Err(Refusal::Usage),
+    }
+}

@@ -1,0 +1,114 @@
+//! Words in every order, and words that are no command.
+
+use super::{CHECK, FORMAT, answer_of, assert_ended, assert_told};
+use crate::Status;
+use std::test::Fail;
+
+const TICK: &str = "Tick () => (int n);\nPass (int n) => (int n);\nsource Tick => Pass;\n";
+
+const ITEMS: &str = "Tick (7)\n";
+
+const PASSED: &str = "0 enter Pass\n0 call Pass (7) ok (7)\n0 exit Pass ok\n0 end done\n";
+
+const HELP: &str =
+    "flux check FILE\nflux plan FILE\nflux format FILE\nflux run FILE ITEMS [--runtime R] [--docs DIR] [--journal J]\nflux help or --help\n";
+
+const USAGE: &str = "flux: bad command line, try flux --help\n";
+
+/// Words that run the items.
+const RUNS: &[&[&str]] = &[
+    &["run", "program", "items"],
+    &["run", "--journal", "1", "program", "items"],
+    &["run", "program", "--journal=1", "items"],
+    &["run", "program", "items", "--docs", "docs"],
+    &["run", "--docs=docs", "program", "items", "--runtime=event"],
+    &["run", "program", "--runtime", "script=0,0,4095", "items", "--journal", "1"],
+];
+
+/// Words that are no command.
+const OTHERS: &[&[&str]] = &[
+    &[],
+    &[""],
+    &["go", "program"],
+    &["run", "program"],
+    &["run", "program", ""],
+    &["run", "program", "items", "more"],
+    &["run", "program", "-items"],
+    &["run", "a", "b", "--runtime", "pool=17"],
+    &["run", "a", "b", "--runtime", "perflow"],
+    &["run", "a", "b", "--runtime"],
+    &["run", "a", "b", "--runtime", "--docs"],
+    &["run", "a", "b", "--journal="],
+    &["run", "a", "b", "--journal", "3"],
+    &["run", "a", "b", "--journal=1", "--journal=1"],
+    &["run", "a", "b", "--docs", ""],
+    &["run", "a", "b", "--port", "1"],
+    &["run", "a", "b", "--runtime=script=4096"],
+    &["check", "program", "items"],
+    &["check", "-x"],
+    &["check", "program", "--journal", "1"],
+    &["help", "program"],
+    &["--help", "--help"],
+    &["-help"],
+];
+
+/// Words that name what isn't there, and the name.
+const LOST: &[(&[&str], &str)] = &[
+    (&["check", "absent"], "absent"),
+    (&["format", "absent"], "absent"),
+    (&["run", "absent", "items"], "absent"),
+    (&["run", "program", "absent"], "absent"),
+    (&["run", "program", "items", "--docs", "none"], "none"),
+    (&["run", "absent", "absent", "--docs", "none"], "none"),
+];
+
+/// Texts as `format` prints them.
+const FORMATTED: &[(&str, &str)] = &[
+    ("", ""),
+    (
+        "atomic  A:{x!,y ?(session)} ; B:[_,hit]=;",
+        "atomic A:{x, y?(session)};\nB:[_, hit] = ;\n",
+    ),
+];
+
+#[test]
+fn options_stand_anywhere(rt: HostRuntime) -> Result<(), Fail> {
+    let alloc = rt.alloc();
+    for words in RUNS {
+        let ended = answer_of(alloc, words, TICK.as_bytes(), ITEMS.as_bytes())?;
+        assert_ended(&rt, "a run", &ended, Status::Done, PASSED, "");
+    }
+    for words in OTHERS {
+        let ended = answer_of(alloc, words, TICK.as_bytes(), ITEMS.as_bytes())?;
+        assert_ended(&rt, "no command", &ended, Status::Usage, "", USAGE);
+    }
+    Ok(())
+}
+
+#[test]
+fn what_is_not_there_is_told_by_its_name(rt: HostRuntime) -> Result<(), Fail> {
+    let alloc = rt.alloc();
+    for (words, name) in LOST {
+        let ended = answer_of(alloc, words, TICK.as_bytes(), ITEMS.as_bytes())?;
+        assert_eq!(rt; ended.status, Status::Missing, "{name}");
+        assert!(rt; ended.out.as_bytes().is_empty(), "{name}");
+        let rest = ended.err.as_bytes().strip_prefix(b"flux: missing or too long: ");
+        let said = rest.ok_or("line")?;
+        assert_eq!(rt; said.strip_suffix(b"\n"), Some(name.as_bytes()));
+    }
+    Ok(())
+}
+
+#[test]
+fn help_and_format_print_their_texts(rt: HostRuntime) -> Result<(), Fail> {
+    let alloc = rt.alloc();
+    for word in ["help", "--help"] {
+        let ended = answer_of(alloc, &[word], b"", b"")?;
+        assert_ended(&rt, word, &ended, Status::Done, HELP, "");
+    }
+    assert_told(&rt, alloc, FORMAT, "", FORMATTED, Status::Done)?;
+    let fault = [("A = B $ C;", "1:7: fault 2 BadByte\n")];
+    assert_told(&rt, alloc, FORMAT, "", &fault, Status::Static)?;
+    assert_told(&rt, alloc, CHECK, "", &fault, Status::Static)?;
+    Ok(())
+}
