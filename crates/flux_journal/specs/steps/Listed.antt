@@ -1,0 +1,23 @@
+-- Steps of printing values with commas between them, and calls.
+use Rattle.std.specs.Prelude.{ℕ, List, [], ◌∷◌, ◌++◌, map, codes}
+use Rattle.std.specs.List.{flat_map}
+use Rattle.flux_values.specs.Texts.{printed_value}
+use Rattle.flux_values.specs.declared.values.Value.{Value}
+use Rattle.flux_model.specs.declared.programs.Program.{Program}
+use Rattle.flux_model.specs.declared.journals.CallMade.{CallMade}
+use Rattle.flux_model.specs.Texts.{node_name, comma_separated, printed_values, printed_result, printed_put}
+
+-- values with commas between them
+abbrev pub listed : List Value → List ℕ
+listed values = comma_separated (map printed_value values)
+
+-- what stands between the values so far and the next
+abbrev pub separator : List Value → List ℕ
+separator [] = []
+separator (value ∷ values) = codes ", "
+
+-- a call without what it emits
+abbrev pub called : Program → CallMade → List ℕ
+called p made =
+    codes "call " ++ node_name p made.node ++ codes " " ++ printed_values made.args ++ codes " " ++ printed_result made.answer.result
+    ++ flat_map printed_put made.answer.puts
