@@ -1,6 +1,6 @@
 //! Flow after flow makes one step: a call is run and finished at once, and who waits is passed over until it may go on.
 
-ghost use Rattle.std.specs.Prelude.{◌<◌, length};
+ghost use Rattle.std.specs.Prelude.{◌≡◌, ◌<◌, length};
 
 use flow_core::{Core, Step};
 use flux_library::Library;
@@ -14,6 +14,8 @@ use std::collections::{BTreeMap, VecDeque};
 pub enum Turn {
     Went,
     Waits(Key),
+    /// Nothing: its call was begun before.
+    Calling,
     Ended,
 }
 
@@ -24,11 +26,13 @@ pub fn take_turn<L: Library>(
     flow: FlowNo,
 ) -> Result<Turn, Memory>
     requires { flow.0 < length core.old.items }
+    ensures { core.new.program ≡ core.old.program }
 {
     match core.step(flow)? {
         Step::Went => Ok(Turn::Went),
         Step::Waits { key, .. } => Ok(Turn::Waits(key)),
-        Step::Ended | Step::Calling => Ok(Turn::Ended),
+        Step::Calling => Ok(Turn::Calling),
+        Step::Ended => Ok(Turn::Ended),
         Step::Job(job) => {
             let done = job.run(alloc)?;
             let _ = core.finish(&done)?;
@@ -65,7 +69,7 @@ impl Turns {
             return Ok(());
         }
         match take_turn(self.alloc, core, flow)? {
-            Turn::Ended => Ok(()),
+            Turn::Ended | Turn::Calling => Ok(()),
             Turn::Waits(key) => self.wait(key, flow),
             Turn::Went => {
                 self.ready.push_back(flow)?;
