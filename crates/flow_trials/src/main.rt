@@ -1,7 +1,7 @@
 //! The program `flow_trials`: drives a core by its calls, without any runtime, for the benches.
 //!
-//! `core N` drives N flows to their ends, and prints how many flows and events there are. `journal N P R` prints their
-//! journal P times and reads its text R times, and prints how many events and bytes there are.
+//! `core N` drives N flows to their ends, and prints how many flows and events there are. `journal N P R` makes their
+//! journal's text P times and reads it R times, and prints how many events and bytes there are. `text N` prints that text.
 #![tactic(auto)]
 
 mod building;
@@ -14,10 +14,11 @@ mod turns;
 use building::{Given, checked_of, core_of};
 use flow_core::Core;
 use flux_values::List;
-use journals::print_again;
+use journals::{print_again, read_again};
 use nodes_counter::Counter;
 use std::alloc::Global;
 use std::env;
+use std::io::Write;
 use std::process::ExitCode;
 use troubles::Trouble;
 use turns::drive;
@@ -31,6 +32,7 @@ const PROGRAM: &[u8] =
 enum Words {
     Core { flows: u32 },
     Journal { flows: u32, prints: u32, reads: u32 },
+    Text { flows: u32 },
 }
 
 fn number(word: &str) -> Result<u32, Trouble> {
@@ -46,6 +48,9 @@ fn read_words(words: &[String]) -> Result<Words, Trouble> {
             flows: number(flows.as_str())?,
             prints: number(prints.as_str())?,
             reads: number(reads.as_str())?,
+        }),
+        [_, text, flows] if text.as_str() == "text" => Ok(Words::Text {
+            flows: number(flows.as_str())?,
         }),
         _ => Err(Trouble::Words),
     }
@@ -71,23 +76,35 @@ fn driven(alloc: Global, flows: u32) -> Result<Core<Counter>, Trouble> {
     if core.live() == 0 { Ok(core) } else { Err(Trouble::Text) }
 }
 
+fn answer_core(rt: &HostRuntime, flows: u32) -> Result<(), Trouble> {
+    let core = driven(rt.alloc(), flows)?;
+    println!(rt; "flows {flows} events {}", core.journal().entries.len())?;
+    Ok(())
+}
+
+fn answer_journal(rt: &HostRuntime, flows: u32, prints: u32, reads: u32) -> Result<(), Trouble> {
+    let core = driven(rt.alloc(), flows)?;
+    let checked = checked_of(rt.alloc(), PROGRAM, &Counter)?;
+    let text = print_again(rt.alloc(), &checked, core.journal(), prints)?;
+    read_again(rt.alloc(), &checked, text.as_bytes(), reads)?;
+    println!(rt; "events {} bytes {}", core.journal().entries.len(), text.as_bytes().len())?;
+    Ok(())
+}
+
+fn answer_text(rt: &HostRuntime, flows: u32) -> Result<(), Trouble> {
+    let core = driven(rt.alloc(), flows)?;
+    let checked = checked_of(rt.alloc(), PROGRAM, &Counter)?;
+    let text = print_again(rt.alloc(), &checked, core.journal(), 1)?;
+    rt.stdout().write_all(text.as_bytes())?;
+    Ok(())
+}
+
 fn answer(rt: &HostRuntime) -> Result<(), Trouble> {
-    let alloc = rt.alloc();
-    let words: Vec<String> = match env::args(rt) {
-        Ok(args) => args.collect(alloc)?,
-        Err(_) => return Err(Trouble::Words),
-    };
+    let words: Vec<String> = env::args(rt)?.collect(rt.alloc())?;
     match read_words(words.as_slice())? {
-        Words::Core { flows } => {
-            let core = driven(alloc, flows)?;
-            println!(rt; "flows {flows} events {}", core.journal().entries.len()).map_err(|_| Trouble::Output)
-        }
-        Words::Journal { flows, prints, reads } => {
-            let core = driven(alloc, flows)?;
-            let checked = checked_of(alloc, PROGRAM, &Counter)?;
-            let text = print_again(alloc, &checked, core.journal(), prints)?;
-            println!(rt; "events {} bytes {}", core.journal().entries.len(), text.as_bytes().len()).map_err(|_| Trouble::Output)
-        }
+        Words::Core { flows } => answer_core(rt, flows),
+        Words::Journal { flows, prints, reads } => answer_journal(rt, flows, prints, reads),
+        Words::Text { flows } => answer_text(rt, flows),
     }
 }
 

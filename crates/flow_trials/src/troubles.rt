@@ -2,6 +2,7 @@
 
 use flux_values::Memory;
 use std::alloc::{AllocError, AllocFailed};
+use std::io;
 
 #[derive(Clone, Copy, Debug, PartialEq, Eq)]
 pub enum Trouble {
@@ -11,8 +12,8 @@ pub enum Trouble {
     Text,
     /// A printed journal was read as another one, or not at all.
     Journal,
-    /// The answer could not be printed.
-    Output,
+    /// Words or output failed.
+    System,
     Memory,
 }
 
@@ -22,7 +23,7 @@ impl Trouble {
         match self {
             Trouble::Text | Trouble::Journal => 1,
             Trouble::Words => 2,
-            Trouble::Output => 6,
+            Trouble::System => 6,
             Trouble::Memory => 12,
         }
     }
@@ -43,5 +44,11 @@ impl From<AllocError> for Trouble {
 impl<T: Drop> From<AllocFailed<T>> for Trouble {
     fn from(_e: AllocFailed<T>) -> Trouble {
         Trouble::Memory
+    }
+}
+
+impl From<io::Error> for Trouble {
+    fn from(_e: io::Error) -> Trouble {
+        Trouble::System
     }
 }
