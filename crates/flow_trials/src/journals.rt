@@ -1,0 +1,41 @@
+//! A journal's text, printed and read back again and again.
+
+use crate::troubles::Trouble;
+use flux_hoist::Checked;
+use flux_journal::print_journal;
+use flux_model::Journal;
+use flux_values::{Bytes, List, Memory};
+use std::alloc::Global;
+
+/// The journal's text, printed so many times, and at least once.
+pub fn print_again(
+    alloc: Global,
+    checked: &Checked,
+    journal: &Journal,
+    times: u32,
+) -> Result<Bytes, Memory> {
+    let mut text = print_journal(alloc, &checked.program, journal)?;
+    for _ in 1..times {
+        text = print_journal(alloc, &checked.program, journal)?;
+    }
+    Ok(text)
+}
+
+fn read(alloc: Global, _checked: &Checked, _text: &[u8]) -> Result<Journal, Trouble> {
+    Ok(Journal { entries: List::new(alloc) })
+}
+
+/// Reads a journal's text so many times. What was read last has the same text.
+pub fn read_again(alloc: Global, checked: &Checked, text: &[u8], times: u32) -> Result<(), Trouble> {
+    for _ in 1..times {
+        drop(read(alloc, checked, text)?);
+    }
+    if times > 0 {
+        let journal = read(alloc, checked, text)?;
+        let again = print_journal(alloc, &checked.program, &journal)?;
+        if again.as_bytes() != text {
+            return Err(Trouble::Journal);
+        }
+    }
+    Ok(())
+}
