@@ -173,7 +173,7 @@ head_test line told events h = (
 
 -- ---- texts
 
-reads_by : (p : Program) (text : List ℕ) (journal : Journal) (t : Bool) → is_headed text ≡ t → FitsFormat t (lines_of text) → AreEntryLines p (drop (head_count t) (lines_of text)) journal.entries → ReadsAs p text journal
+pub reads_by : (p : Program) (text : List ℕ) (journal : Journal) (t : Bool) → is_headed text ≡ t → FitsFormat t (lines_of text) → AreEntryLines p (drop (head_count t) (lines_of text)) journal.entries → ReadsAs p text journal
 reads_by p text journal t is head lines = record {
   head = subst (λ (u : Bool). FitsFormat u (lines_of text)) (sym is) head;
   lines = subst (λ (u : Bool). AreEntryLines p (drop (head_count u) (lines_of text)) journal.entries) (sym is) lines;

@@ -10,3 +10,6 @@ pub mod Worded
 pub mod Lined
 pub mod Once
 pub mod Journaled
+pub mod Clean
+pub mod Printed
+pub mod Entered

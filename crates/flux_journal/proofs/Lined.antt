@@ -1,5 +1,5 @@
 -- Nodes by their names, what stands behind an exit's and a call's word, and lines.
-use Rattle.std.proofs.Common.{◌≡◌, ◌≢◌, ℕ, zero, suc, ◌<◌, ◌^◌, List, [], ◌∷◌, ◌++◌, length, Option, Some, None, IfNone, Result, Ok, Err, refl, sym, ap, ◌∙◌, subst, append_assoc, arith}
+use Rattle.std.proofs.Common.{false, ◌≡◌, ◌≢◌, ℕ, zero, suc, ◌<◌, ◌^◌, List, [], ◌∷◌, ◌++◌, length, Option, Some, None, IfNone, Result, Ok, Err, refl, sym, ap, ◌∙◌, subst, append_assoc, arith}
 use Rattle.std.specs.List.{AllByRecursion, slice_get}
 use Rattle.std.specs.Option.{option_map}
 use Rattle.std.specs.Str.Parse.{AllDigits}
@@ -8,7 +8,7 @@ use Rattle.std.proofs.lemmas.Bool.Decides.{nat_tests}
 use Rattle.std.proofs.lemmas.Fmt.{decimal_is_IsNumeral}
 use Rattle.std.proofs.lemmas.Str.Parse.{digit_from_value}
 use Rattle.std.proofs.lemmas.Option.{slice_get-map, slice_get_within}
-use Rattle.flux_values.specs.Identifiers.{IsIdentifier}
+use Rattle.flux_values.specs.Identifiers.{is_word_byte, IsIdentifier}
 use Rattle.flux_model.specs.declared.programs.Program.{Program}
 use Rattle.flux_model.specs.declared.programs.Node.{Node}
 use Rattle.flux_model.specs.declared.programs.NodeNo.{NodeNo}
@@ -62,13 +62,16 @@ all_at [] k node all at = absurd cc
 all_at (n ∷ nodes) zero node all at = let same : n ≡ node = cc in subst (λ (m : Node). IsIdentifier m.name) same all.0
 all_at (n ∷ nodes) (suc k) node all at = all_at nodes k node all.1 at
 
--- a node's name has no space
-name_clean : (p : Program) → IsNamed p → (o : Option Node) (k : ℕ) → slice_get p.nodes k ≡ o → HasNone 32 (name_in o)
-name_clean p named None k at = tt
-name_clean p named (Some n) k at = identifier_clean 32 refl n.name (all_at p.nodes k n named.nodes at)
+-- a node's name has no byte that isn't a word's
+name_clean : (m : ℕ) → is_word_byte m ≡ false → (p : Program) → IsNamed p → (o : Option Node) (k : ℕ) → slice_get p.nodes k ≡ o → HasNone m (name_in o)
+name_clean m free p named None k at = tt
+name_clean m free p named (Some n) k at = identifier_clean m free n.name (all_at p.nodes k n named.nodes at)
+
+pub node_free : (m : ℕ) → is_word_byte m ≡ false → (p : Program) → IsNamed p → (node : NodeNo) → HasNone m (node_name p node)
+node_free m free p named node = name_clean m free p named (slice_get p.nodes node.0) node.0 refl
 
 pub node_clean : (p : Program) → IsNamed p → (node : NodeNo) → HasNone 32 (node_name p node)
-node_clean p named node = name_clean p named (slice_get p.nodes node.0) node.0 refl
+node_clean p named node = node_free 32 refl p named node
 
 -- ---- exits
 

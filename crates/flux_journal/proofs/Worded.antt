@@ -19,7 +19,7 @@ use Rattle.flux_journal.proofs.Failing.{on_bad}
 
 -- ---- words
 
-clean_by : (m : ℕ) (text : List ℕ) → list_all (λ b. not (eqb b m)) text ≡ true → HasNone m text
+pub clean_by : (m : ℕ) (text : List ℕ) → list_all (λ b. not (eqb b m)) text ≡ true → HasNone m text
 clean_by m [] e = tt
 clean_by m (b ∷ text) e = let two = both_true (not (eqb b m)) (list_all (λ c. not (eqb c m)) text) e in (not_back (eqb b m) two.0, clean_by m text two.1)
 

@@ -3,4 +3,5 @@ pub mod Logs
 pub mod Entries
 pub mod Spelled
 pub mod Journals
+pub mod Laws
 pub mod steps

@@ -3,6 +3,7 @@
 ghost use Rattle.std.specs.Prelude.{◌≡◌, ◌<◌, ◌≤◌, ◌^◌, ◌↔◌, ℕ, IsTrue, IfSome, IfNone, Ok, Err, length};
 ghost use Rattle.flux_model.specs.declared.journals.Journal.{Journal};
 ghost use Rattle.flux_model.specs.Names.{IsNamed};
+ghost use Rattle.flux_model.specs.Texts.{printed_journal};
 ghost use Rattle.flux_model.specs.Numbered.{IsNumbered};
 ghost use Rattle.flux_journal.specs.declared.faults.JournalFault.TheVariants as faults;
 ghost use Rattle.flux_journal.specs.Formats.{printed_journal_2};
@@ -114,6 +115,12 @@ pub fn read_journal(alloc: Global, program: &Program, bytes: &[u8]) -> Result<Jo
         → IsOrMemory (Ok journal) result }
     ensures bad { (line : ℕ) → IsBadLine program.now bytes.now line
         → IsOrMemory (Err (faults.BadLine line)) result }
+    // The printed texts of a journal of the program's entries are read as that journal.
+    ensures again { (journal : Journal) → AreEntriesOf program.now journal.entries
+        → bytes.now ≡ printed_journal program.now journal → IsOrMemory (Ok journal) result }
+    ensures again_2 { (journal : Journal) (flows : ℕ) → AreEntriesOf program.now journal.entries
+        → length journal.entries < 2 ^ 64 → flows < 2 ^ 32
+        → bytes.now ≡ printed_journal_2 program.now flows journal → IsOrMemory (Ok journal) result }
 {
     read_all(alloc, program, bytes)
 }

@@ -11,6 +11,7 @@ mod cuts;
 mod faults;
 mod journals;
 mod keys;
+mod laws;
 mod lines;
 mod names;
 mod outcomes;
@@ -18,5 +19,6 @@ mod printing;
 
 pub use faults::{JournalFault, LineFault};
 pub use journals::read_journal;
+pub use laws::text_law;
 pub use lines::read_line;
 pub use printing::{print_item, print_journal, print_journal_2, print_log};
