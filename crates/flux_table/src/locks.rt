@@ -73,7 +73,7 @@ impl Lock {
     pub fn line(&self) -> &[Waiter]
         ensures { result.now ≡ self.now.line }
     {
-        self.line.as_slice()
+        self.line.waiters()
     }
 
     /// The lowest-numbered flow that blocks a flow from the key in a mode.
