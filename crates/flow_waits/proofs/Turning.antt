@@ -24,7 +24,7 @@ use Rattle.flow_core.specs.States.{CoreState, setup_in}
 use Rattle.flow_core.specs.Moves.{HasStepped, HasWaited, AddsWait, MakesEvent}
 use Rattle.flow_waits.specs.Turns.{IsPassing, IsInLine, MakesMove}
 
-end-in : (list : List Event) → list_any is_end list ≡ true → (outcome : Outcome) × In (events.End outcome) list
+pub end-in : (list : List Event) → list_any is_end list ≡ true → (outcome : Outcome) × In (events.End outcome) list
 end-in [] any = absurd cc
 end-in (events.End outcome ∷ list) any = (outcome, inl refl)
 end-in (events.Take key mode ∷ list) any = let more = end-in list any in (more.0, inr more.1)

@@ -57,6 +57,13 @@ impl Line {
         self.order.is_empty()
     }
 
+    /// The waiters in order.
+    pub fn waiters(&self) -> &[Waiter]
+        ensures { result.now ≡ self.now }
+    {
+        self.order.as_slice()
+    }
+
     /// Puts a flow at the end.
     pub fn push(&mut self, waiter: Waiter) -> Result<(), Memory>
         requires { StandsNowhere self.old waiter.flow.0 }
