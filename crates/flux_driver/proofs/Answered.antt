@@ -200,7 +200,7 @@ module _ (library : Libraries) (words : List (List ℕ)) (told after : Told) (fo
 
         done : (status ≡ status_of refusal) ⊎ (status ≡ statuses.Memory)
             → HasAnswered library words (record { told = told; store = record { asked = store; faults = s }; folder = record { asked = folder; faults = f }; out = out; err = err }) status
-              (record { told = after; store = record { asked = store_after; faults = t }; folder = record { asked = folder_after; faults = g }; out = out; err = err_after })
+            (record { told = after; store = record { asked = store_after; faults = t }; folder = record { asked = folder_after; faults = g }; out = out; err = err_after })
             → Done status out out err err_after
         done own answered = record {
           kept = kept;

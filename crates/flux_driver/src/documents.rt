@@ -13,11 +13,7 @@ use flux_outside::Folder;
 use std::alloc::Global;
 
 /// The documents of a folder.
-fn load<'a, F: Folder>(
-    alloc: Global,
-    folder: &mut F,
-    dir: &'a [u8],
-) -> Result<Docs, Refusal<'a>>
+fn load<'a, F: Folder>(alloc: Global, folder: &mut F, dir: &'a [u8]) -> Result<Docs, Refusal<'a>>
     ensures kept { F.folders folder.new ≡ F.folders folder.old }
     ensures asked { AskedFor (F.asked folder.old) (F.asked folder.new) dir.now }
     ensures later { F.faults folder.old ≤ F.faults folder.new }

@@ -22,7 +22,15 @@ const RUNS: &[&[&str]] = &[
     &["run", "program", "--journal=1", "items"],
     &["run", "program", "items", "--docs", "docs"],
     &["run", "--docs=docs", "program", "items", "--runtime=event"],
-    &["run", "program", "--runtime", "script=0,0,4095", "items", "--journal", "1"],
+    &[
+        "run",
+        "program",
+        "--runtime",
+        "script=0,0,4095",
+        "items",
+        "--journal",
+        "1",
+    ],
 ];
 
 /// Words that are no command.
@@ -92,7 +100,10 @@ fn what_is_not_there_is_told_by_its_name(rt: HostRuntime) -> Result<(), Fail> {
         let ended = answer_of(alloc, words, TICK.as_bytes(), ITEMS.as_bytes())?;
         assert_eq!(rt; ended.status, Status::Missing, "{name}");
         assert!(rt; ended.out.as_bytes().is_empty(), "{name}");
-        let rest = ended.err.as_bytes().strip_prefix(b"flux: missing or too long: ");
+        let rest = ended
+            .err
+            .as_bytes()
+            .strip_prefix(b"flux: missing or too long: ");
         let said = rest.ok_or("line")?;
         assert_eq!(rt; said.strip_suffix(b"\n"), Some(name.as_bytes()));
     }
