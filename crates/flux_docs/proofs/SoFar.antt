@@ -1,6 +1,6 @@
 -- The documents so far, and the next one.
-use Rattle.std.proofs.Common.{◌≡◌, ◌⊎◌, inl, inr, ℕ, ◌+◌, ◌<◌, ◌≤◌, Bool, true, false, cond, List, [], ◌∷◌, ◌++◌, length, Option, Some, None, Result, Ok, Err, is_some, refl, sym, ap, ◌∙◌, subst, arith, sum_by, append_assoc, length-append}
-use Rattle.std.specs.Prelude.{IfSome, nat_le, OnOk}
+use Rattle.std.proofs.Common.{◌≡◌, ◌⊎◌, inl, inr, ℕ, ◌+◌, ◌<◌, ◌≤◌, Bool, true, false, cond, List, [], ◌∷◌, ◌++◌, length, Option, Some, None, Result, Ok, is_some, refl, sym, ap, ◌∙◌, subst, arith, append_assoc, length-append}
+use Rattle.std.specs.Prelude.{IfSome, nat_le}
 use Rattle.std.specs.List.{AllByRecursion}
 use Rattle.std.specs.Str.{bytes_eq}
 use Rattle.std.specs.Ordering.{nat_cmp, eq_by_cmp}
@@ -9,13 +9,12 @@ use Rattle.std.specs.FinMap as fin
 use Rattle.std.proofs.lemmas.Bool.Decides.{nat_tests}
 use Rattle.std.proofs.lemmas.Map.Text.{is_eq-slice_cmp}
 use Rattle.std.proofs.lemmas.Slice.Eq.{bytes_eq-Decides}
-use Rattle.std.proofs.lemmas.List.{append-nil}
 use Rattle.std.proofs.lemmas.List.Sums.{sum_by-append, sum_by-cons}
 use Rattle.flux_library.specs.declared.documents.TheConstants.{BODY_LIMIT}
-use Rattle.flux_library.specs.Documents.{Bodies, DocMap, added}
+use Rattle.flux_library.specs.Documents.{Bodies, added}
 use Rattle.flux_outside.specs.declared.faults.StoreFault.{StoreFault}
 use Rattle.flux_outside.specs.declared.folders.NextDoc.{NextDoc}
-use Rattle.flux_outside.specs.declared.folders.NextDoc.TheVariants.{Doc, Longer, NoMore}
+use Rattle.flux_outside.specs.declared.folders.NextDoc.TheVariants.{Doc, Longer}
 use Rattle.flux_outside.specs.declared.memory.FileBytes.{FileBytes}
 use Rattle.flux_outside.specs.Folders.{next_of, left_behind, IsNextOf}
 use Rattle.flux_outside.specs.Memory.{first_of}

@@ -4,7 +4,7 @@ use Rattle.flux_outside.specs.Causes.{Rose}
 use Rattle.flux_outside.specs.declared.faults.StoreFault.{StoreFault}
 use Rattle.flux_outside.specs.declared.faults.StoreFault.TheVariants as stores
 use Rattle.flux_docs.specs.declared.faults.DocsFault.{DocsFault}
-use Rattle.flux_docs.specs.declared.faults.DocsFault.TheVariants.{Failed, Missing, Memory}
+use Rattle.flux_docs.specs.declared.faults.DocsFault.TheVariants.{Failed, Missing, TooLong, Memory}
 
 -- the fault of a call that gave no document
 abbrev pub fault_of : StoreFault → DocsFault
@@ -16,6 +16,7 @@ abbrev pub CountsDocs : {T : Type 0} → ℕ → ℕ → Result T DocsFault → 
 CountsDocs before now (Ok docs) = now ≡ before
 CountsDocs before now (Err Failed) = Rose before now
 CountsDocs before now (Err Missing) = now ≡ before
+CountsDocs before now (Err TooLong) = now ≡ before
 CountsDocs before now (Err Memory) = now ≡ before
 
 -- and it never falls

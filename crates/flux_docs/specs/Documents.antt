@@ -1,13 +1,11 @@
--- The documents of a folder: which ones are within the limits, and what is read of them.
-use Rattle.std.specs.Prelude.{◌≡◌, ℕ, ◌≤◌, List, length, sum_by, Option, Some, None, Result, Ok, Err, ⊤}
+-- The documents of a folder: which ones are within the limits, and which body stands under a name.
+use Rattle.std.specs.Prelude.{◌≡◌, ℕ, ◌≤◌, List, length, sum_by}
 use Rattle.std.specs.List.{AllByRecursion}
 use Rattle.std.specs.FinMap.{get}
 use Rattle.flux_library.specs.declared.documents.TheConstants.{BODY_LIMIT}
-use Rattle.flux_library.specs.Documents.{Bodies, DocMap}
+use Rattle.flux_library.specs.Documents.{Bodies}
 use Rattle.flux_outside.specs.declared.memory.FileBytes.{FileBytes}
 use Rattle.flux_outside.specs.Memory.{first_of}
-use Rattle.flux_docs.specs.declared.faults.DocsFault.{DocsFault}
-use Rattle.flux_docs.specs.declared.faults.DocsFault.TheVariants.{Failed, Missing, Memory}
 use Rattle.flux_docs.specs.declared.reading.TheConstants.{DOC_LIMIT, BODIES_LIMIT}
 
 -- a document's body has at most 1,048,576 bytes
@@ -28,16 +26,3 @@ pub record AreWithin (docs : List FileBytes) : Type 0 where
 -- under each name stands the body of its first document
 abbrev pub HasFirst : Bodies → List FileBytes → Type 0
 HasFirst named docs = (name : List ℕ) → get named name ≡ first_of docs name
-
--- what is read of a folder's documents
-abbrev pub AreLeftRead : List FileBytes → Result DocMap DocsFault → Type 0
-AreLeftRead docs (Ok read) = AreWithin docs × HasFirst read.named docs
-AreLeftRead docs (Err Missing) = AreWithin docs → ⊥
-AreLeftRead docs (Err Failed) = ⊤
-AreLeftRead docs (Err Memory) = ⊤
-
--- what is read where there may be no such folder
-abbrev pub AreRead : Option (List FileBytes) → Result DocMap DocsFault → Type 0
-AreRead (Some docs) result = AreLeftRead docs result
-AreRead None (Ok read) = ⊥
-AreRead None (Err fault) = ⊤

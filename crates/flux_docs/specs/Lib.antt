@@ -1,3 +1,4 @@
 pub mod Causes
 pub mod Documents
+pub mod Folders
 pub mod steps

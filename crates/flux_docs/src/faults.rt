@@ -12,8 +12,10 @@ use flux_values::Memory;
 pub enum DocsFault {
     /// The folder failed, and its count of faults rose.
     Failed,
-    /// There is no such folder, or it is past its limits.
+    /// There is no such folder.
     Missing,
+    /// The folder is past a limit.
+    TooLong,
     Memory,
 }
 
