@@ -1,5 +1,5 @@
 -- What is printed and said is the answer, and it is the one that is due.
-use Rattle.std.proofs.Common.{◌≡◌, ◌≤◌, ℕ, ◌⊎◌, inl, inr, List, [], ◌++◌, Some, Result, Ok, Err, IfErr, Option, refl, sym, ap, subst, ◌∙◌, arith}
+use Rattle.std.proofs.Common.{◌≡◌, ◌≤◌, ℕ, ◌⊎◌, inl, inr, List, [], Some, Result, Ok, Err, IfErr, Option, refl, sym, ap, subst, ◌∙◌, arith}
 use Rattle.std.proofs.lemmas.List.{append-nil}
 use Rattle.flux_words.specs.Commands.{Command, Spells, SpellsNone}
 use Rattle.flux_driver.specs.declared.statuses.Status.{Status}
@@ -8,7 +8,7 @@ use Rattle.flux_driver.specs.declared.refusals.Refusal.{Refusal}
 use Rattle.flux_driver.specs.declared.refusals.Refusal.TheVariants as refusals
 use Rattle.flux_driver.specs.Worlds.{Told, Stream, Wrote, WroteOrBroke}
 use Rattle.flux_driver.specs.Causes.{write_line}
-use Rattle.flux_driver.specs.Answers.{Libraries, Decided, Happened, IsAnswer, OrMemory}
+use Rattle.flux_driver.specs.Answers.{Libraries, IsAnswer, OrMemory}
 use Rattle.flux_driver.specs.Documents.{WithDocs}
 use Rattle.flux_driver.specs.Top.{AreFiles, IsStopped, AsksFor, HasAsked, HasAnswered, RoseForReading, Decides, IsComplete, HasDone}
 use Rattle.flux_driver.specs.steps.Refusals.{status_of, line_of}

@@ -2,7 +2,8 @@
 
 ghost use Rattle.std.specs.Prelude.{◌≡◌, ◌≤◌, ◌++◌, IfOk, IfErr, option_to_list, option_copied};
 ghost use Rattle.flux_outside.specs.Stores.{AskedFor};
-ghost use Rattle.flux_driver.specs.Documents.{GivesDocs, AreDocs};
+ghost use Rattle.flux_docs.specs.Folders.{GivesDocs};
+ghost use Rattle.flux_driver.specs.Documents.{AreDocs};
 ghost use Rattle.flux_driver.specs.steps.Refusals.{Counts};
 ghost use Rattle.flux_driver.specs.steps.Documents.{IsUnreadFolder, AreUnread};
 
@@ -24,6 +25,7 @@ fn load<'a, F: Folder>(alloc: Global, folder: &mut F, dir: &'a [u8]) -> Result<D
     match read_docs(alloc, folder, dir) {
         Ok(docs) => Ok(docs),
         Err(DocsFault::Missing) => Err(Refusal::Missing(dir)),
+        Err(DocsFault::TooLong) => Err(Refusal::Missing(dir)),
         Err(DocsFault::Failed) => Err(Refusal::Read),
         Err(DocsFault::Memory) => Err(Refusal::Memory),
     }
