@@ -1,5 +1,5 @@
 -- What is printed and said is the answer, and it is the one that is due.
-use Rattle.std.proofs.Common.{◌≡◌, ◌≤◌, ℕ, ◌⊎◌, inl, inr, List, [], ◌++◌, Some, Result, Ok, Err, IfErr, Option, refl, sym, ap, subst, ◌∙◌, arith}
+use Rattle.std.proofs.Common.{◌≡◌, ◌≤◌, ℕ, ◌⊎◌, inl, inr, List, [], Some, Result, Ok, Err, IfErr, Option, refl, sym, ap, subst, ◌∙◌, arith}
 use Rattle.std.proofs.lemmas.List.{append-nil}
 use Rattle.flux_words.specs.Commands.{Command, Spells, SpellsNone}
 use Rattle.flux_driver.specs.declared.statuses.Status.{Status}
@@ -8,7 +8,7 @@ use Rattle.flux_driver.specs.declared.refusals.Refusal.{Refusal}
 use Rattle.flux_driver.specs.declared.refusals.Refusal.TheVariants as refusals
 use Rattle.flux_driver.specs.Worlds.{Told, Stream, Wrote, WroteOrBroke}
 use Rattle.flux_driver.specs.Causes.{write_line}
-use Rattle.flux_driver.specs.Answers.{Libraries, Decided, Happened, IsAnswer, OrMemory}
+use Rattle.flux_driver.specs.Answers.{Libraries, IsAnswer, OrMemory}
 use Rattle.flux_driver.specs.Documents.{WithDocs}
 use Rattle.flux_driver.specs.Top.{AreFiles, IsStopped, AsksFor, HasAsked, HasAnswered, RoseForReading, Decides, IsComplete, HasDone}
 use Rattle.flux_driver.specs.steps.Refusals.{status_of, line_of}
@@ -200,7 +200,7 @@ module _ (library : Libraries) (words : List (List ℕ)) (told after : Told) (fo
 
         done : (status ≡ status_of refusal) ⊎ (status ≡ statuses.Memory)
             → HasAnswered library words (record { told = told; store = record { asked = store; faults = s }; folder = record { asked = folder; faults = f }; out = out; err = err }) status
-              (record { told = after; store = record { asked = store_after; faults = t }; folder = record { asked = folder_after; faults = g }; out = out; err = err_after })
+            (record { told = after; store = record { asked = store_after; faults = t }; folder = record { asked = folder_after; faults = g }; out = out; err = err_after })
             → Done status out out err err_after
         done own answered = record {
           kept = kept;

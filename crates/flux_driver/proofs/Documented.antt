@@ -1,16 +1,10 @@
 -- What a command answers behind its documents is what it answers with them.
 use Rattle.std.proofs.Common.{◌≡◌, ◌++◌, ℕ, inl, inr, ◌⊎◌, List, [], Option, Some, None, Result, Ok, Err, IfSome, IfOk, IfErr, refl, sym, ap, subst, ◌∙◌}
-use Rattle.std.specs.Prelude.{option_to_list, ⊤}
+use Rattle.std.specs.Prelude.{option_to_list}
 use Rattle.std.proofs.lemmas.List.{append-nil}
-use Rattle.flux_values.specs.Meanings.{LibraryMeaning}
 use Rattle.flux_library.specs.Documents.{DocMap}
 use Rattle.flux_library.specs.DocumentLaws.{same_docs}
-use Rattle.flux_outside.specs.Causes.{Rose}
-use Rattle.std.specs.Cmp.Lexicographic.{nat_list_cmp_total}
-use Rattle.std.specs.FinMap.{same_map, slice_cmp-IsAntisymmetric, nat_cmp-IsAntisymmetric}
-use Rattle.flux_outside.specs.declared.memory.FileBytes.{FileBytes}
-use Rattle.flux_docs.specs.declared.faults.DocsFault.TheVariants as docs_faults
-use Rattle.flux_docs.specs.Documents.{AreRead}
+use Rattle.flux_docs.proofs.Once.{one_docs, not_lost}
 use Rattle.flux_words.specs.Commands.{Command, check, plan, format, run, help}
 use Rattle.flux_driver.specs.declared.refusals.Refusal.{Refusal}
 use Rattle.flux_driver.specs.declared.refusals.Refusal.TheVariants as refusals
@@ -18,35 +12,27 @@ use Rattle.flux_driver.specs.declared.statuses.Status.{Status}
 use Rattle.flux_driver.specs.declared.statuses.Status.TheVariants as statuses
 use Rattle.flux_driver.specs.Worlds.{Files, Folders, Told}
 use Rattle.flux_driver.specs.Commands.{ReadsProgram, folder_of}
-use Rattle.flux_driver.specs.Documents.{AreDocs, WithDocs, IsDirLost, TellsDocs}
+use Rattle.flux_driver.specs.Documents.{AreDocs, IsDirLost, TellsDocs}
 use Rattle.flux_driver.specs.Printed.{IsPrinted}
 use Rattle.flux_driver.specs.Causes.{lost_line}
 use Rattle.flux_driver.specs.Answers.{Libraries, Decided, IsFolderMissing, Prints}
 use Rattle.flux_driver.specs.Top.{IsStopped}
 use Rattle.flux_driver.specs.steps.Documents.{AreUnread}
 use Rattle.flux_driver.specs.steps.Refusals.{status_of, line_of, CountsRefusal, Counts, IsRefused}
-use Rattle.flux_driver.specs.steps.Preparing.{AsksFiles, AsksAll, IsRefusedAll, AreSteady, CountsBothRefusal, CountsBoth, AnswersDue, IsFirm, prepared_status}
+use Rattle.flux_driver.specs.steps.Preparing.{AsksFiles, AsksAll, IsRefusedAll, CountsBothRefusal, CountsBoth, AnswersDue, IsFirm, prepared_status}
 use Rattle.flux_driver.proofs.Once.{View, same_view}
 
 -- ---- the documents are one, or lost
 
-one_docs : (found : Option (List FileBytes)) (a b : DocMap) → AreRead found (Ok a) → AreRead found (Ok b) → a ≡ b
-one_docs None a b x y = absurd x
-one_docs (Some files) a b x y = same_docs a b (same_map nat_list_cmp_total (slice_cmp-IsAntisymmetric nat_cmp-IsAntisymmetric) a.named b.named (λ name. x.1 name ∙ sym (y.1 name)))
-
-not_lost : (found : Option (List FileBytes)) (docs : DocMap) → AreRead found (Ok docs) → AreRead found (Err docs_faults.Missing) → ⊥
-not_lost None docs x lost = x
-not_lost (Some files) docs x lost = lost x.0
-
 docs_once : (folders : Folders) (dir : Option (List ℕ)) (a b : DocMap) → TellsDocs folders dir → AreDocs folders dir a → AreDocs folders dir b → a ≡ b
 docs_once folders None a b tells x y = same_docs a b (x ∙ sym y)
 docs_once None (Some dir) a b tells x y = absurd cc
-docs_once (Some held) (Some dir) a b tells x y = one_docs (held dir) a b x y
+docs_once (Some held) (Some dir) a b tells x y = one_docs held dir a b x y
 
 not_both : (folders : Folders) (dir : Option (List ℕ)) (docs : DocMap) (name : List ℕ) → TellsDocs folders dir → AreDocs folders dir docs → IsDirLost folders dir name → ⊥
 not_both folders None docs name tells are lost = lost
 not_both None (Some dir) docs name tells are lost = absurd cc
-not_both (Some held) (Some dir) docs name tells are lost = not_lost (held dir) docs are lost.1
+not_both (Some held) (Some dir) docs name tells are lost = not_lost held dir docs are lost.1
 
 -- ---- what was asked for
 

@@ -1,5 +1,5 @@
 -- With their documents, a command and files decide one status.
-use Rattle.std.proofs.Common.{◌≡◌, ℕ, inl, inr, ◌⊎◌, List, Option, Some, sym, ap, subst, ◌∙◌}
+use Rattle.std.proofs.Common.{◌≡◌, ℕ, inl, inr, ◌⊎◌, List, Option, Some, sym, subst, ◌∙◌}
 use Rattle.flux_values.specs.Meanings.{LibraryMeaning}
 use Rattle.flux_outside.specs.declared.stores.File.{File}
 use Rattle.flux_outside.specs.declared.stores.File.TheVariants.{Found, Missing, Longer}

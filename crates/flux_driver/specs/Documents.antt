@@ -1,24 +1,14 @@
 -- The documents of a command.
-use Rattle.std.specs.Prelude.{◌≡◌, ℕ, List, Option, Some, None, IsSome, IfSome, Ok, Err, ⊤}
+use Rattle.std.specs.Prelude.{◌≡◌, ℕ, List, Option, Some, None, IsSome, ⊤}
 use Rattle.std.specs.FinMap.{empty}
 use Rattle.flux_values.specs.Meanings.{LibraryMeaning}
 use Rattle.flux_library.specs.Documents.{DocMap}
-use Rattle.flux_docs.specs.declared.faults.DocsFault.TheVariants.{Missing}
-use Rattle.flux_docs.specs.Documents.{AreRead}
+use Rattle.flux_docs.specs.Folders.{GivesDocs, IsFolderLost}
 use Rattle.flux_words.specs.Commands.{Command}
 use Rattle.flux_driver.specs.Worlds.{Folders, Told}
 use Rattle.flux_driver.specs.Commands.{folder_of}
 
--- a folder of this name can have given these documents: where it is told, it is there and within its
--- limits, and under each name stands its first document of that name
-abbrev pub GivesDocs : Folders → List ℕ → DocMap → Type 0
-GivesDocs told dir docs = IfSome told (λ folders. AreRead (folders dir) (Ok docs))
-
--- there is no such folder, or it is past a limit
-abbrev pub IsFolderLost : Folders → List ℕ → Type 0
-IsFolderLost told dir = IfSome told (λ folders. AreRead (folders dir) (Err Missing))
-
--- none where no folder is named, else what the folder can have given
+-- none where no folder is named, else what the folder gives, where it is told
 abbrev pub AreDocs : Folders → Option (List ℕ) → DocMap → Type 0
 AreDocs told None docs = docs.named ≡ empty
 AreDocs told (Some dir) docs = GivesDocs told dir docs

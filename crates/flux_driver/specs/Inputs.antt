@@ -1,5 +1,5 @@
 -- What the files of a command hold.
-use Rattle.std.specs.Prelude.{◌≡◌, ℕ, List}
+use Rattle.std.specs.Prelude.{ℕ, List}
 use Rattle.flux_values.specs.Meanings.{LibraryMeaning}
 use Rattle.flux_outside.specs.declared.stores.File.TheVariants.{Found}
 use Rattle.flux_syntax.specs.declared.declarations.Decl.{Decl}

@@ -2,7 +2,8 @@
 
 ghost use Rattle.std.specs.Prelude.{◌≡◌, ◌≤◌, ◌++◌, IfOk, IfErr, option_to_list, option_copied};
 ghost use Rattle.flux_outside.specs.Stores.{AskedFor};
-ghost use Rattle.flux_driver.specs.Documents.{GivesDocs, AreDocs};
+ghost use Rattle.flux_docs.specs.Folders.{GivesDocs};
+ghost use Rattle.flux_driver.specs.Documents.{AreDocs};
 ghost use Rattle.flux_driver.specs.steps.Refusals.{Counts};
 ghost use Rattle.flux_driver.specs.steps.Documents.{IsUnreadFolder, AreUnread};
 
@@ -13,11 +14,7 @@ use flux_outside::Folder;
 use std::alloc::Global;
 
 /// The documents of a folder.
-fn load<'a, F: Folder>(
-    alloc: Global,
-    folder: &mut F,
-    dir: &'a [u8],
-) -> Result<Docs, Refusal<'a>>
+fn load<'a, F: Folder>(alloc: Global, folder: &mut F, dir: &'a [u8]) -> Result<Docs, Refusal<'a>>
     ensures kept { F.folders folder.new ≡ F.folders folder.old }
     ensures asked { AskedFor (F.asked folder.old) (F.asked folder.new) dir.now }
     ensures later { F.faults folder.old ≤ F.faults folder.new }
@@ -28,6 +25,7 @@ fn load<'a, F: Folder>(
     match read_docs(alloc, folder, dir) {
         Ok(docs) => Ok(docs),
         Err(DocsFault::Missing) => Err(Refusal::Missing(dir)),
+        Err(DocsFault::TooLong) => Err(Refusal::Missing(dir)),
         Err(DocsFault::Failed) => Err(Refusal::Read),
         Err(DocsFault::Memory) => Err(Refusal::Memory),
     }

@@ -43,11 +43,7 @@ pub struct Wanted {
 }
 
 /// The journal of a core that is driven to its end.
-fn drive<L: Library, G: Gate>(
-    core: Core<L>,
-    runtime: Runtime,
-    gate: &G,
-) -> Result<Journal, Memory>
+fn drive<L: Library, G: Gate>(core: Core<L>, runtime: Runtime, gate: &G) -> Result<Journal, Memory>
     requires { core.entries ≡ [] }
     ensures { IfOk result (λ journal. IsDriven (setup_in L.meaning core) runtime journal.entries) }
 {

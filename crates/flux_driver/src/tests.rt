@@ -138,12 +138,7 @@ fn answer_with(
 }
 
 /// What words come to where no call fails.
-fn answer_of(
-    alloc: Global,
-    words: &[&str],
-    program: &[u8],
-    items: &[u8],
-) -> Result<Ended, Memory> {
+fn answer_of(alloc: Global, words: &[&str], program: &[u8], items: &[u8]) -> Result<Ended, Memory> {
     answer_with(alloc, words, program, items, ROOM, NO_FAILS)
 }
 

@@ -179,7 +179,10 @@ fn a_narrow_stream_gets_all(rt: HostRuntime) -> Result<(), Fail> {
         err: RealSink::new(fs::create(&rt, "err.txt")?),
     };
     let words = list_of(alloc, &["format", "program"])?;
-    assert_eq!(&rt; answer(&rt, alloc, Ok(words), &mut world, &OpenGate), Status::Done);
+    assert_eq!(&rt;
+        answer(&rt, alloc, Ok(words), &mut world, &OpenGate),
+        Status::Done
+    );
     drop(world);
     assert_eq!(&rt; narrow.taken.as_slice(), PROGRAM.as_bytes());
     fs::remove_file(&rt, "err.txt")?;
@@ -198,7 +201,10 @@ fn a_full_device_is_a_write_that_failed(rt: HostRuntime) -> Result<(), Fail> {
         err: RealSink::new(fs::create(&rt, "err.txt")?),
     };
     let words = list_of(alloc, &["check", "program"])?;
-    assert_eq!(&rt; answer(&rt, alloc, Ok(words), &mut world, &OpenGate), Status::Write);
+    assert_eq!(&rt;
+        answer(&rt, alloc, Ok(words), &mut world, &OpenGate),
+        Status::Write
+    );
     let said = fs::read_to_string(&rt, "err.txt")?;
     assert_eq!(&rt; said.as_str(), WRITE_FAILED);
     fs::remove_file(&rt, "err.txt")?;

@@ -1,9 +1,9 @@
 -- Steps of a command: documents that were not read.
 use Rattle.std.specs.Prelude.{◌≡◌, ℕ, List, Option, Some, None, ⊤}
+use Rattle.flux_docs.specs.Folders.{IsFolderLost}
 use Rattle.flux_driver.specs.declared.refusals.Refusal.{Refusal}
 use Rattle.flux_driver.specs.declared.refusals.Refusal.TheVariants.{Usage, Static, Items, Read, Missing, Memory}
 use Rattle.flux_driver.specs.Worlds.{Folders}
-use Rattle.flux_driver.specs.Documents.{IsFolderLost}
 
 -- a folder was not read: it isn't there or is past a limit, it failed, or there was no memory
 abbrev pub IsUnreadFolder : Folders → List ℕ → Refusal → Type 0

@@ -20,11 +20,31 @@ fn run_with(alloc: Global, fails: Fails) -> Result<Ended, Memory> {
 fn each_failed_read_is_answered(rt: HostRuntime) -> Result<(), Fail> {
     let alloc = rt.alloc();
     for call in 1..=6 {
-        let store = run_with(alloc, Fails { store: call, ..NO_FAILS })?;
-        let wanted = if call <= 2 { Status::Read } else { Status::Done };
+        let store = run_with(
+            alloc,
+            Fails {
+                store: call,
+                ..NO_FAILS
+            },
+        )?;
+        let wanted = if call <= 2 {
+            Status::Read
+        } else {
+            Status::Done
+        };
         assert_eq!(rt; store.status, wanted, "call {call} of the store");
-        let folder = run_with(alloc, Fails { folder: call, ..NO_FAILS })?;
-        let wanted = if call <= 4 { Status::Read } else { Status::Done };
+        let folder = run_with(
+            alloc,
+            Fails {
+                folder: call,
+                ..NO_FAILS
+            },
+        )?;
+        let wanted = if call <= 4 {
+            Status::Read
+        } else {
+            Status::Done
+        };
         assert_eq!(rt; folder.status, wanted, "call {call} of the folder");
         if call <= 2 {
             assert_eq!(rt; folder.err.as_bytes(), b"flux: read failed\n".as_slice());
@@ -38,7 +58,10 @@ fn each_failed_read_is_answered(rt: HostRuntime) -> Result<(), Fail> {
 fn a_failed_write_leaves_a_front_of_the_text(rt: HostRuntime) -> Result<(), Fail> {
     let alloc = rt.alloc();
     for call in 1..20usize {
-        let fails = Fails { out: call as u64, ..NO_FAILS };
+        let fails = Fails {
+            out: call as u64,
+            ..NO_FAILS
+        };
         let ended = run_with(alloc, fails)?;
         let front = PASSED.as_bytes().get(..4 * (call - 1));
         match front {
@@ -57,7 +80,11 @@ fn a_failed_write_leaves_a_front_of_the_text(rt: HostRuntime) -> Result<(), Fail
 fn a_fault_of_err_changes_no_status(rt: HostRuntime) -> Result<(), Fail> {
     let alloc = rt.alloc();
     for call in 1..6 {
-        let fails = Fails { out: 1, err: call, ..NO_FAILS };
+        let fails = Fails {
+            out: 1,
+            err: call,
+            ..NO_FAILS
+        };
         let ended = run_with(alloc, fails)?;
         assert_eq!(rt; ended.status, Status::Write, "call {call}");
         let said = b"flux: write failed\n".as_slice();

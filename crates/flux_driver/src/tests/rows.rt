@@ -20,7 +20,13 @@ const ROWS: &[Row] = &[
         out: "0 take x!\n1 wait x!\n0 enter A\n0 choose 1\n0 take y!\n0 enter Pass_b\n0 call Pass_b (1) ok (1)\n0 exit Pass_b ok\n0 drop y\n0 exit A ok\n0 drop x\n0 end done\n1 take x!\n1 take y!\n1 enter C\n1 choose 1\n1 take x!\n1 enter Pass_d\n1 call Pass_d (2) ok (2)\n1 exit Pass_d ok\n1 drop x\n1 exit C ok\n1 drop y\n1 drop x\n1 end done\n",
     },
     Row {
-        words: &["run", "program", "items", "--runtime", "script=0,1,2,0,0,0,0,2"],
+        words: &[
+            "run",
+            "program",
+            "items",
+            "--runtime",
+            "script=0,1,2,0,0,0,0,2",
+        ],
         program: "Tick () => (int n); Tick_2 () => (int n); Pass_r (int n) => (int n); Pass_w (int n) => (int n); source Tick => Pass_r; source Tick_2 => Pass_w; atomic Pass_r:{k?}; atomic Pass_w:{k};",
         items: "Tick (1)\nTick (2)\nTick_2 (3)\n",
         out: "0 take k?\n1 take k?\n2 wait k!\n0 enter Pass_r\n0 call Pass_r (1) ok (1)\n0 exit Pass_r ok\n0 drop k\n0 end done\n1 enter Pass_r\n1 call Pass_r (2) ok (2)\n1 exit Pass_r ok\n1 drop k\n1 end done\n2 take k!\n2 enter Pass_w\n2 call Pass_w (3) ok (3)\n2 exit Pass_w ok\n2 drop k\n2 end done\n",
@@ -56,7 +62,13 @@ const ROWS: &[Row] = &[
         out: "0 take k?\n1 wait k!\n0 enter A\n0 choose 1\n0 take k?\n0 enter Pass_r\n0 call Pass_r (1) ok (1)\n0 exit Pass_r ok\n0 drop k\n0 exit A ok\n0 drop k\n0 end done\n1 take k!\n1 enter Pass_w\n1 call Pass_w (2) ok (2)\n1 exit Pass_w ok\n1 drop k\n1 end done\n",
     },
     Row {
-        words: &["run", "program", "items", "--runtime", "script=0,1,1,1,7,4095,0"],
+        words: &[
+            "run",
+            "program",
+            "items",
+            "--runtime",
+            "script=0,1,1,1,7,4095,0",
+        ],
         program: "Tick () => (int n); Tick_2 () => (int n); Pass_r (int n) => (int n); Pass_w (int n) => (int n); source Tick => A; source Tick_2 => Pass_w; A = Pass_r; atomic A:{k?}; atomic Pass_r:{k?}; atomic Pass_w:{k};",
         items: "Tick (1)\nTick_2 (2)\n",
         out: "0 take k?\n1 wait k!\n0 enter A\n0 choose 1\n0 take k?\n0 enter Pass_r\n0 call Pass_r (1) ok (1)\n0 exit Pass_r ok\n0 drop k\n0 exit A ok\n0 drop k\n0 end done\n1 take k!\n1 enter Pass_w\n1 call Pass_w (2) ok (2)\n1 exit Pass_w ok\n1 drop k\n1 end done\n",
@@ -103,7 +115,12 @@ const ROWS: &[Row] = &[
 fn runs_print_as_the_table_says(rt: HostRuntime) -> Result<(), Fail> {
     let alloc = rt.alloc();
     for row in ROWS {
-        let ended = answer_of(alloc, row.words, row.program.as_bytes(), row.items.as_bytes())?;
+        let ended = answer_of(
+            alloc,
+            row.words,
+            row.program.as_bytes(),
+            row.items.as_bytes(),
+        )?;
         assert_ended(&rt, row.items, &ended, Status::Done, row.out, "");
     }
     Ok(())
@@ -111,11 +128,20 @@ fn runs_print_as_the_table_says(rt: HostRuntime) -> Result<(), Fail> {
 
 /// Items texts of the first program, and what is said of them.
 const ITEMS: &[(&str, &str)] = &[
-    ("Tick (1)\nTock (2)\n", "line 2: item fault 2 UnknownSource\n"),
+    (
+        "Tick (1)\nTock (2)\n",
+        "line 2: item fault 2 UnknownSource\n",
+    ),
     ("Tick (\"a\")\n", "line 1: item fault 3 ItemTypes\n"),
     ("Tick (1", "line 1: item fault 1 BadItem\n"),
-    ("Tick (1)\n\n# two\nTick (1, 2)\n", "line 4: item fault 3 ItemTypes\n"),
-    ("Tick (1)\nTick(99999999999999999999)\nTock (1)", "line 2: item fault 1 BadItem\n"),
+    (
+        "Tick (1)\n\n# two\nTick (1, 2)\n",
+        "line 4: item fault 3 ItemTypes\n",
+    ),
+    (
+        "Tick (1)\nTick(99999999999999999999)\nTock (1)",
+        "line 2: item fault 1 BadItem\n",
+    ),
 ];
 
 #[test]
@@ -133,7 +159,12 @@ fn the_4097th_item_is_too_many(rt: HostRuntime) -> Result<(), Fail> {
     let alloc = rt.alloc();
     let items = b"Tick (1)\n".repeat(alloc, 4_097)?;
     let program = "Tick () => (int n); Pass (int n) => (int n); source Tick => Pass;";
-    let some = answer_of(alloc, RUN, program.as_bytes(), items.get(9..).ok_or("items")?)?;
+    let some = answer_of(
+        alloc,
+        RUN,
+        program.as_bytes(),
+        items.get(9..).ok_or("items")?,
+    )?;
     assert_eq!(rt; some.status, Status::Done);
     let more = answer_of(alloc, RUN, program.as_bytes(), &items)?;
     let said = "line 4097: item fault 4 TooMany\n";

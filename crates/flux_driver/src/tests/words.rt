@@ -22,7 +22,15 @@ const RUNS: &[&[&str]] = &[
     &["run", "program", "--journal=1", "items"],
     &["run", "program", "items", "--docs", "docs"],
     &["run", "--docs=docs", "program", "items", "--runtime=event"],
-    &["run", "program", "--runtime", "script=0,0,4095", "items", "--journal", "1"],
+    &[
+        "run",
+        "program",
+        "--runtime",
+        "script=0,0,4095",
+        "items",
+        "--journal",
+        "1",
+    ],
 ];
 
 /// Words that are no command.
@@ -52,14 +60,30 @@ const OTHERS: &[&[&str]] = &[
     &["-help"],
 ];
 
-/// Words that name what isn't there, and the name.
+/// Words that name what isn't there, and what is said of it.
 const LOST: &[(&[&str], &str)] = &[
-    (&["check", "absent"], "absent"),
-    (&["format", "absent"], "absent"),
-    (&["run", "absent", "items"], "absent"),
-    (&["run", "program", "absent"], "absent"),
-    (&["run", "program", "items", "--docs", "none"], "none"),
-    (&["run", "absent", "absent", "--docs", "none"], "none"),
+    (&["check", "absent"], "flux: missing or too long: absent\n"),
+    (&["format", "absent"], "flux: missing or too long: absent\n"),
+    (
+        &["run", "absent", "items"],
+        "flux: missing or too long: absent\n",
+    ),
+    (
+        &["run", "program", "gone"],
+        "flux: missing or too long: gone\n",
+    ),
+    (
+        &["run", "program", "items", "--docs", "none"],
+        "flux: missing or too long: none\n",
+    ),
+    (
+        &["run", "absent", "gone", "--docs", "none"],
+        "flux: missing or too long: none\n",
+    ),
+    (
+        &["run", "absent", "gone", "--docs", "docs"],
+        "flux: missing or too long: absent\n",
+    ),
 ];
 
 /// Texts as `format` prints them.
@@ -70,6 +94,11 @@ const FORMATTED: &[(&str, &str)] = &[
         "atomic A:{x, y?(session)};\nB:[_, hit] = ;\n",
     ),
 ];
+
+/// A text with unknown names, and a byte that is no word.
+const BAD: &[(&str, &str)] = &[("A = B $ C;", "1:7: fault 2 BadByte\n")];
+
+const HELPS: &[&[&str]] = &[&["help"], &["--help"]];
 
 #[test]
 fn options_stand_anywhere(rt: HostRuntime) -> Result<(), Fail> {
@@ -88,13 +117,9 @@ fn options_stand_anywhere(rt: HostRuntime) -> Result<(), Fail> {
 #[test]
 fn what_is_not_there_is_told_by_its_name(rt: HostRuntime) -> Result<(), Fail> {
     let alloc = rt.alloc();
-    for (words, name) in LOST {
+    for (words, said) in LOST {
         let ended = answer_of(alloc, words, TICK.as_bytes(), ITEMS.as_bytes())?;
-        assert_eq!(rt; ended.status, Status::Missing, "{name}");
-        assert!(rt; ended.out.as_bytes().is_empty(), "{name}");
-        let rest = ended.err.as_bytes().strip_prefix(b"flux: missing or too long: ");
-        let said = rest.ok_or("line")?;
-        assert_eq!(rt; said.strip_suffix(b"\n"), Some(name.as_bytes()));
+        assert_ended(&rt, "a lost file", &ended, Status::Missing, "", said);
     }
     Ok(())
 }
@@ -102,13 +127,12 @@ fn what_is_not_there_is_told_by_its_name(rt: HostRuntime) -> Result<(), Fail> {
 #[test]
 fn help_and_format_print_their_texts(rt: HostRuntime) -> Result<(), Fail> {
     let alloc = rt.alloc();
-    for word in ["help", "--help"] {
-        let ended = answer_of(alloc, &[word], b"", b"")?;
-        assert_ended(&rt, word, &ended, Status::Done, HELP, "");
+    for words in HELPS {
+        let ended = answer_of(alloc, words, b"", b"")?;
+        assert_ended(&rt, "help", &ended, Status::Done, HELP, "");
     }
     assert_told(&rt, alloc, FORMAT, "", FORMATTED, Status::Done)?;
-    let fault = [("A = B $ C;", "1:7: fault 2 BadByte\n")];
-    assert_told(&rt, alloc, FORMAT, "", &fault, Status::Static)?;
-    assert_told(&rt, alloc, CHECK, "", &fault, Status::Static)?;
+    assert_told(&rt, alloc, FORMAT, "", BAD, Status::Static)?;
+    assert_told(&rt, alloc, CHECK, "", BAD, Status::Static)?;
     Ok(())
 }

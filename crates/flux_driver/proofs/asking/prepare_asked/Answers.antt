@@ -1,6 +1,5 @@
 use Rattle.std.specs.Arc.{arc_value}
 use Rattle.std.proofs.Common.{sym, subst}
-use Rattle.flux_library.specs.Documents.{DocMap}
 use Rattle.flux_words.specs.Asking.{asked}
 use Rattle.flux_driver.specs.declared.refusals.Refusal.TheVariants as refusals
 use Rattle.flux_driver.specs.BuiltIn.{built_in}

@@ -1,12 +1,10 @@
 use Rattle.std.specs.Arc.{arc_value}
-use Rattle.std.proofs.Common.{◌≡◌, sym, subst}
+use Rattle.std.proofs.Common.{sym, subst}
 use Rattle.flux_model.specs.Kinds.{kinds_at}
 use Rattle.flux_hoist.specs.Sets.{held_by}
 use Rattle.flux_items.specs.Rules.{AreRules}
 use Rattle.flux_driver.specs.Items.{rules_of}
-use Rattle.flux_driver.specs.steps.Running.{AreRefused}
 use Rattle.flux_driver.proofs.RuleLists.{rules_are}
-use Rattle.flux_driver.proofs.Passed.{passed}
 use Rattle.flux_driver.proofs.Runs.{can_run, cause_refused, fault_kept}
 use Rattle.flux_driver.proofs.running.run_text.Goals as goal
 
