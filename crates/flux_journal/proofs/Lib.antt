@@ -13,3 +13,4 @@ pub mod Journaled
 pub mod Clean
 pub mod Printed
 pub mod Entered
+pub mod Exemplary

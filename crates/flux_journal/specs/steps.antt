@@ -6,3 +6,4 @@ pub mod Parts
 pub mod Reading
 pub mod Events
 pub mod Lines
+pub mod Examples
