@@ -2,9 +2,9 @@
 
 use crate::troubles::Trouble;
 use flux_hoist::Checked;
-use flux_journal::print_journal;
+use flux_journal::{JournalFault, print_journal, read_journal};
 use flux_model::Journal;
-use flux_values::{Bytes, List, Memory};
+use flux_values::{Bytes, Memory};
 use std::alloc::Global;
 
 /// The journal's text, printed so many times, and at least once.
@@ -21,8 +21,12 @@ pub fn print_again(
     Ok(text)
 }
 
-fn read(alloc: Global, _checked: &Checked, _text: &[u8]) -> Result<Journal, Trouble> {
-    Ok(Journal { entries: List::new(alloc) })
+fn read(alloc: Global, checked: &Checked, text: &[u8]) -> Result<Journal, Trouble> {
+    match read_journal(alloc, &checked.program, text) {
+        Ok(journal) => Ok(journal),
+        Err(JournalFault::BadLine { .. }) => Err(Trouble::Journal),
+        Err(JournalFault::Memory) => Err(Trouble::Memory),
+    }
 }
 
 /// Reads a journal's text so many times. What was read last has the same text.

@@ -7,7 +7,7 @@ use super::{Flows, core_in, text_of};
 use crate::building::checked_of;
 use flow_core::{Core, Step};
 use flux_library::Library;
-use flux_journal::{print_journal};
+use flux_journal::{print_journal, read_line};
 use flux_model::{FlowNo, Journal, Program};
 use flux_values::{List, Memory};
 use nodes_counter::Counter;
@@ -114,7 +114,8 @@ fn wander(alloc: Global, core: &mut Core<Counter>, first: u64) -> Result<(), Mem
 fn assert_lines(rt: &impl Abort, alloc: Global, program: &Program, text: &[u8]) -> Result<(), Fail> {
     for line in text.split(|byte| *byte == b'\n') {
         if !line.is_empty() {
-            let entries = List::new(alloc);
+            let mut entries = List::new(alloc);
+            entries.add(read_line(alloc, program, line)?)?;
             let again = print_journal(alloc, program, &Journal { entries })?;
             assert_eq!(rt; again.as_bytes().strip_suffix(b"\n"), Some(line));
         }
