@@ -1,1 +1,4 @@
+pub mod Places
+pub mod Table
+pub mod Cells
 pub mod Running

@@ -129,9 +129,7 @@ impl<L: Library> Core<L> {
         requires { flow.0 < length self.now.items }
         ensures { result ≡ has_ended self.now.entries flow.0 }
     {
-        let _ = &self.running.live;
-        let _ = flow;
-        unreachable!()
+        self.running.is_ended(flow)
     }
 
     pub fn blocked(&self, flow: FlowNo) -> bool
@@ -147,9 +145,7 @@ impl<L: Library> Core<L> {
         ensures { MatchOption result (IsBlocked (setup_in L.meaning self.now) self.now.entries flow.0 → ⊥)
             (IsBlockedAt (setup_in L.meaning self.now) self.now.entries flow.0) }
     {
-        let _ = &self.running.live;
-        let _ = flow;
-        unreachable!()
+        self.running.waits_at(flow)
     }
 
     /// Whether a flow's next event is a call, begun or not.
@@ -157,9 +153,7 @@ impl<L: Library> Core<L> {
         requires { flow.0 < length self.now.items }
         ensures { IsTrue result ↔ IsAtCall (setup_in L.meaning self.now) self.now.entries flow.0 }
     {
-        let _ = &self.running.live;
-        let _ = flow;
-        unreachable!()
+        self.running.at_call(flow)
     }
 }
 

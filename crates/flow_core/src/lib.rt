@@ -7,6 +7,7 @@
 
 mod calls;
 mod cores;
+mod keys;
 mod places;
 mod running;
 mod runtimes;
