@@ -4,6 +4,7 @@ use Rattle.std.specs.List.{slice_get}
 use Rattle.flux_values.specs.Meanings.{LibraryMeaning}
 use Rattle.flux_model.specs.declared.programs.ClassNo.{ClassNo}
 use Rattle.flux_model.specs.declared.programs.Program.{Program}
+use Rattle.flux_model.specs.declared.programs.SourceLine.{SourceLine}
 use Rattle.flux_model.specs.declared.journals.Key.{Key}
 use Rattle.flux_model.specs.declared.journals.Event.{Event}
 use Rattle.flux_model.specs.declared.journals.Event.TheVariants as events
@@ -75,11 +76,14 @@ ends_waiting before (event ∷ events) = ends_waiting (is_wait event) events
 -- a flow is at its place
 pub record IsPlaceOf (setup : Setup) (plans : List Plan) (entries : List Entry) (flow : ℕ) (place : Place)
     : Type 0 where
+  pub item : Item
+  pub is_item : item_of setup flow ≡ Some item
+  pub line : SourceLine
+  pub is_line : slice_get setup.program.sources item.source.0 ≡ Some line
   pub plan : Plan
   pub is_plan : plan_of_item plans (item_of setup flow) ≡ Some plan
   pub at : IsAt setup plan entries flow place.local
-  pub session : let line = at.line in let item = at.item in
-      place.session ≡ session_number setup.meaning line.session item.values
+  pub session : place.session ≡ session_number setup.meaning line.session item.values
   pub call : (inputs : Inputs) → place.begun ≡ Some inputs → IsBegun setup entries flow inputs
   pub stands : place.stands ≡ ends_waiting false (events_by flow entries)
 
