@@ -74,7 +74,7 @@ has-line setup plans given flow within =
 pub line-plan : (setup : Setup) (plans : List Plan) (flow : ℕ) (has : HasLine setup plans flow) → plan_of_item plans (item_of setup flow) ≡ Some has.plan
 line-plan setup plans flow has = ap (plan_of_item plans) has.is_item ∙ has.is_plan
 
-one-plan : (plans : List Plan) (found : Option Item) (a b : Plan) → plan_of_item plans found ≡ Some a → plan_of_item plans found ≡ Some b → a ≡ b
+pub one-plan : (plans : List Plan) (found : Option Item) (a b : Plan) → plan_of_item plans found ≡ Some a → plan_of_item plans found ≡ Some b → a ≡ b
 one-plan plans found a b one two = let e = sym one ∙ two in cc
 
 -- ---- places

@@ -5,3 +5,4 @@ pub mod Tables
 pub mod Sets
 pub mod Ended
 pub mod AtPlaces
+pub mod Moved

@@ -5,9 +5,11 @@
 //! is seen as and what it keeps at every moment, and `specs/Moves` what each call does.
 #![tactic(auto)]
 
+mod adding;
 mod calls;
 mod cores;
 mod keys;
+mod moving;
 mod places;
 mod running;
 mod runtimes;
