@@ -159,3 +159,17 @@ module _ (entries : List Entry) (flow : FlowNo) (event : Event) (count : ℕ) wh
 pub live-all : (count : ℕ) → live_in [] count ≡ count
 live-all zero = refl
 live-all (suc count) = let more = live-all count in omega (arith, more)
+
+-- where a flow goes on, some are live
+pub live-some : (entries : List Entry) (flow count : ℕ) → flow < count → has_ended entries flow ≡ false → 1 ≤ live_in entries count
+live-some entries flow count lt goes_on =
+    let one : one_live entries flow ≡ 1 = ap (λ (b : Bool). cond b 0 1) goes_on in
+    by count lt one
+  where
+    by : (n : ℕ) → flow < n → one_live entries flow ≡ 1 → 1 ≤ live_in entries n
+    by zero lt one = absurd (omega (arith, lt))
+    by (suc n) lt one = here (cases_eq flow n) (λ less. by n less one)
+      where
+        here : (flow ≡ n) ⊎ (flow ≡ n → ⊥) → (flow < n → 1 ≤ live_in entries n) → 1 ≤ live_in entries n + one_live entries n
+        here (inl same) more = let e : one_live entries n ≡ 1 = subst (λ (f : ℕ). one_live entries f ≡ 1) same one in omega (arith, e)
+        here (inr apart) more = let ne : flow ≢ n = apart in let some = more (omega (arith, lt, ne)) in omega (arith, some)

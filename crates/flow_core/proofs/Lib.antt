@@ -6,3 +6,5 @@ pub mod Sets
 pub mod Ended
 pub mod AtPlaces
 pub mod Moved
+pub mod OnFields
+pub mod Asked

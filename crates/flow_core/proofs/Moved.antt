@@ -17,7 +17,7 @@ use Rattle.flux_model.specs.declared.journals.Event.TheVariants.{Take, Wait, Ent
 use Rattle.flux_model.specs.Setup.{Setup, item_of}
 use Rattle.flux_model.specs.Keys.{Cells}
 use Rattle.flux_model.specs.CellsAfter.{after_event, after_entries, cells_after}
-use Rattle.flux_model.specs.Events.{own_events, own_answers, IsNext, CallIsNext}
+use Rattle.flux_model.specs.Events.{events_by, own_events, own_answers, IsNext, CallIsNext}
 use Rattle.flux_model.specs.Waits.{Blocks, StandsAt, IsNoWaitLast}
 use Rattle.flux_model.specs.Legal.{IsLegal}
 use Rattle.flux_table.specs.Tables.{Locks, holders_of, lines_of}
@@ -233,7 +233,7 @@ module _ (setup : Setup) (plans : List Plan) (given : IsGiven setup plans) (entr
               (own_events-more entries flow.0 (Wait key mode) ∙ append-nil (own_events entries flow.0))
               local session
               (λ inputs is_begun. absurd (not-begun (Take key mode) next coming.place coming.is_place inputs (sym begun ∙ is_begun)))
-              (stands ∙ sym (ap (ends_waiting false) (events-own entries flow.0 (Wait key mode)) ∙ waiting-last false _ (Wait key mode))));
+              (stands ∙ sym (ap (ends_waiting false) (events-own entries flow.0 (Wait key mode)) ∙ waiting-last false (events_by flow.0 entries) (Wait key mode))));
           table = table-waited setup entries legal locks after.table flow key mode new_locks (not_waiting-nowhere entries flow.0 no_wait) waits;
           cells_ = after.cells_ ∙ sym (cells-more setup entries flow (Wait key mode));
         };

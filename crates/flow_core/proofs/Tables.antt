@@ -68,7 +68,7 @@ module _ (setup : Setup) (entries : List Entry) (legal : IsLegal setup entries) 
   module _ (locks : Locks) (is : IsTable entries locks) where
     -- ---- blocking
 
-    blocks-to : (other flow : ℕ) (key : Key) (mode : Mode) → table.Blocks (holders_of locks key) (lines_of locks key) other flow mode → Blocks entries other flow key mode
+    pub blocks-to : (other flow : ℕ) (key : Key) (mode : Mode) → table.Blocks (holders_of locks key) (lines_of locks key) other flow mode → Blocks entries other flow key mode
     blocks-to other flow key mode blocks = record {
       free = λ holds. holds (held-none (modes_held entries flow key) (sym (is.holders key flow) ∙ blocks.free));
       apart = blocks.apart;

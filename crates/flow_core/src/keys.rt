@@ -54,12 +54,10 @@ fn is_named(p: &Program, class: ClassNo, name: &[u8]) -> bool
 fn class_in(p: &Program, declared: &[Hold], name: &[u8]) -> Option<ClassNo>
     ensures { result ≡ class_in p.now declared.now name.now }
 {
-    for hold in declared {
-        if is_named(p, hold.class, name) {
-            return Some(hold.class);
-        }
-    }
-    None
+    declared
+        .iter()
+        .find(|hold| is_named(p, hold.class, name))
+        .map(|hold| hold.class)
 }
 
 /// The cell under the key of a name's class.

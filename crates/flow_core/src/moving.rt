@@ -29,7 +29,14 @@ impl<L: Library> Running<L> {
         ensures err { OnErr result (core_of self.new ≡ core_of self.old) }
     {
         let place = &mut self.places[flow.0 as usize];
-        make(&self.setup, &mut self.journal, &mut place.local, flow, event)
+        make(
+            &self.setup,
+            &mut self.journal,
+            &mut place.local,
+            flow,
+            event,
+        )?;
+        Ok(())
     }
 
     /// Makes a flow's `end`.
