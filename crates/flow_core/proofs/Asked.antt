@@ -82,7 +82,7 @@ module _ {L : Type 0} (meaning : L → LibraryMeaning) (r : Running L) (is : IsR
     abbrev keys : ClassNo → Key
     keys = key_in setup.program place.session
 
-    own : IsPlaceOf setup (plans_of r) entries flow.0 place
+    abbrev own : IsPlaceOf setup (plans_of r) entries flow.0 place
     own = here setup (plans_of r) is.given entries items r.table (cells_of r.cells) is.after flow place coming.is_place
 
     pub event-is_next : (event : Event) → event_for keys next ≡ Some event → IsNext setup entries flow.0 event

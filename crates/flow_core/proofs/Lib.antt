@@ -8,3 +8,4 @@ pub mod AtPlaces
 pub mod Moved
 pub mod OnFields
 pub mod Asked
+pub mod SameCells

@@ -115,6 +115,16 @@ module _ {L : Type 0} (meaning : L → LibraryMeaning) (r : Running L) (is : IsR
     pub place-of : (place : Place) → flow.0 < length setup.items → place ≡ get_or items flow.0 place → IsPlaceOf setup (plans_of r) entries flow.0 place
     place-of place lt read = let after = is.after in let places = after.places_ in places.each flow.0 place (read-at items flow.0 place (within-places flow.0 lt) read)
 
+    module _ (place : Place) (lt : flow.0 < length setup.items) (read : place ≡ get_or items flow.0 place) where
+      pub read-there : slice_get items flow.0 ≡ Some place
+      read-there = read-at items flow.0 place (within-places flow.0 lt) read
+
+      pub reached-of : HasPlan (plans_of r) setup.items flow.0 (λ plan. IsReached plan (matches_in setup) place.local)
+      reached-of = place-reached setup (plans_of r) entries legal flow.0 place (place-of place lt read)
+
+      pub key-of : (class : ClassNo) → key_for setup (item_of setup flow.0) class ≡ Some (key_in setup.program place.session class)
+      key-of class = place-key_for setup (plans_of r) entries legal flow.0 place (place-of place lt read) class
+
     module _ (event : Event) (coming : IsEventComing setup (plans_of r) items flow.0 event) (place : Place) (read : place ≡ get_or items flow.0 place) where
       pub at-place : slice_get items flow.0 ≡ Some place
       at-place = let c = coming.coming in read-at items flow.0 place (slice_get_within items flow.0 c.place c.is_place) read

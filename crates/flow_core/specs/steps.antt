@@ -2,3 +2,6 @@ pub mod Places
 pub mod Table
 pub mod Cells
 pub mod Running
+pub mod Sameness
+pub mod Opening
+pub mod Calling

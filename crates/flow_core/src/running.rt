@@ -35,7 +35,7 @@ pub struct Running<L: Library> {
 }
 
 impl<L: Library> Running<L> {
-    fn next(&self, flow: FlowNo) -> Next
+    pub fn next(&self, flow: FlowNo) -> Next
         requires running { IsRunning L.meaning self.now }
         requires flow { flow.0 < length self.now.setup.items }
         ensures { IsComing (setup_in L.meaning (core_of self.now)) (plans_of self.now)
@@ -46,7 +46,7 @@ impl<L: Library> Running<L> {
     }
 
     /// A flow's key of a class.
-    fn key(&self, flow: FlowNo, class: ClassNo) -> Key
+    pub fn key(&self, flow: FlowNo, class: ClassNo) -> Key
         requires running { IsRunning L.meaning self.now }
         requires flow { flow.0 < length self.now.setup.items }
         ensures { let setup = setup_in L.meaning (core_of self.now) in
@@ -83,7 +83,9 @@ impl<L: Library> Running<L> {
             return None;
         };
         let key = self.key(flow, class);
-        self.table.holder(flow, key, mode)?;
-        Some(key)
+        match self.table.holder(flow, key, mode) {
+            Some(_) => Some(key),
+            None => None,
+        }
     }
 }
