@@ -9,3 +9,5 @@ pub mod Moved
 pub mod OnFields
 pub mod Asked
 pub mod SameCells
+pub mod Called
+pub mod Opened

@@ -1,11 +1,11 @@
 -- Cells with the same names in the same places, and the same values under them, are the same.
-use Rattle.std.proofs.Common.{◌≡◌, ◌⊎◌, inl, inr, ℕ, zero, suc, ◌<◌, ◌≤◌, Bool, true, false, ◌||◌, List, [], ◌∷◌, length, map, Option, Some, None, refl, sym, ap, subst, ◌∙◌, arith}
+use Rattle.std.proofs.Common.{◌≡◌, ◌⊎◌, inl, inr, ℕ, zero, suc, ◌<◌, ◌≤◌, Bool, true, false, ◌||◌, List, [], ◌∷◌, length, map, Option, Some, None, Bor, not, refl, sym, ap, subst, ◌∙◌, arith}
 use Rattle.std.specs.List.{slice_get, list_any}
 use Rattle.std.specs.Ordering.{nat_cmp, eq_by_cmp, is_eq}
 use Rattle.std.specs.declared.cmp.Ordering.{Ordering}
 use Rattle.std.specs.declared.cmp.Ordering.TheVariants.{Less, Equal, Greater}
 use Rattle.std.specs.Cmp.Lexicographic.{slice_cmp}
-use Rattle.std.specs.Option.{is_some}
+use Rattle.std.specs.Option.{is_some, option_copied}
 use Rattle.std.specs.FinMap as fin
 use Rattle.std.proofs.lemmas.Bool.{false≢true}
 use Rattle.std.proofs.lemmas.Cmp.{nat_list_cmp_total}
@@ -62,3 +62,17 @@ same-cells a b place same end_a end_b =
 
 pub same-at : (a b : CellMap) (place : ℕ) → a ≡ b → IsSameAt a b place
 same-at a b place e = record { names = ap (λ (m : CellMap). slice_get (fin.keys m) place) e; values_ = λ name at. ap (λ (m : CellMap). fin.get m name) e }
+
+-- ---- names that were looked for
+
+pub none-copied : {T : Type 0} (o : Option (Bor T)) → is_some o ≡ false → option_copied o ≡ None
+none-copied None e = refl
+none-copied (Some x) e = absurd (false≢true (sym e))
+
+pub copied-none : {T : Type 0} (o : Option (Bor T)) → option_copied o ≡ None → is_some o ≡ false
+copied-none None e = refl
+copied-none (Some x) e = absurd cc
+
+pub is-none_from : (b : Bool) → not b ≡ false → b ≡ true
+is-none_from true e = refl
+is-none_from false e = absurd (false≢true (sym e))

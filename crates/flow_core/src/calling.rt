@@ -8,7 +8,7 @@ ghost use Rattle.flux_cells.specs.Kept.{cells_of};
 ghost use Rattle.flow_core.specs.States.{setup_in, begun_by, IsBegun, IsReady, IsAnswerOf};
 ghost use Rattle.flow_core.specs.Moves.{BeginsCall, FinishesCall, HasBegun, job_of};
 ghost use Rattle.flow_core.specs.steps.Places.{IsComing};
-ghost use Rattle.flow_core.specs.steps.Calling.{IsKnown, AreRead};
+ghost use Rattle.flow_core.specs.steps.Calling.{IsKnown, AreRead, AreKeys};
 ghost use Rattle.flow_core.specs.steps.Running.{core_of, plans_of, IsRunning};
 
 use crate::adding::put;
@@ -55,6 +55,7 @@ impl<L: Library> Running<L> {
     /// What a flow's call is given, which comes next.
     fn inputs(&self, flow: FlowNo, node: NodeNo) -> Result<Inputs, Memory>
         requires running { IsRunning L.meaning self.now }
+        requires flow { flow.0 < length self.now.setup.items }
         requires coming { IsComing (setup_in L.meaning (core_of self.now)) (plans_of self.now)
             self.now.places.items flow.0 (nexts.Call node) }
         ensures begun { IfOk result (IsBegun (setup_in L.meaning (core_of self.now))
@@ -81,6 +82,7 @@ impl<L: Library> Running<L> {
     /// Begins a flow's call, which comes next.
     pub fn begin(&mut self, flow: FlowNo, node: NodeNo) -> Result<Job<L>, Memory>
         requires running { IsRunning L.meaning self.old }
+        requires flow { flow.0 < length self.old.setup.items }
         requires coming { IsComing (setup_in L.meaning (core_of self.old)) (plans_of self.old)
             self.old.places.items flow.0 (nexts.Call node) }
         requires idle { begun_by (core_of self.old) flow.0 ≡ None }
@@ -125,7 +127,13 @@ impl<L: Library> Running<L> {
 
 impl<L: Library> Running<L> {
     /// A flow's keys of the classes that a node declares.
-    fn keys(&self, flow: FlowNo, node: NodeNo) -> Result<Vec<Key>, Memory> {
+    fn keys(&self, flow: FlowNo, node: NodeNo) -> Result<Vec<Key>, Memory>
+        requires running { IsRunning L.meaning self.now }
+        requires flow { flow.0 < length self.now.setup.items }
+        requires coming { IsComing (setup_in L.meaning (core_of self.now)) (plans_of self.now)
+            self.now.places.items flow.0 (nexts.Call node) }
+        ensures { IfOk result (λ keys. AreKeys (setup_in L.meaning (core_of self.now)) flow.0 node.0 keys.items) }
+    {
         let place = &self.places[flow.0 as usize];
         let Some(found) = self.setup.program.nodes.get(node.0 as usize) else {
             unreachable!()
@@ -141,6 +149,7 @@ impl<L: Library> Running<L> {
     /// Adds a flow's begun call with its answer.
     pub fn answer(&mut self, flow: FlowNo, inputs: &Inputs, answer: &Answer) -> Result<(), Memory>
         requires running { IsRunning L.meaning self.old }
+        requires flow { flow.0 < length self.old.setup.items }
         requires begun { begun_by (core_of self.old) flow.0 ≡ Some inputs.now }
         requires right { IsAnswerOf (L.meaning (arc_value self.old.setup.library))
             (arc_value self.old.setup.program) inputs.now answer.now }

@@ -1,5 +1,5 @@
 -- What a call reads. No promise cites it.
-use Rattle.std.specs.Prelude.{◌≡◌, ℕ, List, Option, Some, None}
+use Rattle.std.specs.Prelude.{◌≡◌, ℕ, List, map, Some}
 use Rattle.std.specs.List.{slice_get}
 use Rattle.flux_values.specs.declared.meanings.Sig.{Sig}
 use Rattle.flux_values.specs.Cells.{CellMap}
@@ -7,7 +7,13 @@ use Rattle.flux_values.specs.Meanings.{LibraryMeaning}
 use Rattle.flux_model.specs.declared.programs.Node.{Node}
 use Rattle.flux_model.specs.declared.programs.Program.{Program}
 use Rattle.flux_model.specs.declared.programs.Body.TheVariants.{Concrete}
-use Rattle.flux_model.specs.Keys.{Cells}
+use Rattle.flux_model.specs.declared.programs.Hold.{Hold}
+use Rattle.flux_model.specs.declared.programs.SourceLine.{SourceLine}
+use Rattle.flux_model.specs.declared.journals.Item.{Item}
+use Rattle.flux_model.specs.declared.journals.Key.{Key}
+use Rattle.flux_model.specs.Setup.{Setup, item_of}
+use Rattle.flux_model.specs.Locks.{declared}
+use Rattle.flux_model.specs.Keys.{Cells, flow_key}
 use Rattle.flow_core.specs.steps.Cells.{cells_by}
 
 -- a concrete node, whose library node is there
@@ -25,3 +31,11 @@ pub record AreRead (meaning : LibraryMeaning) (p : Program) (cells : Cells) (ses
   pub known : IsKnown meaning p node
   pub read_ : let found = known.found in let sig = known.sig in
       read ≡ cells_by p cells session found.declared sig.cells
+
+-- a flow's keys of the classes that a node declares
+pub record AreKeys (setup : Setup) (flow node : ℕ) (keys : List Key) : Type 0 where
+  pub item : Item
+  pub is_item : item_of setup flow ≡ Some item
+  pub line : SourceLine
+  pub is_line : slice_get setup.program.sources item.source.0 ≡ Some line
+  pub keys_ : keys ≡ map (λ (hold : Hold). flow_key setup.program setup.meaning line item.values hold.class) (declared setup.program node)
