@@ -155,3 +155,10 @@ module _ {L : Type 0} (meaning : L → LibraryMeaning) (r : Running L) (is : IsR
 
       pub some-blocked : (other : ℕ) → Blocks entries other flow.0 key mode → IsBlockedAt setup entries flow.0 key
       some-blocked other blocks = record { mode = mode; next = take-is_next; blocked = (other, record { key = key; mode = mode; next = take-is_next; blocked = blocks }) }
+
+    -- ---- a drop
+
+    pub drop-coming : (class : ClassNo) → next ≡ nexts.Drop class → (key : Key) → key_for setup (item_of setup flow.0) class ≡ Some key → IsEventComing setup (plans_of r) items flow.0 (Drop key)
+    drop-coming class drops key is_key =
+        let same : keys class ≡ key = let e = sym (place-key_for setup (plans_of r) entries legal flow.0 place own class) ∙ is_key in cc in
+        record { next = next; coming = coming; event_ = ap (event_for keys) drops ∙ ap (λ (k : Key). Some (Drop k)) same }

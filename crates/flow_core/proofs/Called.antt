@@ -1,7 +1,8 @@
 -- Calls that are begun and finished.
 use Rattle.std.proofs.Common.{◌≡◌, ◌<◌, ◌⊎◌, inl, inr, ℕ, Bool, true, false, get_or, List, [], ◌∷◌, ◌++◌, length, map, Option, Some, None, refl, sym, ap, subst, ◌∙◌, arith}
 use Rattle.std.specs.List.{slice_get, slice_set, find}
-use Rattle.std.specs.Option.{option_map, option_flatten}
+use Rattle.std.specs.Option.{option_map, option_flatten, is_some}
+use Rattle.std.specs.Prelude.{IsSome}
 use Rattle.std.specs.Arc.{arc_value}
 use Rattle.std.specs.Vec.{with_item}
 use Rattle.std.proofs.lemmas.Option.{slice_get_within, slice_get-map}
@@ -40,6 +41,7 @@ use Rattle.flux_model.specs.Legal.{IsLegal}
 use Rattle.flux_laws.specs.Moves.{MayCall}
 use Rattle.flux_laws.specs.Calls.{FitsSig, FitsFound, FitsBody, FitsNode, cells_of_body, cells_of_node, cells_read}
 use Rattle.flux_laws.proofs.FittingCalls.{next_calls_fit}
+use Rattle.flux_laws.proofs.NextEvents.{call-item}
 use Rattle.flux_plan.specs.declared.plans.Plan.{Plan}
 use Rattle.flux_plan.specs.declared.locals.Next.{Next}
 use Rattle.flux_plan.specs.declared.locals.Next.TheVariants as nexts
@@ -56,7 +58,7 @@ use Rattle.flow_core.specs.declared.running.Running.{Running}
 use Rattle.flow_core.specs.States.{CoreState, JobState, setup_in, begun_by, node_name, body_name, library_name, IsReadyBy, IsReady, IsAnswerBy, IsAnswerOf, IsBegun}
 use Rattle.flow_core.specs.Moves.{BeginsCall, FinishesCall, HasBegun, job_of}
 use Rattle.flow_core.specs.steps.Cells.{declares_named, class_in, cells_by}
-use Rattle.flow_core.specs.steps.Calling.{IsKnown, AreRead, AreKeys}
+use Rattle.flow_core.specs.steps.Calling.{IsKnown, IsSigIn, IsSigOf, AreRead, AreKeys}
 use Rattle.flow_core.specs.steps.Places.{matches_in, HasPlan, MayAnswer, key_in, IsPlaceOf, IsComing}
 use Rattle.flow_core.specs.steps.Running.{core_of, plans_of, IsAfter, IsRunning}
 use Rattle.flow_core.proofs.Sets.{map-replaced}
@@ -95,6 +97,16 @@ cells_read-known setup flow node entries known =
     ap (cells_of_node setup flow node entries) known.is_found
     ∙ ap (cells_of_body setup flow node entries) known.is_name
     ∙ ap (cells_for setup flow node (cells_after setup entries)) known.is_sig
+
+-- a signature that was found is that of the known node
+sig-same : (meaning : LibraryMeaning) (p : Program) (node : ℕ) (known : IsKnown meaning p node) (sig : Sig) → IsSigOf meaning (slice_get p.nodes node) sig → known.sig ≡ sig
+sig-same meaning p node known sig is =
+    let h : IsSigIn meaning (Concrete known.name) sig = subst (λ (b : Body). IsSigIn meaning b sig) known.is_name (subst (λ (o : Option Node). IsSigOf meaning o sig) known.is_found is) in
+    let e : Some known.sig ≡ Some sig = sym known.is_sig ∙ h in
+    cc
+
+pub known-some : (meaning : LibraryMeaning) (p : Program) (node : ℕ) → IsKnown meaning p node → IsSome (slice_get p.nodes node)
+known-some meaning p node known = ap is_some known.is_found
 
 library_name-known : (meaning : LibraryMeaning) (p : Program) (node : NodeNo) (known : IsKnown meaning p node.0) → library_name p node ≡ Some known.name
 library_name-known meaning p node known = ap node_name known.is_found ∙ ap body_name known.is_name
@@ -154,6 +166,12 @@ module _ {L : Type 0} (meaning : L → LibraryMeaning) (r : Running L) (is : IsR
       by None at = absurd (let e : None ≡ Some inputs = sym (ap option_flatten (slice_get-map (λ (p : Place). p.begun) items flow.0 ∙ ap (option_map (λ (p : Place). p.begun)) at)) ∙ begun in cc)
       by (Some place) at = let own = own-at place at in own.call inputs (sym (begun-there place at) ∙ begun)
 
+  pub begun-at : (place : Place) → slice_get items flow.0 ≡ Some place → (inputs : Inputs) → place.begun ≡ Some inputs → IsBegun setup entries flow.0 inputs
+  begun-at place at inputs begun = let own = own-at place at in own.call inputs begun
+
+  pub begun-within : (inputs : Inputs) → begun_by (core_of r) flow.0 ≡ Some inputs → flow.0 < length setup.items
+  begun-within inputs begun = let call = begun-in inputs begun in call-item setup entries flow.0 inputs.node inputs.args call.next
+
   -- ---- a call that comes next
 
   module _ (node : NodeNo) (coming : IsComing setup (plans_of r) items flow.0 (nexts.Call node)) (place : Place) (at : slice_get items flow.0 ≡ Some place) where
@@ -193,15 +211,14 @@ module _ {L : Type 0} (meaning : L → LibraryMeaning) (r : Running L) (is : IsR
 
     pub read-right : (read : List CellMap) → AreRead setup.meaning setup.program (cells_of r.cells) place.session node.0 read → read ≡ cells_read setup flow.0 node.0 entries
     read-right read are =
-        let known = are.known in
-        let found = known.found in
-        let sig = known.sig in
+        let known = known-next in
+        let sig = are.sig in
         let after = is.after in
-        let key_is : (name : List ℕ) → option_map (key_in setup.program place.session) (class_in setup.program found.declared name) ≡ cell_key setup flow.0 node.0 name =
-        λ name. ap (λ (o : Option Node). option_map (key_in setup.program place.session) (class_in setup.program (declared_on o) name)) (sym known.is_found)
-        ∙ key-of_class (class_named setup.program node.0 name) in
+        let key_is : (name : List ℕ) → option_map (key_in setup.program place.session) (class_in setup.program (declared setup.program node.0) name) ≡ cell_key setup flow.0 node.0 name =
+        λ name. key-of_class (class_named setup.program node.0 name) in
         are.read_
         ∙ (λ i. map (λ (use_ : CellUse). cell_at (after.cells_ i) (key_is use_.name i)) sig.cells)
+        ∙ ap (λ (s : Sig). cells_for setup flow.0 node.0 (cells_after setup entries) (Some s)) (sym (sig-same setup.meaning setup.program node.0 known sig are.is_sig))
         ∙ sym (cells_read-known setup flow.0 node.0 entries known)
 
     pub begins-right : (inputs : Inputs) → inputs.node ≡ node → inputs.args ≡ values_at place.local → AreRead setup.meaning setup.program (cells_of r.cells) place.session node.0 inputs.cells
@@ -212,17 +229,15 @@ module _ {L : Type 0} (meaning : L → LibraryMeaning) (r : Running L) (is : IsR
     }
 
     -- the keys of its node's classes
-    pub keys-right : (found : Node) → slice_get setup.program.nodes node.0 ≡ Some found → (keys : List Key) → keys ≡ map (λ (hold : Hold). key_in setup.program place.session hold.class) found.declared
-        → AreKeys setup flow.0 node.0 keys
-    keys-right found is_found keys are =
+    pub keys-right : (keys : List Key) → keys ≡ map (λ (hold : Hold). key_in setup.program place.session hold.class) (declared setup.program node.0) → AreKeys setup flow.0 node.0 keys
+    keys-right keys are =
         let own = own-at place at in
         record {
           item = own.item;
           is_item = own.is_item;
           line = own.line;
           is_line = own.is_line;
-          keys_ = are ∙ ap (λ (o : Option Node). map (λ (hold : Hold). key_in setup.program place.session hold.class) (declared_on o)) (sym is_found)
-              ∙ ap (λ (session : ℕ). map (λ (hold : Hold). key_in setup.program session hold.class) (declared setup.program node.0)) own.session;
+          keys_ = are ∙ ap (λ (session : ℕ). map (λ (hold : Hold). key_in setup.program session hold.class) (declared setup.program node.0)) own.session;
         }
 
   -- ---- beginning

@@ -66,6 +66,9 @@ not-call-event key nexts.Ended made h = cc
 pub read-at : (places : List Place) (flow : ℕ) (place : Place) → flow < length places → place ≡ get_or places flow place → slice_get places flow ≡ Some place
 read-at places flow place within read = slice_get_read places (length places) flow place refl within read
 
+pub same-read : (places : List Place) (flow : ℕ) (a b : Place) → flow < length places → a ≡ get_or places flow a → b ≡ get_or places flow b → a ≡ b
+same-read places flow a b within one two = let e = sym (read-at places flow a within one) ∙ read-at places flow b within two in cc
+
 module _ {L : Type 0} (meaning : L → LibraryMeaning) (r : Running L) (is : IsRunning meaning r) where
   abbrev setup : Setup
   setup = setup_in meaning (core_of r)

@@ -1,5 +1,5 @@
 -- A core whose flows have done nothing.
-use Rattle.std.proofs.Common.{◌≡◌, ◌<◌, ◌≤◌, ℕ, zero, suc, false, List, [], ◌∷◌, ◌++◌, length, map, take, Option, Some, None, refl, sym, ap, subst, ◌∙◌, arith}
+use Rattle.std.proofs.Common.{◌≡◌, ◌<◌, ◌≤◌, ℕ, zero, suc, false, List, [], ◌∷◌, ◌++◌, length, map, take, get_or, ◌+◌, Option, Some, None, refl, sym, ap, subst, ◌∙◌, arith}
 use Rattle.std.specs.List.{slice_get}
 use Rattle.std.specs.Arc.{arc_value}
 use Rattle.flux_values.specs.Meanings.{LibraryMeaning}
@@ -18,6 +18,9 @@ use Rattle.flux_model.specs.Flows.{given_for}
 use Rattle.flux_model.specs.Waits.{StandsAt}
 use Rattle.flux_model.specs.Legal.{IsLegal}
 use Rattle.flux_laws.specs.Hoisted.{locks_of}
+use Rattle.std.specs.Prelude.{IsSome}
+use Rattle.flux_model.specs.Items.{IsItemOf, IsItemFor}
+use Rattle.flux_laws.proofs.Members.{all-get}
 use Rattle.flux_laws.proofs.Added.{nothing_is_legal}
 use Rattle.flux_laws.proofs.Locks.{locks_are_there}
 use Rattle.flux_plan.specs.declared.plans.Plan.{Plan}
@@ -46,6 +49,21 @@ fresh-more meaning p [] [] item place are is = (is, tt)
 fresh-more meaning p [] (q ∷ places) item place are is = absurd are
 fresh-more meaning p (i ∷ items) [] item place are is = absurd are
 fresh-more meaning p (i ∷ items) (q ∷ places) item place (own, are) is = (own, fresh-more meaning p items places item place are is)
+
+take-next : (items : List Item) (i : ℕ) (item : Item) → i < length items → item ≡ get_or items i item → take (i + 1) items ≡ take i items ++ item ∷ []
+take-next [] i item lt is = absurd (omega (arith, lt))
+take-next (x ∷ items) zero item lt is = ap (λ (y : Item). y ∷ []) (sym is)
+take-next (x ∷ items) (suc i) item lt is =
+    let next : suc i + 1 ≡ suc (i + 1) = omega arith in
+    ap (λ (n : ℕ). take n (x ∷ items)) next ∙ ap (λ (xs : List Item). x ∷ xs) (take-next items i item (omega (arith, lt)) is)
+
+pub fresh-next : (meaning : LibraryMeaning) (p : Program) (items read : List Item) (places new : List Place) (i : ℕ) (item : Item) (place : Place) → read ≡ items → i < length read → item ≡ get_or read i item
+    → AreFreshPlaces meaning p (take i items) places → IsFreshPlace meaning p item place → new ≡ places ++ place ∷ [] → AreFreshPlaces meaning p (take (i + 1) items) new
+fresh-next meaning p items read places new i item place same lt is are own added =
+    let lt_ : i < length items = subst (λ (xs : List Item). i < length xs) same lt in
+    let is_ : item ≡ get_or items i item = subst (λ (xs : List Item). item ≡ get_or xs i item) same is in
+    subst (λ (ps : List Place). AreFreshPlaces meaning p (take (i + 1) items) ps) (sym added)
+    (subst (λ (xs : List Item). AreFreshPlaces meaning p xs (places ++ place ∷ [])) (sym (take-next items i item lt_ is_)) (fresh-more meaning p (take i items) places item place are own))
 
 fresh-count : (meaning : LibraryMeaning) (p : Program) (items : List Item) (places : List Place) → AreFreshPlaces meaning p items places → length places ≡ length items
 fresh-count meaning p [] [] are = refl
@@ -132,7 +150,7 @@ opened-given meaning setup plans same lawful may = record {
 pub opened-running : {L : Type 0} (meaning : L → LibraryMeaning) (r : Running L) → IsGiven (setup_in meaning (core_of r)) (plans_of r) → (let journal = r.journal in journal.entries ≡ [])
     → (let setup = setup_in meaning (core_of r) in let places = r.places in AreFreshPlaces setup.meaning setup.program setup.items places.items) → r.table ≡ []
     → (let setup = r.setup in cells_of r.cells ≡ cells_of setup.opening) → (let setup = r.setup in r.live ≡ length setup.items) → IsRunning meaning r
-opened-running {L} meaning r given none fresh no_locks same live =
+opened-running {L} meaning r given none are_fresh no_locks same live =
     let setup : Setup = setup_in meaning (core_of r) in
     let places = r.places in
     let sound = given.sound in
@@ -141,9 +159,16 @@ opened-running {L} meaning r given none fresh no_locks same live =
       given = given;
       after = subst (λ (es : List Entry). IsAfter setup (plans_of r) es places.items r.table (cells_of r.cells)) (sym none) (record {
         legal = nothing_is_legal setup (locks_are_there setup.program sound.numbered sound.acyclic);
-        places_ = opened-places setup (plans_of r) given places.items fresh;
+        places_ = opened-places setup (plans_of r) given places.items are_fresh;
         table = subst (IsTable []) (sym no_locks) opened-table;
         cells_ = same;
       });
       live = live ∙ sym (live-all (length own.items)) ∙ ap (λ (es : List Entry). live_in es (length own.items)) (sym none);
     }
+
+pub may-sources : (meaning : LibraryMeaning) (p : Program) (plans : List Plan) (items : List Item) → MayRun meaning p plans items → (flow : ℕ) (item : Item) → slice_get items flow ≡ Some item → IsSome (slice_get p.sources item.source.0)
+may-sources meaning p plans items may flow item at = by (slice_get p.sources item.source.0) (all-get (IsItemFor p may.kinds) items flow item may.fit at)
+  where
+    by : (found : Option SourceLine) → IsItemOf may.kinds found item.values → IsSome found
+    by None fits = absurd fits
+    by (Some line) fits = refl

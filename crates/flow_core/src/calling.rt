@@ -1,14 +1,15 @@
 //! How calls are begun and finished.
 
-ghost use Rattle.std.specs.Prelude.{◌≡◌, ◌<◌, ◌↔◌, Some, None, length, slice_get, IsTrue, IfOk, OnOk, OnErr, map as mapped, option_map};
+ghost use Rattle.std.specs.Prelude.{◌≡◌, ◌<◌, ◌↔◌, Some, None, IsSome, length, slice_get, IsTrue, IfOk, OnOk, OnErr, map as mapped, option_map};
 ghost use Rattle.std.specs.Arc.{arc_value};
+ghost use Rattle.flux_model.specs.Locks.{declared};
 ghost use Rattle.flux_plan.specs.declared.locals.Next.TheVariants as nexts;
 ghost use Rattle.flux_plan.specs.Machine.{values_at};
 ghost use Rattle.flux_cells.specs.Kept.{cells_of};
 ghost use Rattle.flow_core.specs.States.{setup_in, begun_by, IsBegun, IsReady, IsAnswerOf};
 ghost use Rattle.flow_core.specs.Moves.{BeginsCall, FinishesCall, HasBegun, job_of};
 ghost use Rattle.flow_core.specs.steps.Places.{IsComing};
-ghost use Rattle.flow_core.specs.steps.Calling.{IsKnown, AreRead, AreKeys};
+ghost use Rattle.flow_core.specs.steps.Calling.{IsKnown, IsSigOf, AreRead, AreKeys};
 ghost use Rattle.flow_core.specs.steps.Running.{core_of, plans_of, IsRunning};
 
 use crate::adding::put;
@@ -20,9 +21,43 @@ use crate::running::Running;
 use crate::sameness::same_inputs;
 use flux_library::Library;
 use flux_library::answers::copies;
-use flux_model::{Body, CallMade, Entry, Event, FlowNo, Key, NodeNo};
+use flux_model::{Body, CallMade, Entry, Event, FlowNo, Hold, Key, NodeNo, Program};
 use flux_plan::Next;
-use flux_values::{Answer, Cell, List, Memory};
+use flux_values::{Answer, Cell, List, Memory, Sig};
+use std::alloc::Global;
+
+/// The constraints that a node declares.
+fn declared_of(p: &Program, node: NodeNo) -> &[Hold]
+    requires { IsSome (slice_get p.now.nodes node.0) }
+    ensures { result.now ≡ declared p.now node.0 }
+{
+    let Some(found) = p.nodes.get(node.0 as usize) else {
+        unreachable!()
+    };
+    found.declared.as_slice()
+}
+
+/// The signature of a node's library node.
+fn sig_of<L: Library>(
+    alloc: Global,
+    library: &L,
+    p: &Program,
+    node: NodeNo,
+) -> Result<Sig, Memory>
+    requires { IsKnown (L.meaning library.now) p.now node.0 }
+    ensures { IfOk result (IsSigOf (L.meaning library.now) (slice_get p.now.nodes node.0)) }
+{
+    let Some(found) = p.nodes.get(node.0 as usize) else {
+        unreachable!()
+    };
+    let Body::Concrete(name) = &found.body else {
+        unreachable!()
+    };
+    let Some(sig) = library.node(alloc, name.as_bytes())? else {
+        unreachable!()
+    };
+    Ok(sig)
+}
 
 impl<L: Library> Running<L> {
     /// The cells that a node uses in a session.
@@ -33,23 +68,17 @@ impl<L: Library> Running<L> {
             (arc_value self.now.setup.program) (cells_of self.now.cells) session node.0) }
     {
         let p = &self.setup.program;
-        let Some(found) = p.nodes.get(node.0 as usize) else {
-            unreachable!()
-        };
-        let Body::Concrete(name) = &found.body else {
-            unreachable!()
-        };
-        let Some(sig) = self.setup.library.node(self.alloc, name.as_bytes())? else {
-            unreachable!()
-        };
-        cells_in(
+        let sig = sig_of(self.alloc, &*self.setup.library, p, node)?;
+        let declared = declared_of(p, node);
+        let read = cells_in(
             self.alloc,
             p,
             &self.cells,
             session,
-            found.declared.as_slice(),
+            declared,
             sig.cells.as_slice(),
-        )
+        )?;
+        Ok(read)
     }
 
     /// What a flow's call is given, which comes next.
@@ -135,15 +164,9 @@ impl<L: Library> Running<L> {
         ensures { IfOk result (λ keys. AreKeys (setup_in L.meaning (core_of self.now)) flow.0 node.0 keys.items) }
     {
         let place = &self.places[flow.0 as usize];
-        let Some(found) = self.setup.program.nodes.get(node.0 as usize) else {
-            unreachable!()
-        };
-        keys_in(
-            self.alloc,
-            &self.setup.program,
-            place.session,
-            found.declared.as_slice(),
-        )
+        let declared = declared_of(&self.setup.program, node);
+        let keys = keys_in(self.alloc, &self.setup.program, place.session, declared)?;
+        Ok(keys)
     }
 
     /// Adds a flow's begun call with its answer.
@@ -176,7 +199,7 @@ impl<L: Library> Running<L> {
             &mut self.journal,
             &mut self.cells,
             entry,
-            &keys,
+            keys.as_slice(),
             &answer.puts,
             &self.setup.program,
         )?;
