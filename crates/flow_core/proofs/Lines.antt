@@ -113,9 +113,11 @@ module _ (entries : List Entry) (key : Key) where
         by true same left =
             let e = eqb-true first.flow.0 flow.0 same in
             order-still away line (subst (λ (f : ℕ). NotIn f line) e (first-once first line own order)) order
-        by false apart left =
-            (first-still away first line (line_without line flow.0) (without-in line flow.0)
-            (λ e. false≢true (sym apart ∙ eq-eqb first.flow.0 flow.0 e)) own, left)
+        by false apart left = (
+          first-still away first line (line_without line flow.0) (without-in line flow.0)
+              (λ e. false≢true (sym apart ∙ eq-eqb first.flow.0 flow.0 e)) own,
+          left,
+        )
 
     -- where the flow doesn't come to stand at the key, it has left the line
     pub line-left : NotHere → (line : List Waiter) → IsLine entries key line → IsLine more key (line_without line flow.0)
@@ -265,10 +267,13 @@ module _ (entries : List Entry) (key : Key) where
         → (place : ℕ) × StandsAt entries waiter.flow.0 key waiter.mode place × ((own : Mode) (behind : ℕ) → StandsAt entries flow key own behind → place < behind)
     before-stands flow waiter there =
         let among : In waiter (front_of line flow) = subst (λ (l : List Waiter). In waiter l) (front-is line flow) (in-from_contains (line_before line flow) waiter there) in
-        let (place, stands) = order-stands line is.order waiter (front-in line flow waiter among).0 in
-        (place, stands, λ own behind at.
-        front-lower line is.order flow waiter (record { flow = record { 0 = flow }; mode = own }) among
-        (in-from_contains line (record { flow = record { 0 = flow }; mode = own }) (is.all (record { 0 = flow }) own behind at)) refl place behind stands at)
+        let (place, stands) = order-stands line is.order waiter (front-in line flow waiter among).0 in (
+          place,
+          stands,
+          λ own behind at.
+              front-lower line is.order flow waiter (record { flow = record { 0 = flow }; mode = own }) among
+              (in-from_contains line (record { flow = record { 0 = flow }; mode = own }) (is.all (record { 0 = flow }) own behind at)) refl place behind stands at,
+        )
 
     pub stands-before : (flow : ℕ) (other : FlowNo) (mode : Mode) (place : ℕ) → (other.0 ≡ flow → ⊥) → StandsAt entries other.0 key mode place
         → ((own : Mode) (behind : ℕ) → StandsAt entries flow key own behind → place < behind) → Contains (line_before line flow) (record { flow = other; mode = mode })

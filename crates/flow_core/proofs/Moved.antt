@@ -193,11 +193,11 @@ module _ (setup : Setup) (plans : List Plan) (given : IsGiven setup plans) (entr
   moved-take key mode is new made stands nobody new_locks takes =
       let next = event-next (Take key mode) is in
       let free : IsBlocked setup entries flow.0 → ⊥ = λ blocked.
-          let waits = blocked.1 in
-          let same : Take key mode ≡ Take waits.key waits.mode = next-unique setup entries flow.0 (Take key mode) (Take waits.key waits.mode) next waits.next in
-          let keys : key ≡ waits.key = cc in
-          let modes : mode ≡ waits.mode = cc in
-          nobody blocked.0 (subst (λ (k : Key). Blocks entries blocked.0 flow.0 k mode) (sym keys) (subst (λ (m : Mode). Blocks entries blocked.0 flow.0 waits.key m) (sym modes) waits.blocked)) in
+      let waits = blocked.1 in
+      let same : Take key mode ≡ Take waits.key waits.mode = next-unique setup entries flow.0 (Take key mode) (Take waits.key waits.mode) next waits.next in
+      let keys : key ≡ waits.key = cc in
+      let modes : mode ≡ waits.mode = cc in
+      nobody blocked.0 (subst (λ (k : Key). Blocks entries blocked.0 flow.0 k mode) (sym keys) (subst (λ (m : Mode). Blocks entries blocked.0 flow.0 waits.key m) (sym modes) waits.blocked)) in
       let table = table-taken setup entries legal locks after.table flow key mode new_locks next takes in
       let same = cells-more setup entries flow (Take key mode) in
       record {

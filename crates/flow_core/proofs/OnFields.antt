@@ -281,9 +281,11 @@ module _ {L : Type 0} (meaning : L → LibraryMeaning) (r : Running L) (is : IsR
             by (k, m, at, there_) =
                 let e : Take key mode ≡ Take k m = stands-next setup entries legal flow.0 (Take key mode) take-next k m at there_ in
                 let keys : k ≡ key = cc in
-                let modes : m ≡ mode = cc in
-                (at, subst (λ (x : Mode). StandsAt entries flow.0 key x at) modes (subst (λ (x : Key). StandsAt entries flow.0 x m at) keys there_),
-                λ i. record (core_of r) { begun = same-begun (Take key mode) coming place read place refl i })
+                let modes : m ≡ mode = cc in (
+                  at,
+                  subst (λ (x : Mode). StandsAt entries flow.0 key x at) modes (subst (λ (x : Key). StandsAt entries flow.0 x m at) keys there_),
+                  λ i. record (core_of r) { begun = same-begun (Take key mode) coming place read place refl i },
+                )
 
         -- or it stands there now
         module _ (idle : place.stands ≡ false) (new : Place) (local : new.local ≡ place.local) (session : new.session ≡ place.session) (begun : new.begun ≡ place.begun) (stands : new.stands ≡ true)

@@ -38,12 +38,7 @@ fn declared_of(p: &Program, node: NodeNo) -> &[Hold]
 }
 
 /// The signature of a node's library node.
-fn sig_of<L: Library>(
-    alloc: Global,
-    library: &L,
-    p: &Program,
-    node: NodeNo,
-) -> Result<Sig, Memory>
+fn sig_of<L: Library>(alloc: Global, library: &L, p: &Program, node: NodeNo) -> Result<Sig, Memory>
     requires { IsKnown (L.meaning library.now) p.now node.0 }
     ensures { IfOk result (IsSigOf (L.meaning library.now) (slice_get p.now.nodes node.0)) }
 {
@@ -146,9 +141,12 @@ impl<L: Library> Running<L> {
         ensures { IfOk result (λ has. IsTrue has ↔ (begun_by (core_of self.now) flow.0 ≡ Some inputs.now)) }
     {
         match self.places.get(flow.0 as usize) {
-            Some(Place {
-                begun: Some(begun), ..
-            }) => same_inputs(begun.as_inputs(), inputs),
+            Some(
+                Place {
+                    begun: Some(begun),
+                    ..
+                },
+            ) => same_inputs(begun.as_inputs(), inputs),
             _ => Ok(false),
         }
     }

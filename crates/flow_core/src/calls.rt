@@ -137,10 +137,10 @@ impl<L: Library> Job<L> {
     ) -> Result<Job<L>, Memory>
         requires { IsReady (L.meaning (arc_value library.now)) (arc_value program.now) begun.now }
         ensures { IfOk result (λ job. job ≡ record {
-            flow = flow;
-            inputs = begun.now;
-            program = arc_value program.now;
-            library = arc_value library.now;
+          flow = flow;
+          inputs = begun.now;
+          program = arc_value program.now;
+          library = arc_value library.now;
         }) }
     {
         Ok(Job {
@@ -188,9 +188,12 @@ impl<L: Library> Job<L> {
         let Some(name) = library_name(&self.program, inputs.node) else {
             unreachable!()
         };
-        let answer =
-            self.library
-                .call(alloc, name, inputs.args.as_slice(), inputs.cells.as_slice())?;
+        let answer = self.library.call(
+            alloc,
+            name,
+            inputs.args.as_slice(),
+            inputs.cells.as_slice(),
+        )?;
         Ok(CallDone {
             flow: self.flow,
             begun: self.begun.share()?,

@@ -15,8 +15,8 @@ mod moving;
 mod opening;
 mod places;
 mod running;
-mod sameness;
 mod runtimes;
+mod sameness;
 mod setups;
 mod stepping;
 

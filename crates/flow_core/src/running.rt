@@ -52,7 +52,11 @@ impl<L: Library> Running<L> {
         ensures { let setup = setup_in L.meaning (core_of self.now) in
             key_for setup (item_of setup flow.0) class ≡ Some result }
     {
-        key_in(&self.setup.program, self.places[flow.0 as usize].session, class)
+        key_in(
+            &self.setup.program,
+            self.places[flow.0 as usize].session,
+            class,
+        )
     }
 
     pub fn is_ended(&self, flow: FlowNo) -> bool

@@ -69,12 +69,7 @@ impl<L: Library> Setup<L> {
     }
 
     /// Takes the answer of the call that comes next at a flow's place.
-    pub fn answered(
-        &self,
-        flow: FlowNo,
-        local: &mut Local,
-        answer: &Answer,
-    ) -> Result<(), Memory>
+    pub fn answered(&self, flow: FlowNo, local: &mut Local, answer: &Answer) -> Result<(), Memory>
         requires { HasPlan (arc_value self.now.plans) self.now.items flow.0
             (λ plan. MayAnswer plan local.old) }
         ensures ok { OnOk result (HasPlan (arc_value self.now.plans) self.now.items flow.0
