@@ -7,6 +7,7 @@
 
 mod calls;
 mod cores;
+mod laws;
 mod places;
 mod running;
 mod runtimes;
@@ -14,5 +15,6 @@ mod setups;
 
 pub use calls::{CallDone, Inputs, Job};
 pub use cores::{Core, Finish, Step};
+pub use laws::{calls_are_moves, runs_are_legal};
 pub use runtimes::{Runtime, Stopped};
 pub use setups::Setup;
