@@ -1,10 +1,9 @@
 -- Every run of moves leaves a legal journal, and begun calls that are next; and a core's calls are such moves.
-use Rattle.std.proofs.Common.{◌≡◌, ◌⊎◌, inl, inr, ◌↔◌, ℕ, zero, suc, List, [], ◌∷◌, ◌++◌, length, map, Option, Some, None, refl, sym, ap, subst, ◌∙◌, arith}
+use Rattle.std.proofs.Common.{◌≡◌, ◌⊎◌, inl, inr, ◌↔◌, ℕ, zero, suc, List, [], ◌∷◌, ◌++◌, map, Option, Some, None, refl, sym, ap, subst, ◌∙◌, arith}
 use Rattle.std.specs.List.{slice_get, slice_set}
 use Rattle.std.specs.Option.{option_flatten}
 use Rattle.std.proofs.lemmas.Bool.{cases_eq}
-use Rattle.std.proofs.lemmas.List.{append-nil, append_cancel_left, length-map}
-use Rattle.flux_values.specs.declared.values.Value.{Value}
+use Rattle.std.proofs.lemmas.List.{length-map}
 use Rattle.flux_values.specs.declared.answers.Answer.{Answer}
 use Rattle.flux_values.specs.declared.answers.Mode.{Mode}
 use Rattle.flux_values.specs.Meanings.{LibraryMeaning}
@@ -12,7 +11,6 @@ use Rattle.flux_library.specs.Libraries.{IsLawful}
 use Rattle.flux_model.specs.declared.programs.Body.{Body}
 use Rattle.flux_model.specs.declared.programs.Body.TheVariants.{Concrete, Abstract}
 use Rattle.flux_model.specs.declared.programs.Node.{Node}
-use Rattle.flux_model.specs.declared.programs.NodeNo.{NodeNo}
 use Rattle.flux_model.specs.declared.programs.Program.{Program}
 use Rattle.flux_model.specs.declared.journals.CallMade.{CallMade}
 use Rattle.flux_model.specs.declared.journals.Entry.{Entry}
@@ -24,7 +22,7 @@ use Rattle.flux_model.specs.declared.journals.Key.{Key}
 use Rattle.flux_model.specs.Setup.{Setup}
 use Rattle.flux_model.specs.CellsAfter.{cells_after}
 use Rattle.flux_model.specs.Answers.{IsBodyAnswer, IsNodeAnswer}
-use Rattle.flux_model.specs.Events.{own_events, IsNext, CallIsNext}
+use Rattle.flux_model.specs.Events.{IsNext}
 use Rattle.flux_model.specs.Waits.{StandsAt}
 use Rattle.flux_model.specs.Legal.{IsLegal}
 use Rattle.flux_laws.specs.Calls.{cells_of_body, cells_of_node}
@@ -38,6 +36,8 @@ use Rattle.flow_core.specs.declared.calls.Inputs.{Inputs}
 use Rattle.flow_core.specs.States.{CoreState, setup_in, begun_by, opened, body_name, node_name, IsAnswerBy, MayRun, IsBegun, IsKept}
 use Rattle.flow_core.specs.declared.cores.Step.TheVariants as steps
 use Rattle.flow_core.specs.declared.cores.Finish.TheVariants as finishes
+use Rattle.flow_core.proofs.Sets.{length-replaced}
+use Rattle.flow_core.proofs.Tables.{not-both}
 use Rattle.flow_core.specs.Moves.{with_entry, with_begun, MakesEvent, AddsWait, BeginsCall, FinishesCall}
 use Rattle.flow_core.specs.Laws.{made_of, IsAnswerAtBegin, IsAnswerNow, EndsCall, IsMoveOf, made_event, added_wait, begun_call, ended_call, IsRun, RunsAreLegal, StepsAreMoves, FinishesAreMoves}
 
@@ -78,11 +78,6 @@ begun-cases (own ∷ begun) (suc k) call (suc n) inputs is = by (begun-cases beg
     by (inl (same, e)) = inl (ap suc same, e)
     by (inr (apart, there)) = inr (λ e. apart (omega (arith, e)), there)
 
-length-set_begun : (begun : List (Option Inputs)) (k : ℕ) (call : Option Inputs) → length (slice_set begun k call) ≡ length begun
-length-set_begun [] k call = refl
-length-set_begun (own ∷ begun) zero call = refl
-length-set_begun (own ∷ begun) (suc k) call = ap suc (length-set_begun begun k call)
-
 abbrev no_call : Item → Option Inputs
 no_call item = None
 
@@ -90,13 +85,6 @@ none-begun : (items : List Item) (n : ℕ) (inputs : Inputs) → option_flatten 
 none-begun [] n inputs is = cc
 none-begun (item ∷ items) zero inputs is = cc
 none-begun (item ∷ items) (suc n) inputs is = none-begun items n inputs is
-
--- an event doesn't come next where a call does
-not-both : (setup : Setup) (entries : List Entry) (flow : ℕ) (event : Event) (node : NodeNo) (args : List Value) → IsNext setup entries flow event → CallIsNext setup entries flow node args → ⊥
-not-both setup entries flow event node args next call =
-    let same : own_events entries flow ++ event ∷ next.rest ≡ own_events entries flow ++ [] = sym next.next ∙ call.all ∙ sym (append-nil (own_events entries flow)) in
-    let none : event ∷ next.rest ≡ [] = append_cancel_left (own_events entries flow) (event ∷ next.rest) [] same in
-    cc
 
 -- ---- one move
 
@@ -151,7 +139,7 @@ module _ {L : Type 0} (meaning : L → LibraryMeaning) (old : CoreState L) (kept
     fit = kept.fit;
     few = kept.few;
     legal = kept.legal;
-    each = length-set_begun old.begun flow.0 (Some inputs) ∙ kept.each;
+    each = length-replaced old.begun flow.0 (Some inputs) ∙ kept.each;
     calls = λ other given is. by other given (begun-cases old.begun flow.0 (Some inputs) other given is);
   })
     where
@@ -167,7 +155,7 @@ module _ {L : Type 0} (meaning : L → LibraryMeaning) (old : CoreState L) (kept
     fit = kept.fit;
     few = kept.few;
     legal = legal;
-    each = length-set_begun old.begun flow.0 None ∙ kept.each;
+    each = length-replaced old.begun flow.0 None ∙ kept.each;
     calls = λ other given is. by other given (begun-cases old.begun flow.0 None other given is);
   })
     where
