@@ -1,30 +1,27 @@
 -- A core that is driven a turn at a time.
-use Rattle.std.proofs.Common.{◌≡◌, ◌≢◌, ◌<◌, ◌≤◌, ◌+◌, ◌⊎◌, inl, inr, ℕ, suc, List, [], ◌∷◌, ◌++◌, length, refl, sym, ap, subst, ◌∙◌, append_assoc, arith}
+use Rattle.std.proofs.Common.{◌≡◌, ◌<◌, ◌≤◌, ◌+◌, ◌⊎◌, inl, inr, ℕ, List, [], ◌∷◌, ◌++◌, length, refl, sym, ap, subst, ◌∙◌, append_assoc, arith}
 use Rattle.std.specs.List.{AllByRecursion}
 use Rattle.std.proofs.lemmas.Bool.{cases_lt}
 use Rattle.std.proofs.lemmas.List.{length-append, append-nil}
-use Rattle.flux_values.specs.declared.answers.Mode.{Mode}
 use Rattle.flux_values.specs.Meanings.{LibraryMeaning}
 use Rattle.flux_model.specs.declared.journals.FlowNo.{FlowNo}
-use Rattle.flux_model.specs.declared.journals.Key.{Key}
 use Rattle.flux_model.specs.declared.journals.Entry.{Entry}
 use Rattle.flux_model.specs.declared.journals.Event.{Event}
 use Rattle.flux_model.specs.declared.journals.Event.TheVariants.{Take, Wait, Enter, Choose, Call, Exit, Drop, End}
 use Rattle.flux_model.specs.Setup.{Setup}
-use Rattle.flux_model.specs.Events.{IsLive, Stands}
+use Rattle.flux_model.specs.Events.{IsLive}
 use Rattle.flux_model.specs.Legal.{IsLegal}
 use Rattle.flux_laws.specs.Going.{CanGoOn, IsLowest}
 use Rattle.flux_laws.specs.Growth.{room_of, sum_below, IsNoWait}
-use Rattle.flux_laws.specs.Moves.{IsMove}
 use Rattle.flux_laws.proofs.Members.{all-more, end_or_front, IsEnd, InFront}
 use Rattle.flux_laws.proofs.Added.{moves_are_legal}
 use Rattle.flux_laws.proofs.Ends.{none_live_is_whole}
 use Rattle.flux_laws.proofs.Growing.{growth_is_bounded}
 use Rattle.flow_core.specs.States.{CoreState, setup_in}
-use Rattle.flow_core.specs.Runs.{GoesOn, GoesOnLegally}
+use Rattle.flow_core.specs.Runs.{GoesOnLegally}
 use Rattle.flow_waits.specs.declared.turns.Turn.{Turn}
 use Rattle.flow_waits.specs.declared.turns.Turn.TheVariants.{Ended, InLine, Waited, Called, Went}
-use Rattle.flow_waits.specs.Turns.{IsBefore, IsFirstFrom, IsPassing, TakesTurn, MakesMove, EachStands}
+use Rattle.flow_waits.specs.Turns.{IsFirstFrom, IsPassing, TakesTurn, MakesMove, EachStands}
 use Rattle.flow_waits.specs.Driven.{SameSetup}
 use Rattle.flow_waits.specs.Draining.{IsLowestMove, DrainsTo}
 use Rattle.flow_waits.specs.Covers.{Pools, IsReady, Covers, IsChosen, Lags}

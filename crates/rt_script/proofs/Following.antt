@@ -1,21 +1,19 @@
 -- Turns one after another.
-use Rattle.std.proofs.Common.{◌≡◌, ◌<◌, ◌+◌, ◌⊎◌, inl, inr, ℕ, ◌≤◌, List, [], ◌∷◌, ◌++◌, length, take, arith, refl, sym, ap, subst, ◌∙◌, append_assoc}
+use Rattle.std.proofs.Common.{◌≡◌, inl, inr, ℕ, ◌≤◌, List, [], ◌∷◌, ◌++◌, length, take, arith, refl, sym, ap, subst, ◌∙◌, append_assoc}
 use Rattle.std.proofs.lemmas.List.{append-nil}
 use Rattle.std.proofs.lemmas.Grind.{common_steps}
 use Rattle.flux_values.specs.Meanings.{LibraryMeaning}
 use Rattle.flux_model.specs.declared.journals.FlowNo.{FlowNo}
 use Rattle.flux_model.specs.declared.journals.Entry.{Entry}
-use Rattle.flux_model.specs.declared.journals.Event.{Event}
 use Rattle.flux_model.specs.Setup.{Setup}
 use Rattle.flux_model.specs.Legal.{IsLegal, IsWhole}
 use Rattle.flux_laws.proofs.Added.{moves_are_legal}
 use Rattle.flow_core.specs.States.{CoreState, setup_in}
-use Rattle.flow_core.specs.Runs.{GoesOn, GoesOnLegally, GoesToEnd}
-use Rattle.flow_waits.specs.Turns.{MakesMove}
+use Rattle.flow_core.specs.Runs.{GoesOnLegally, GoesToEnd}
 use Rattle.flow_waits.specs.Driven.{SameSetup}
 use Rattle.flow_waits.specs.Draining.{DrainsTo}
 use Rattle.flow_waits.proofs.Driving.{same-setup, same-then, same-itself, goes-on}
-use Rattle.rt_script.specs.Follow.{Rests, IsTurn, AreTurns, IsFollow}
+use Rattle.rt_script.specs.Follow.{IsTurn, AreTurns, IsFollow}
 
 -- one turn more
 turns-more : (setup : Setup) (before between after : List Entry) (flows : List FlowNo) (flow : FlowNo) → AreTurns setup before flows between → IsTurn setup between flow after
