@@ -4,6 +4,8 @@ ghost use Rattle.std.specs.Prelude.{◌≡◌, ◌≤◌, IfOk, length};
 ghost use Rattle.std.specs.List.{AllByRecursion};
 ghost use Rattle.flux_model.specs.Kinds.{kinds_at};
 ghost use Rattle.flux_model.specs.Items.{IsItemFor};
+ghost use Rattle.flux_model.specs.Names.{IsNamed};
+ghost use Rattle.flux_model.specs.Numbered.{IsNumbered};
 ghost use Rattle.flux_model.specs.Soundness.{IsSound};
 
 use crate::troubles::Trouble;
@@ -31,8 +33,10 @@ pub struct Given {
 
 /// The text's program with what is found of it.
 pub fn checked_of<L: Library>(alloc: Global, text: &[u8], library: &L) -> Result<Checked, Trouble>
-    ensures { IfOk result (λ checked. IsSound (L.meaning library.now) checked.program
+    ensures sound { IfOk result (λ checked. IsSound (L.meaning library.now) checked.program
         (kinds_at checked.sigs.nodes)) }
+    ensures numbered { IfOk result (λ checked. IsNumbered checked.program) }
+    ensures named { IfOk result (λ checked. IsNamed checked.program) }
 {
     match check(alloc, text, library) {
         Ok(checked) => Ok(checked),

@@ -1,5 +1,8 @@
 //! A journal's text, printed and read back again and again.
 
+ghost use Rattle.flux_model.specs.Names.{IsNamed};
+ghost use Rattle.flux_model.specs.Numbered.{IsNumbered};
+
 use crate::troubles::Trouble;
 use flux_hoist::Checked;
 use flux_journal::{JournalFault, print_journal, read_journal};
@@ -21,7 +24,10 @@ pub fn print_again(
     Ok(text)
 }
 
-fn read(alloc: Global, checked: &Checked, text: &[u8]) -> Result<Journal, Trouble> {
+fn read(alloc: Global, checked: &Checked, text: &[u8]) -> Result<Journal, Trouble>
+    requires numbered { IsNumbered checked.now.program }
+    requires named { IsNamed checked.now.program }
+{
     match read_journal(alloc, &checked.program, text) {
         Ok(journal) => Ok(journal),
         Err(JournalFault::BadLine { .. }) => Err(Trouble::Journal),
@@ -30,7 +36,10 @@ fn read(alloc: Global, checked: &Checked, text: &[u8]) -> Result<Journal, Troubl
 }
 
 /// Reads a journal's text so many times. What was read last has the same text.
-pub fn read_again(alloc: Global, checked: &Checked, text: &[u8], times: u32) -> Result<(), Trouble> {
+pub fn read_again(alloc: Global, checked: &Checked, text: &[u8], times: u32) -> Result<(), Trouble>
+    requires numbered { IsNumbered checked.now.program }
+    requires named { IsNamed checked.now.program }
+{
     for _ in 1..times {
         drop(read(alloc, checked, text)?);
     }

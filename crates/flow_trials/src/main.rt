@@ -73,7 +73,11 @@ fn driven(alloc: Global, flows: u32) -> Result<Core<Counter>, Trouble> {
     let given = given(alloc, flows)?;
     let mut core = core_of(alloc, PROGRAM, given.as_slice(), Counter)?;
     drive(alloc, &mut core)?;
-    if core.live() == 0 { Ok(core) } else { Err(Trouble::Text) }
+    if core.live() == 0 {
+        Ok(core)
+    } else {
+        Err(Trouble::Text)
+    }
 }
 
 fn answer_core(rt: &HostRuntime, flows: u32) -> Result<(), Trouble> {
@@ -87,7 +91,11 @@ fn answer_journal(rt: &HostRuntime, flows: u32, prints: u32, reads: u32) -> Resu
     let checked = checked_of(rt.alloc(), PROGRAM, &Counter)?;
     let text = print_again(rt.alloc(), &checked, core.journal(), prints)?;
     read_again(rt.alloc(), &checked, text.as_bytes(), reads)?;
-    println!(rt; "events {} bytes {}", core.journal().entries.len(), text.as_bytes().len())?;
+    println!(rt;
+        "events {} bytes {}",
+        core.journal().entries.len(),
+        text.as_bytes().len()
+    )?;
     Ok(())
 }
 
@@ -103,7 +111,11 @@ fn answer(rt: &HostRuntime) -> Result<(), Trouble> {
     let words: Vec<String> = env::args(rt)?.collect(rt.alloc())?;
     match read_words(words.as_slice())? {
         Words::Core { flows } => answer_core(rt, flows),
-        Words::Journal { flows, prints, reads } => answer_journal(rt, flows, prints, reads),
+        Words::Journal {
+            flows,
+            prints,
+            reads,
+        } => answer_journal(rt, flows, prints, reads),
         Words::Text { flows } => answer_text(rt, flows),
     }
 }

@@ -1,13 +1,15 @@
 //! Random moves: any flow makes a step, and its call is begun at one move and finished at a later one.
 
 ghost use Rattle.std.specs.Prelude.{◌<◌, length};
+ghost use Rattle.flux_model.specs.Names.{IsNamed};
+ghost use Rattle.flux_model.specs.Numbered.{IsNumbered};
 
 use super::plain::assert_excludes;
 use super::{Flows, core_in, text_of};
 use crate::building::checked_of;
 use flow_core::{Core, Step};
-use flux_library::Library;
 use flux_journal::{print_journal, read_line};
+use flux_library::Library;
 use flux_model::{FlowNo, Journal, Program};
 use flux_values::{List, Memory};
 use nodes_counter::Counter;
@@ -35,7 +37,13 @@ const PROGRAMS: [Flows; 10] = [
     },
     Flows {
         lines: "Add (int n) => (int n); Read (int n) => (int n); source Tick => Add; source Tick_2 => Read; atomic Add:{counter}; atomic Read:{counter?};",
-        given: &[(0, 5), (1, 0), (0, 9_223_372_036_854_775_807), (1, 1), (0, -2)],
+        given: &[
+            (0, 5),
+            (1, 0),
+            (0, 9_223_372_036_854_775_807),
+            (1, 1),
+            (0, -2),
+        ],
     },
     Flows {
         lines: "Add (int n) => (int n); Bump (int n) => (int n); typedef zero IsZero; source Tick => Load; session Tick => ByNumber; Load:[zero] = Pass; Load:[_] = Visit -> Add; Visit = Bump; atomic Load:{aisle?}; atomic Visit:{zone?}; atomic Bump:{visits(session)}; atomic Add:{counter};",
@@ -63,15 +71,12 @@ const SEEDS: [u64; 3] = [1, 2_027, 88_468];
 
 /// The next of a row of numbers.
 fn next_seed(seed: u64) -> u64 {
-    seed.wrapping_mul(6_364_136_223_846_793_005).wrapping_add(1_442_695_040_888_963_407)
+    seed.wrapping_mul(6_364_136_223_846_793_005)
+        .wrapping_add(1_442_695_040_888_963_407)
 }
 
 /// A step; where the call was begun at an earlier move, it is run and finished.
-pub fn move_on<L: Library>(
-    alloc: Global,
-    core: &mut Core<L>,
-    flow: FlowNo,
-) -> Result<(), Memory>
+pub fn move_on<L: Library>(alloc: Global, core: &mut Core<L>, flow: FlowNo) -> Result<(), Memory>
     requires { flow.0 < length core.old.items }
 {
     match core.step(flow)? {
@@ -80,11 +85,7 @@ pub fn move_on<L: Library>(
     }
 }
 
-fn finish_begun<L: Library>(
-    alloc: Global,
-    core: &mut Core<L>,
-    flow: FlowNo,
-) -> Result<(), Memory>
+fn finish_begun<L: Library>(alloc: Global, core: &mut Core<L>, flow: FlowNo) -> Result<(), Memory>
     requires { flow.0 < length core.old.items }
 {
     if let Some(job) = core.recall(flow)? {
@@ -111,7 +112,10 @@ fn wander(alloc: Global, core: &mut Core<Counter>, first: u64) -> Result<(), Mem
 }
 
 /// Each line of a journal's text reads as an entry, which is printed as that line.
-fn assert_lines(rt: &impl Abort, alloc: Global, program: &Program, text: &[u8]) -> Result<(), Fail> {
+fn assert_lines(rt: &impl Abort, alloc: Global, program: &Program, text: &[u8]) -> Result<(), Fail>
+    requires numbered { IsNumbered program.now }
+    requires named { IsNamed program.now }
+{
     for line in text.split(|byte| *byte == b'\n') {
         if !line.is_empty() {
             let mut entries = List::new(alloc);

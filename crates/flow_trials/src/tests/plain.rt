@@ -30,19 +30,26 @@ impl Held {
 impl Seen {
     fn take(&mut self, rt: &impl Abort, flow: FlowNo, key: Key, mode: Mode) -> Result<(), Memory> {
         for held in self.held.as_slice() {
-            assert!(rt; !held.bars(flow, key, mode), "{flow:?} takes {key:?} beside {held:?}");
+            assert!(rt;
+                !held.bars(flow, key, mode),
+                "{flow:?} takes {key:?} beside {held:?}"
+            );
         }
         Ok(self.held.push(Held { flow, key, mode })?)
     }
 
     fn place_of(&self, flow: FlowNo, key: Key) -> Option<usize> {
-        self.held.iter().rposition(|held| held.flow == flow && held.key == key)
+        self.held
+            .iter()
+            .rposition(|held| held.flow == flow && held.key == key)
     }
 
     fn drop_key(&mut self, rt: &impl Abort, flow: FlowNo, key: Key) {
         let place = self.place_of(flow, key);
         assert!(rt; place.is_some(), "{flow:?} drops {key:?}");
-        if let Some(place) = place && place < self.held.len() {
+        if let Some(place) = place
+            && place < self.held.len()
+        {
             let _ = self.held.remove(place);
         }
     }
@@ -56,7 +63,10 @@ impl Seen {
 
     fn see(&mut self, rt: &impl Abort, entry: &Entry) -> Result<(), Memory> {
         let flow = entry.flow;
-        assert!(rt; !self.ended.contains(&flow), "{flow:?} goes on after its end");
+        assert!(rt;
+            !self.ended.contains(&flow),
+            "{flow:?} goes on after its end"
+        );
         match &entry.event {
             Event::Take(key, mode) => self.take(rt, flow, *key, *mode),
             Event::Drop(key) => {

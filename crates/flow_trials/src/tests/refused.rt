@@ -82,7 +82,10 @@ fn run_all<L: Library>(rt: &impl Abort, alloc: Global, core: &mut Core<L>) -> Re
             let before = printed_in(alloc, FLOWS, core)?;
             if flow < core.flows() && move_on(alloc, core, FlowNo(flow)).is_err() {
                 refused = refused.saturating_add(1);
-                assert_eq!(rt; printed_in(alloc, FLOWS, core)?.as_bytes(), before.as_bytes());
+                assert_eq!(rt;
+                    printed_in(alloc, FLOWS, core)?.as_bytes(),
+                    before.as_bytes()
+                );
             }
         }
     }
@@ -102,7 +105,11 @@ fn a_refused_call_changes_nothing(rt: HostRuntime) -> Result<(), Fail> {
         };
         let mut core = core_in(alloc, FLOWS, library)?;
         assert_eq!(&rt; run_all(&rt, alloc, &mut core)?, 1, "at {refused}");
-        assert_eq!(&rt; printed_in(alloc, FLOWS, &core)?.as_bytes(), wanted.as_bytes(), "at {refused}");
+        assert_eq!(&rt;
+            printed_in(alloc, FLOWS, &core)?.as_bytes(),
+            wanted.as_bytes(),
+            "at {refused}"
+        );
     }
     Ok(())
 }

@@ -131,7 +131,12 @@ fn listed_steps_come_first_and_then_the_lowest_flow_that_can_go_on(
         follow(alloc, &mut core, row.steps)?;
         drain(alloc, &mut core)?;
         let printed = printed_in(alloc, row.flows, &core)?;
-        assert_eq!(&rt; printed.as_bytes(), row.journal.as_bytes(), "{:?}", row.flows.lines);
+        assert_eq!(&rt;
+            printed.as_bytes(),
+            row.journal.as_bytes(),
+            "{:?}",
+            row.flows.lines
+        );
         assert_eq!(&rt; core.live(), 0, "{:?}", row.flows.lines);
     }
     Ok(())
