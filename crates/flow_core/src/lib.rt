@@ -5,12 +5,20 @@
 //! is seen as and what it keeps at every moment, and `specs/Moves` what each call does.
 #![tactic(auto)]
 
+mod adding;
+mod calling;
 mod calls;
+mod copies;
 mod cores;
+mod keys;
+mod moving;
+mod opening;
 mod places;
 mod running;
+mod sameness;
 mod runtimes;
 mod setups;
+mod stepping;
 
 pub use calls::{CallDone, Inputs, Job};
 pub use cores::{Core, Finish, Step, Stop};
