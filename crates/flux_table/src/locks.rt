@@ -70,6 +70,13 @@ impl Lock {
         self.holders.is_empty() && self.line.is_empty()
     }
 
+    /// The flows that wait, first come first.
+    pub fn line(&self) -> &[Waiter]
+        ensures { result.now ≡ self.now.line }
+    {
+        self.line.as_slice()
+    }
+
     /// The lowest-numbered flow that blocks a flow from the key in a mode.
     pub fn blocker(&self, flow: FlowNo, mode: Mode) -> Option<FlowNo>
         ensures { IsLowestOf (λ other. Blocks (held_by self.now.holders) self.now.line other flow.0 mode) result }
