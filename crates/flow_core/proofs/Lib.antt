@@ -11,3 +11,4 @@ pub mod Asked
 pub mod SameCells
 pub mod Called
 pub mod Opened
+pub mod Stops
