@@ -26,9 +26,7 @@ impl<L: Library> Core<L> {
         ensures { MatchOption result (IsBlocked (setup_in L.meaning self.now) self.now.entries flow.0 → ⊥)
             (IsStop (setup_in L.meaning self.now) self.now.entries flow.0) }
     {
-        let _ = &self.running.live;
-        let _ = flow;
-        unreachable!()
+        self.running.stop_at(flow)
     }
 
     /// The allocator that the core was made with.
@@ -40,8 +38,6 @@ impl<L: Library> Core<L> {
     pub fn line(&self, key: Key) -> &[Waiter]
         ensures { IsLineAt self.now.entries key result.now }
     {
-        let _ = &self.running.live;
-        let _ = key;
-        unreachable!()
+        self.running.line(key)
     }
 }
