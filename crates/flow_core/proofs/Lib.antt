@@ -12,3 +12,4 @@ pub mod SameCells
 pub mod Called
 pub mod Opened
 pub mod Comes
+pub mod LegalRuns

@@ -11,6 +11,7 @@ mod calls;
 mod copies;
 mod cores;
 mod keys;
+mod laws;
 mod moving;
 mod opening;
 mod places;
@@ -22,5 +23,6 @@ mod stepping;
 
 pub use calls::{CallDone, Inputs, Job};
 pub use cores::{Core, Finish, Step};
+pub use laws::{calls_are_moves, runs_are_legal};
 pub use runtimes::{Runtime, Stopped};
 pub use setups::Setup;
