@@ -139,6 +139,12 @@ module _ (entries : List Entry) (key : Key) where
     line-still away nowhere line is =
         subst (IsLine more key) (without-none line flow.0 (nowhere-in nowhere line is.order)) (line-left away line is)
 
+  -- a flow that stands nowhere leaves a line as it is
+  pub line-unchanged : (flow : FlowNo) → ((mode : Mode) (place : ℕ) → StandsAt entries flow.0 key mode place → ⊥) → (line : List Waiter) → IsLine entries key line → line_without line flow.0 ≡ line
+  line-unchanged flow nowhere line is = without-none line flow.0 (λ waiter there same.
+      let (place, stands) = order-stands line is.order waiter there in
+      nowhere waiter.mode place (subst (λ (f : ℕ). StandsAt entries f key waiter.mode place) same stands))
+
   -- ---- with a wait
 
   module _ (flow : FlowNo) (mode : Mode) where
