@@ -31,23 +31,24 @@ use Rattle.flow_waits.proofs.Orders.{before-from_zero}
 
 pub same-setup : {L : Type 0} (meaning : L → LibraryMeaning) (old new : CoreState L) → SameSetup old new → setup_in meaning new ≡ setup_in meaning old
 same-setup {L} meaning old new same =
-    λ i. setup_in meaning (record { program = same.program_ i; items = same.items_ i; opening = same.opening_ i; library = same.library_ i; entries = new.entries; begun = new.begun; halted = new.halted })
+    λ i. setup_in meaning (record { program = same.program_ i; plans = same.plans_ i; items = same.items_ i; opening = same.opening_ i; library = same.library_ i; entries = new.entries; begun = new.begun; halted = new.halted })
 
 pub same-then : {L : Type 0} (a b c : CoreState L) → SameSetup a b → SameSetup b c → SameSetup a c
 same-then a b c one other = record {
   program_ = other.program_ ∙ one.program_;
+  plans_ = other.plans_ ∙ one.plans_;
   items_ = other.items_ ∙ one.items_;
   opening_ = other.opening_ ∙ one.opening_;
   library_ = other.library_ ∙ one.library_;
 }
 
 pub same-itself : {L : Type 0} (a : CoreState L) → SameSetup a a
-same-itself a = record { program_ = refl; items_ = refl; opening_ = refl; library_ = refl }
+same-itself a = record { program_ = refl; plans_ = refl; items_ = refl; opening_ = refl; library_ = refl }
 
 pub goes-on : {L : Type 0} (meaning : L → LibraryMeaning) (old new : CoreState L) → SameSetup old new → (more : List Entry) → new.entries ≡ old.entries ++ more
     → IsLegal (setup_in meaning old) new.entries → GoesOnLegally meaning old new
 goes-on meaning old new same more added legal = record {
-  on = record { program_ = same.program_; items_ = same.items_; opening_ = same.opening_; library_ = same.library_; more = more; added = added };
+  on = record { program_ = same.program_; plans_ = same.plans_; items_ = same.items_; opening_ = same.opening_; library_ = same.library_; more = more; added = added };
   legal = subst (λ setup. IsLegal setup new.entries) (sym (same-setup meaning old new same)) legal;
 }
 

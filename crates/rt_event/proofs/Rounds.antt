@@ -138,7 +138,7 @@ rounding-few setup old new from on_turn kept = few-entries setup new kept.legal
 pub round-whole : {L : Type 0} (meaning : L → LibraryMeaning) (old new : CoreState L) → IsRound (setup_in meaning old) old.entries new.entries → GoesOnLegally meaning old new → GoesToEnd meaning old new
 round-whole meaning old new round legally =
     let on = legally.on in
-    let same : SameSetup old new = record { program_ = on.program_; items_ = on.items_; opening_ = on.opening_; library_ = on.library_ } in
+    let same : SameSetup old new = record { program_ = on.program_; plans_ = on.plans_; items_ = on.items_; opening_ = on.opening_; library_ = on.library_ } in
     record {
       legally = legally;
       whole = none_live_is_whole (setup_in meaning new) new.entries legally.legal

@@ -80,6 +80,7 @@ pub legally-then : {L : Type 0} (meaning : L → LibraryMeaning) (a b c : CoreSt
 legally-then meaning a b c one other = let first = one.on in let last = other.on in record {
   on = record {
     program_ = last.program_ ∙ first.program_;
+    plans_ = last.plans_ ∙ first.plans_;
     items_ = last.items_ ∙ first.items_;
     opening_ = last.opening_ ∙ first.opening_;
     library_ = last.library_ ∙ first.library_;
@@ -95,7 +96,7 @@ pub follow-whole : {L : Type 0} (meaning : L → LibraryMeaning) (old new : Core
 follow-whole meaning old new numbers follow legally =
     let on = legally.on in
     let drains = follow.drains in
-    let same : SameSetup old new = record { program_ = on.program_; items_ = on.items_; opening_ = on.opening_; library_ = on.library_ } in
+    let same : SameSetup old new = record { program_ = on.program_; plans_ = on.plans_; items_ = on.items_; opening_ = on.opening_; library_ = on.library_ } in
     record {
       legally = legally;
       whole = subst (λ s. IsWhole s new.entries) (sym (same-setup meaning old new same)) drains.whole;
