@@ -228,9 +228,9 @@ module _ (entries : List Entry) (key : Key) where
     where
       by : (b : Bool) → eqb first.flow.0 flow ≡ b → In waiter (cond b [] (first ∷ front_of line flow)) → (In waiter (front_of line flow) → In waiter line × (waiter.flow.0 ≡ flow → ⊥))
           → In waiter (first ∷ line) × (waiter.flow.0 ≡ flow → ⊥)
-      by true own is more = absurd is
-      by false own (inl same) more = (inl same, λ e. false≢true (sym own ∙ eq-eqb first.flow.0 flow (ap (λ (w : Waiter). w.flow.0) same ∙ e)))
-      by false own (inr is) more = let (there, apart) = more is in (inr there, apart)
+      by true own is later = absurd is
+      by false own (inl same) later = (inl same, λ e. false≢true (sym own ∙ eq-eqb first.flow.0 flow (ap (λ (w : Waiter). w.flow.0) same ∙ e)))
+      by false own (inr is) later = let (there, apart) = later is in (inr there, apart)
 
   -- who stands before a flow has a lower place
   front-lower : (line : List Waiter) → AreInOrder entries key line → (flow : ℕ) (waiter own : Waiter) → In waiter (front_of line flow) → In own line → own.flow.0 ≡ flow

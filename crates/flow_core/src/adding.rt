@@ -97,8 +97,8 @@ pub fn take(
     mode: Mode,
 ) -> Result<(), Memory>
     requires may { MayTake (holders_of table.old) (lines_of table.old) flow.0 key mode }
-    requires free { IsLowestOf (λ other. Blocks (holders_of table.old key) (lines_of table.old key) other flow.0 mode)
-        None }
+    requires free { IsLowestOf (λ other.
+        Blocks (holders_of table.old key) (lines_of table.old key) other flow.0 mode) None }
     ensures added { OnOk result (journal.new.entries
         ≡ journal.old.entries ++ record { flow = flow; event = events.Take key mode } ∷ []) }
     ensures takes { OnOk result (Takes table.old table.new flow.0 key mode) }
@@ -130,8 +130,8 @@ pub fn take_on<L: Library>(
     mode: Mode,
 ) -> Result<(), Memory>
     requires may { MayTake (holders_of table.old) (lines_of table.old) flow.0 key mode }
-    requires free { IsLowestOf (λ other. Blocks (holders_of table.old key) (lines_of table.old key) other flow.0 mode)
-        None }
+    requires free { IsLowestOf (λ other.
+        Blocks (holders_of table.old key) (lines_of table.old key) other flow.0 mode) None }
     requires comes { let matches = matches_by (L.meaning (arc_value setup.now.library))
         (arc_value setup.now.program) in
         HasPlan (arc_value setup.now.plans) setup.now.items flow.0

@@ -102,7 +102,8 @@ impl<L: Library> Running<L> {
     /// The job of a begun call.
     fn job(&self, flow: FlowNo, begun: &Begun) -> Result<Job<L>, Memory>
         requires running { IsRunning L.meaning self.now }
-        requires begun { IsBegun (setup_in L.meaning (core_of self.now)) self.now.journal.entries flow.0 begun.now }
+        requires begun { IsBegun (setup_in L.meaning (core_of self.now)) self.now.journal.entries flow.0
+            begun.now }
         ensures { IfOk result (λ job. job
             ≡ job_of L.meaning (core_of self.now) (core_of self.now) flow begun.now) }
     {
@@ -133,7 +134,8 @@ impl<L: Library> Running<L> {
         requires running { IsRunning L.meaning self.now }
         requires flow { flow.0 < length self.now.setup.items }
         ensures { IfOk result (λ job. job ≡ option_map
-            (job_of L.meaning (core_of self.now) (core_of self.now) flow) (begun_by (core_of self.now) flow.0)) }
+            (job_of L.meaning (core_of self.now) (core_of self.now) flow)
+            (begun_by (core_of self.now) flow.0)) }
     {
         let place = &self.places[flow.0 as usize];
         match &place.begun {
@@ -144,7 +146,8 @@ impl<L: Library> Running<L> {
 
     /// Whether a flow has begun a call with these inputs.
     pub fn has_begun(&self, flow: FlowNo, inputs: &Inputs) -> Result<bool, Memory>
-        ensures { IfOk result (λ has. IsTrue has ↔ (begun_by (core_of self.now) flow.0 ≡ Some inputs.now)) }
+        ensures { IfOk result (λ has. IsTrue has
+            ↔ (begun_by (core_of self.now) flow.0 ≡ Some inputs.now)) }
     {
         match self.places.get(flow.0 as usize) {
             Some(
@@ -165,7 +168,8 @@ impl<L: Library> Running<L> {
         requires flow { flow.0 < length self.now.setup.items }
         requires coming { IsComing (setup_in L.meaning (core_of self.now)) (plans_of self.now)
             self.now.places.items flow.0 (nexts.Call node) }
-        ensures { IfOk result (λ keys. AreKeys (setup_in L.meaning (core_of self.now)) flow.0 node.0 keys.items) }
+        ensures { IfOk result (λ keys.
+            AreKeys (setup_in L.meaning (core_of self.now)) flow.0 node.0 keys.items) }
     {
         let place = &self.places[flow.0 as usize];
         let declared = declared_of(&self.setup.program, node);

@@ -26,7 +26,8 @@ impl<L: Library> Running<L> {
         requires quiet { IsQuiet event }
         requires goes_on { is_end event ≡ false }
         ensures running { IsRunning L.meaning self.new }
-        ensures ok { OnOk result (MakesEvent L.meaning (core_of self.old) (core_of self.new) flow event) }
+        ensures ok { OnOk result
+            (MakesEvent L.meaning (core_of self.old) (core_of self.new) flow event) }
         ensures err { OnErr result (core_of self.new ≡ core_of self.old) }
     {
         let place = &mut self.places[flow.0 as usize];
@@ -46,7 +47,8 @@ impl<L: Library> Running<L> {
         requires coming { IsEventComing (setup_in L.meaning (core_of self.old)) (plans_of self.old)
             self.old.places.items flow.0 (events.End outcome) }
         ensures running { IsRunning L.meaning self.new }
-        ensures ok { OnOk result (MakesEvent L.meaning (core_of self.old) (core_of self.new) flow (events.End outcome)) }
+        ensures ok { OnOk result
+            (MakesEvent L.meaning (core_of self.old) (core_of self.new) flow (events.End outcome)) }
         ensures err { OnErr result (core_of self.new ≡ core_of self.old) }
     {
         let place = &mut self.places[flow.0 as usize];
@@ -67,7 +69,8 @@ impl<L: Library> Running<L> {
         requires coming { IsEventComing (setup_in L.meaning (core_of self.old)) (plans_of self.old)
             self.old.places.items flow.0 (events.Drop key) }
         ensures running { IsRunning L.meaning self.new }
-        ensures ok { OnOk result (MakesEvent L.meaning (core_of self.old) (core_of self.new) flow (events.Drop key)) }
+        ensures ok { OnOk result
+            (MakesEvent L.meaning (core_of self.old) (core_of self.new) flow (events.Drop key)) }
         ensures err { OnErr result (core_of self.new ≡ core_of self.old) }
     {
         let place = &mut self.places[flow.0 as usize];
@@ -89,7 +92,8 @@ impl<L: Library> Running<L> {
             self.old.places.items flow.0 (events.Take key mode) }
         requires free { (other : ℕ) → Blocks self.old.journal.entries other flow.0 key mode → ⊥ }
         ensures running { IsRunning L.meaning self.new }
-        ensures ok { OnOk result (MakesEvent L.meaning (core_of self.old) (core_of self.new) flow (events.Take key mode)) }
+        ensures ok { OnOk result
+            (MakesEvent L.meaning (core_of self.old) (core_of self.new) flow (events.Take key mode)) }
         ensures err { OnErr result (core_of self.new ≡ core_of self.old) }
     {
         if self.places[flow.0 as usize].stands {
@@ -106,7 +110,8 @@ impl<L: Library> Running<L> {
             self.old.places.items flow.0 (events.Take key mode) }
         requires free { (other : ℕ) → Blocks self.old.journal.entries other flow.0 key mode → ⊥ }
         ensures running { IsRunning L.meaning self.new }
-        ensures ok { OnOk result (MakesEvent L.meaning (core_of self.old) (core_of self.new) flow (events.Take key mode)) }
+        ensures ok { OnOk result
+            (MakesEvent L.meaning (core_of self.old) (core_of self.new) flow (events.Take key mode)) }
         ensures err { OnErr result (core_of self.new ≡ core_of self.old) }
     {
         let place = &mut self.places[flow.0 as usize];
@@ -127,7 +132,8 @@ impl<L: Library> Running<L> {
             → place.stands ≡ false }
         requires free { (other : ℕ) → Blocks self.old.journal.entries other flow.0 key mode → ⊥ }
         ensures running { IsRunning L.meaning self.new }
-        ensures ok { OnOk result (MakesEvent L.meaning (core_of self.old) (core_of self.new) flow (events.Take key mode)) }
+        ensures ok { OnOk result
+            (MakesEvent L.meaning (core_of self.old) (core_of self.new) flow (events.Take key mode)) }
         ensures err { OnErr result (core_of self.new ≡ core_of self.old) }
     {
         let place = &mut self.places[flow.0 as usize];
@@ -148,10 +154,11 @@ impl<L: Library> Running<L> {
         requires running { IsRunning L.meaning self.old }
         requires coming { IsEventComing (setup_in L.meaning (core_of self.old)) (plans_of self.old)
             self.old.places.items flow.0 (events.Take key mode) }
-        requires blocked { IsLowestOf (λ other. Blocks self.old.journal.entries other flow.0 key mode)
-            (Some holder) }
+        requires blocked { IsLowestOf
+            (λ other. Blocks self.old.journal.entries other flow.0 key mode) (Some holder) }
         ensures running { IsRunning L.meaning self.new }
-        ensures ok { OnOk result (HasWaited L.meaning (core_of self.old) (core_of self.new) flow key holder) }
+        ensures ok { OnOk result
+            (HasWaited L.meaning (core_of self.old) (core_of self.new) flow key holder) }
         ensures err { OnErr result (core_of self.new ≡ core_of self.old) }
     {
         let _ = holder;
