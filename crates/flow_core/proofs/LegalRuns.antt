@@ -108,6 +108,7 @@ module _ {L : Type 0} (meaning : L → LibraryMeaning) (old : CoreState L) (kept
     sound = kept.sound;
     fit = kept.fit;
     few = kept.few;
+    plans_ = kept.plans_;
     legal = legal;
     each = kept.each;
     calls = λ other inputs is. by other inputs is (cases_eq flow.0 other);
@@ -138,6 +139,7 @@ module _ {L : Type 0} (meaning : L → LibraryMeaning) (old : CoreState L) (kept
     sound = kept.sound;
     fit = kept.fit;
     few = kept.few;
+    plans_ = kept.plans_;
     legal = kept.legal;
     each = length-replaced old.begun flow.0 (Some inputs) ∙ kept.each;
     calls = λ other given is. by other given (begun-cases old.begun flow.0 (Some inputs) other given is);
@@ -154,6 +156,7 @@ module _ {L : Type 0} (meaning : L → LibraryMeaning) (old : CoreState L) (kept
     sound = kept.sound;
     fit = kept.fit;
     few = kept.few;
+    plans_ = kept.plans_;
     legal = legal;
     each = length-replaced old.begun flow.0 None ∙ kept.each;
     calls = λ other given is. by other given (begun-cases old.begun flow.0 None other given is);
@@ -182,14 +185,15 @@ module _ {L : Type 0} (meaning : L → LibraryMeaning) (old : CoreState L) (kept
 -- ---- runs
 
 kept-opened : {L : Type 0} (meaning : L → LibraryMeaning) (p : Program) (plans : List Plan) (items : List Item) (opening : Kept) (library : L) → IsLawful (meaning library)
-    → MayRun (meaning library) p plans items → IsKept meaning (opened p items opening library)
+    → MayRun (meaning library) p plans items → IsKept meaning (opened p plans items opening library)
 kept-opened meaning p plans items opening library lawful may = record {
   lawful = lawful;
   kinds = may.kinds;
   sound = may.sound;
   fit = may.fit;
   few = may.few;
-  legal = let sound = may.sound in nothing_is_legal (setup_in meaning (opened p items opening library)) (locks_are_there p sound.numbered sound.acyclic);
+  plans_ = may.plans_;
+  legal = let sound = may.sound in nothing_is_legal (setup_in meaning (opened p plans items opening library)) (locks_are_there p sound.numbered sound.acyclic);
   each = length-map items no_call;
   calls = λ flow inputs is. absurd (none-begun items flow inputs is);
 }
@@ -200,7 +204,7 @@ kept-run meaning first kept (next ∷ later) last ((flow, move), run) = kept-run
 
 pub runs_are_legal : {L : Type 0} (meaning : L → LibraryMeaning) → RunsAreLegal meaning
 runs_are_legal meaning p plans items opening library lawful may states last run =
-    let kept = kept-run meaning (opened p items opening library) (kept-opened meaning p plans items opening library lawful may) states last run in
+    let kept = kept-run meaning (opened p plans items opening library) (kept-opened meaning p plans items opening library lawful may) states last run in
     record { kept = kept; agree = agrees meaning last kept }
 
 -- ---- what calls do

@@ -103,6 +103,7 @@ module _ {L : Type 0} (meaning : L → LibraryMeaning) (r : Running L) (is : IsR
         sound = given.sound;
         fit = given.fit;
         few = given.few;
+        plans_ = given.plans_;
         legal = after.legal;
         each = length-map items (λ (place : Place). place.begun) ∙ places.count;
         calls = λ flow inputs begun. begun-calls flow inputs (slice_get items flow) refl

@@ -83,7 +83,7 @@ abbrev pub RunsAreLegal : {L : Type 0} → (L → LibraryMeaning) → Type 0
 RunsAreLegal {L} meaning = (p : Program) (plans : List Plan) (items : List Item) (opening : Kept)
     (library : L) → IsLawful (meaning library) → MayRun (meaning library) p plans items
     → (states : List (CoreState L)) (last : CoreState L)
-    → IsRun meaning (opened p items opening library) states last → IsRight meaning last
+    → IsRun meaning (opened p plans items opening library) states last → IsRight meaning last
 
 -- what a step does is one move of its flow, or none
 abbrev pub StepsAreMoves : {L : Type 0} → (L → LibraryMeaning) → Type 0

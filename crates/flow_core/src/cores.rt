@@ -72,8 +72,8 @@ impl<L: Library> Core<L> {
     pub fn new(alloc: Global, setup: Setup<L>) -> Result<Core<L>, Memory>
         requires { MayRun (L.meaning (arc_value setup.library)) (arc_value setup.program)
             (arc_value setup.plans) setup.items }
-        ensures { IfOk result (λ core. core ≡ opened (arc_value setup.program) setup.items setup.opening
-            (arc_value setup.library)) }
+        ensures { IfOk result (λ core. core ≡ opened (arc_value setup.program) (arc_value setup.plans)
+            setup.items setup.opening (arc_value setup.library)) }
     {
         Ok(Core {
             running: Running::new(alloc, setup)?,

@@ -70,7 +70,8 @@ impl<L: Library> Running<L> {
         requires { MayRun (L.meaning (arc_value setup.library)) (arc_value setup.program)
             (arc_value setup.plans) setup.items }
         ensures core { IfOk result (λ running. core_of running
-            ≡ opened (arc_value setup.program) setup.items setup.opening (arc_value setup.library)) }
+            ≡ opened (arc_value setup.program) (arc_value setup.plans) setup.items setup.opening
+            (arc_value setup.library)) }
         ensures running { IfOk result (IsRunning L.meaning) }
     {
         let cells = setup.opening.copy()?;

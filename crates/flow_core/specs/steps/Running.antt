@@ -28,6 +28,7 @@ use Rattle.flow_core.specs.steps.Table.{IsTable}
 abbrev pub core_of : {L : Type 0} → Running L → CoreState L
 core_of {L} r = let setup = r.setup in record {
   program = arc_value setup.program;
+  plans = arc_value setup.plans;
   items = setup.items;
   opening = setup.opening;
   library = arc_value setup.library;

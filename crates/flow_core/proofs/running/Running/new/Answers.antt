@@ -10,7 +10,7 @@ places-requires-after_bounds g c κs within =
     may-sources (g.L.Meaning.meaning (arc_value c.args.setup.library)) (arc_value c.args.setup.program) (arc_value c.args.setup.plans) c.args.setup.items c.requires
 
 pub returns-clause-core : goal.returns-clause-core
-returns-clause-core g c = λ i. record (opened (arc_value c.args.setup.program) c.args.setup.items c.args.setup.opening (arc_value c.args.setup.library)) {
+returns-clause-core g c = λ i. record (opened (arc_value c.args.setup.program) (arc_value c.args.setup.plans) c.args.setup.items c.args.setup.opening (arc_value c.args.setup.library)) {
   entries = c.new-2.ensures i;
   begun = fresh-begun (g.L.Meaning.meaning (arc_value c.args.setup.library)) (arc_value c.args.setup.program) c.args.setup.items c.in_ok-places.places.items c.in_ok-places.ensures i;
 }
