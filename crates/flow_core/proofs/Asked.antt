@@ -1,7 +1,5 @@
 -- What comes next at a flow's place, as its calls tell it.
-use Rattle.std.proofs.Common.{◌≡◌, ◌≢◌, ◌<◌, ◌⊎◌, inl, inr, ℕ, Bool, true, false, List, [], ◌∷◌, length, Option, Some, None, refl, sym, ap, subst, ◌∙◌, arith}
-use Rattle.std.specs.List.{slice_get}
-use Rattle.flux_values.specs.declared.values.Value.{Value}
+use Rattle.std.proofs.Common.{◌≡◌, ◌<◌, ◌⊎◌, inl, inr, ℕ, true, false, List, length, Option, Some, refl, sym, ap, subst, ◌∙◌}
 use Rattle.flux_values.specs.declared.answers.Mode.{Mode}
 use Rattle.flux_values.specs.Meanings.{LibraryMeaning}
 use Rattle.flux_model.specs.declared.programs.ClassNo.{ClassNo}
@@ -10,7 +8,7 @@ use Rattle.flux_model.specs.declared.journals.FlowNo.{FlowNo}
 use Rattle.flux_model.specs.declared.journals.Key.{Key}
 use Rattle.flux_model.specs.declared.journals.Entry.{Entry}
 use Rattle.flux_model.specs.declared.journals.Event.{Event}
-use Rattle.flux_model.specs.declared.journals.Event.TheVariants.{Take, Wait, Enter, Choose, Call, Exit, Drop, End}
+use Rattle.flux_model.specs.declared.journals.Event.TheVariants.{Take, Enter, Choose, Exit, Drop, End}
 use Rattle.flux_model.specs.Setup.{Setup, item_of}
 use Rattle.flux_model.specs.CellsAfter.{key_for}
 use Rattle.flux_model.specs.Events.{IsNext, CallIsNext}
@@ -21,7 +19,7 @@ use Rattle.flux_laws.specs.Going.{IsBlocked, IsAtCall}
 use Rattle.flux_plan.specs.declared.locals.Next.{Next}
 use Rattle.flux_plan.specs.declared.locals.Next.TheVariants as nexts
 use Rattle.flux_plan.specs.Machine.{values_at}
-use Rattle.flux_table.specs.Tables.{Locks, holders_of, lines_of}
+use Rattle.flux_table.specs.Tables.{holders_of, lines_of}
 use Rattle.flux_table.specs.Blockers as table
 use Rattle.flux_table.specs.Blockers.{MayTake, IsLowestOf}
 use Rattle.flux_laws.proofs.Standing.{next-unique}

@@ -1,10 +1,7 @@
 -- Flows at their places: what comes next there is what comes next in the journal; and one entry more.
-use Rattle.std.proofs.Common.{◌≡◌, ◌≢◌, ◌<◌, ◌⊎◌, inl, inr, ℕ, Bool, true, false, List, [], ◌∷◌, ◌++◌, length, map, Option, Some, None, refl, sym, ap, subst, ◌∙◌, arith}
-use Rattle.std.specs.Prelude.{IsSome}
-use Rattle.std.specs.List.{slice_get, slice_set, AllByRecursion, flat_map}
-use Rattle.std.proofs.lemmas.Bool.{false≢true, cases_eq}
+use Rattle.std.proofs.Common.{◌≡◌, ◌<◌, ◌⊎◌, inl, inr, ℕ, Bool, true, false, List, [], ◌∷◌, ◌++◌, length, Option, Some, None, refl, sym, ap, subst, ◌∙◌}
+use Rattle.std.specs.List.{slice_get, slice_set, flat_map}
 use Rattle.std.proofs.lemmas.List.{append-nil}
-use Rattle.flux_values.specs.declared.values.Value.{Value}
 use Rattle.flux_values.specs.declared.answers.Mode.{Mode}
 use Rattle.flux_values.specs.declared.answers.Answer.{Answer}
 use Rattle.flux_model.specs.declared.programs.ClassNo.{ClassNo}
@@ -14,14 +11,13 @@ use Rattle.flux_model.specs.declared.journals.FlowNo.{FlowNo}
 use Rattle.flux_model.specs.declared.journals.Key.{Key}
 use Rattle.flux_model.specs.declared.journals.Item.{Item}
 use Rattle.flux_model.specs.declared.journals.Entry.{Entry}
-use Rattle.flux_model.specs.declared.journals.CallMade.{CallMade}
 use Rattle.flux_model.specs.declared.journals.Event.{Event}
 use Rattle.flux_model.specs.declared.journals.Event.TheVariants as events
 use Rattle.flux_model.specs.Setup.{Setup, item_of}
 use Rattle.flux_model.specs.Keys.{class_key, session_number}
 use Rattle.flux_model.specs.CellsAfter.{key_on, key_for}
 use Rattle.flux_model.specs.Walk.{Given}
-use Rattle.flux_model.specs.Flows.{given_for, flow_events}
+use Rattle.flux_model.specs.Flows.{given_for}
 use Rattle.flux_model.specs.Items.{IsItemOf, IsItemFor}
 use Rattle.flux_model.specs.Events.{answer_in, unless_wait, events_by, own_events, own_answers, IsNext, CallIsNext}
 use Rattle.flux_model.specs.Legal.{IsLegal}
@@ -33,15 +29,15 @@ use Rattle.flux_laws.proofs.OwnEvents.{by_another}
 use Rattle.flux_plan.specs.declared.plans.Plan.{Plan}
 use Rattle.flux_plan.specs.declared.locals.Next.{Next}
 use Rattle.flux_plan.specs.declared.locals.Next.TheVariants as nexts
-use Rattle.flux_plan.specs.Machine.{Matches, Position, fresh, values_at}
-use Rattle.flux_plan.specs.Moves.{next_in, IsEvent, called_in, HasReached, IsReached, IsReachedBySome, Advances, IsAnswered}
-use Rattle.flux_plan.specs.Runs.{ArePlansOf, IsPlanOf}
+use Rattle.flux_plan.specs.Machine.{Position, values_at}
+use Rattle.flux_plan.specs.Moves.{next_in, IsEvent, called_in, IsReached, Advances, IsAnswered}
+use Rattle.flux_plan.specs.Runs.{IsPlanOf}
 use Rattle.flux_plan.specs.Flows.{IsAt}
-use Rattle.flux_plan.proofs.Following.{events_for, reached-fresh, reached-some, next-called, plan-of_line, flow-next, flow-calls, flow-ended, at-later, at-advanced, at-answered}
+use Rattle.flux_plan.proofs.Following.{events_for, reached-some, next-called, plan-of_line, flow-next, flow-calls, flow-ended, at-later, at-advanced, at-answered}
 use Rattle.flow_core.specs.declared.calls.Inputs.{Inputs}
 use Rattle.flow_core.specs.declared.places.Place.{Place}
 use Rattle.flow_core.specs.States.{IsBegun}
-use Rattle.flow_core.specs.steps.Places.{matches_in, plan_of_item, HasPlan, MayAdvance, MayAnswer, key_in, is_wait, ends_waiting, IsPlaceOf, ArePlaces, IsComing, event_for, IsEventComing}
+use Rattle.flow_core.specs.steps.Places.{matches_in, plan_of_item, HasPlan, MayAdvance, MayAnswer, key_in, is_wait, ends_waiting, IsPlaceOf, ArePlaces, event_for}
 use Rattle.flow_core.specs.steps.Running.{IsGiven}
 use Rattle.flow_core.proofs.Entries.{events-own, events-other, waiting-last, waiting-stands, StandsAnywhere}
 use Rattle.flow_core.proofs.Sets.{length-replaced, replaced-cases}

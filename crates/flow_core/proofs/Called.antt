@@ -1,18 +1,16 @@
 -- Calls that are begun and finished.
-use Rattle.std.proofs.Common.{◌≡◌, ◌<◌, ◌⊎◌, inl, inr, ℕ, Bool, true, false, get_or, List, [], ◌∷◌, ◌++◌, length, map, Option, Some, None, refl, sym, ap, subst, ◌∙◌, arith}
-use Rattle.std.specs.List.{slice_get, slice_set, find, AllByRecursion, Contains}
+use Rattle.std.proofs.Common.{◌≡◌, ◌<◌, ℕ, List, [], ◌∷◌, ◌++◌, length, map, Option, Some, None, refl, sym, ap, subst, ◌∙◌}
+use Rattle.std.specs.List.{slice_get, slice_set, AllByRecursion, Contains}
 use Rattle.flux_laws.proofs.Members.{in-from_contains}
 use Rattle.flux_model.specs.Kinds.{NodeKinds}
 use Rattle.flux_model.specs.Soundness.{IsProtected, AreCellsProtected, IsSound}
 use Rattle.std.specs.Option.{option_map, option_flatten, is_some}
 use Rattle.std.specs.Prelude.{IsSome, IfSome}
-use Rattle.std.specs.Arc.{arc_value}
 use Rattle.std.specs.Vec.{with_item}
-use Rattle.std.proofs.lemmas.Option.{slice_get_within, slice_get-map}
+use Rattle.std.proofs.lemmas.Option.{slice_get-map}
 use Rattle.std.proofs.lemmas.List.{length-map}
 use Rattle.flux_values.specs.declared.values.Value.{Value}
 use Rattle.flux_values.specs.declared.answers.Answer.{Answer}
-use Rattle.flux_values.specs.declared.answers.Put.{Put}
 use Rattle.flux_values.specs.declared.meanings.Sig.{Sig}
 use Rattle.flux_values.specs.declared.meanings.CellUse.{CellUse}
 use Rattle.flux_values.specs.Cells.{CellMap}
@@ -22,31 +20,26 @@ use Rattle.flux_model.specs.declared.programs.Hold.{Hold}
 use Rattle.flux_model.specs.declared.programs.Node.{Node}
 use Rattle.flux_model.specs.declared.programs.NodeNo.{NodeNo}
 use Rattle.flux_model.specs.declared.programs.Program.{Program}
-use Rattle.flux_model.specs.declared.programs.SourceLine.{SourceLine}
 use Rattle.flux_model.specs.declared.programs.Body.{Body}
 use Rattle.flux_model.specs.declared.programs.Body.TheVariants.{Concrete, Abstract}
 use Rattle.flux_model.specs.declared.journals.FlowNo.{FlowNo}
 use Rattle.flux_model.specs.declared.journals.Key.{Key}
-use Rattle.flux_model.specs.declared.journals.Item.{Item}
 use Rattle.flux_model.specs.declared.journals.Entry.{Entry}
 use Rattle.flux_model.specs.declared.journals.Journal.{Journal}
 use Rattle.flux_model.specs.declared.journals.CallMade.{CallMade}
-use Rattle.flux_model.specs.declared.journals.Event.{Event}
 use Rattle.flux_model.specs.declared.journals.Event.TheVariants.{Call}
-use Rattle.flux_model.specs.Setup.{Setup, item_of}
-use Rattle.flux_model.specs.Keys.{Cells, class_key, flow_key, session_number}
-use Rattle.flux_model.specs.Locks.{declared, declared_on}
-use Rattle.flux_model.specs.Walk.{Stop, before_call}
-use Rattle.flux_model.specs.CellsAfter.{is_named, class_named, key_of, key_for, cell_key, after_puts, after_event, cells_after}
-use Rattle.flux_model.specs.Answers.{cell_at, cells_for, answer_of, IsBodyAnswer, IsNodeAnswer}
+use Rattle.flux_model.specs.Setup.{Setup}
+use Rattle.flux_model.specs.Keys.{Cells}
+use Rattle.flux_model.specs.Locks.{declared}
+use Rattle.flux_model.specs.Walk.{before_call}
+use Rattle.flux_model.specs.CellsAfter.{class_named, key_of, cell_key, after_puts, after_event, cells_after}
+use Rattle.flux_model.specs.Answers.{cell_at, cells_for, IsBodyAnswer, IsNodeAnswer}
 use Rattle.flux_model.specs.Events.{CallIsNext}
 use Rattle.flux_model.specs.Legal.{IsLegal}
 use Rattle.flux_laws.specs.Moves.{MayCall}
 use Rattle.flux_laws.specs.Calls.{FitsSig, FitsFound, FitsBody, FitsNode, cells_of_body, cells_of_node, cells_read}
 use Rattle.flux_laws.proofs.FittingCalls.{next_calls_fit}
 use Rattle.flux_laws.proofs.NextEvents.{call-item}
-use Rattle.flux_plan.specs.declared.plans.Plan.{Plan}
-use Rattle.flux_plan.specs.declared.locals.Next.{Next}
 use Rattle.flux_plan.specs.declared.locals.Next.TheVariants as nexts
 use Rattle.flux_plan.specs.Machine.{values_at}
 use Rattle.flux_plan.specs.Moves.{next_in, called_in, IsAnswered}
@@ -54,21 +47,20 @@ use Rattle.flux_plan.proofs.Following.{next-called}
 use Rattle.flux_cells.specs.Kept.{Kept, cells_of}
 use Rattle.flux_cells.specs.Applied.{applied}
 use Rattle.flux_cells.proofs.AfterPuts.{applied-after_puts, keys_at, key_named-keys_at}
-use Rattle.flux_library.specs.Libraries.{Fits, IsCallable}
+use Rattle.flux_library.specs.Libraries.{IsCallable}
 use Rattle.flow_core.specs.declared.calls.Inputs.{Inputs}
 use Rattle.flow_core.specs.declared.places.Place.{Place}
 use Rattle.flow_core.specs.declared.running.Running.{Running}
-use Rattle.flow_core.specs.States.{CoreState, JobState, setup_in, begun_by, node_name, body_name, library_name, IsReadyBy, IsReady, IsAnswerBy, IsAnswerOf, IsBegun}
-use Rattle.flow_core.specs.Moves.{BeginsCall, FinishesCall, HasBegun, job_of}
-use Rattle.flow_core.specs.steps.Cells.{declares_named, class_in, cells_by}
+use Rattle.flow_core.specs.States.{JobState, setup_in, begun_by, node_name, body_name, library_name, IsReadyBy, IsReady, IsAnswerBy, IsAnswerOf, IsBegun}
+use Rattle.flow_core.specs.Moves.{FinishesCall, HasBegun, job_of}
+use Rattle.flow_core.specs.steps.Cells.{class_in, cells_by}
 use Rattle.flow_core.specs.steps.Calling.{IsKnown, IsSigIn, IsSigOf, IsGuarded, AreRead, AreKeys}
 use Rattle.flow_core.specs.steps.Places.{matches_in, HasPlan, MayAnswer, key_in, IsPlaceOf, IsComing}
 use Rattle.flow_core.specs.steps.Running.{core_of, plans_of, IsAfter, IsRunning}
 use Rattle.flow_core.proofs.Sets.{map-replaced}
 use Rattle.flow_core.proofs.Ended.{live_in, live-still}
-use Rattle.flow_core.proofs.AtPlaces.{place-key_for, place-may_answer, place-keys}
+use Rattle.flow_core.proofs.AtPlaces.{place-key_for, place-may_answer}
 use Rattle.flow_core.proofs.Moved.{here, coming-there, call-next, moved-begin, moved-finish}
-use Rattle.flow_core.proofs.OnFields.{read-at}
 
 -- ---- nodes
 

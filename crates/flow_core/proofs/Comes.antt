@@ -1,5 +1,5 @@
 -- Each step comes wherever its cause is.
-use Rattle.std.proofs.Common.{◌≡◌, ◌<◌, ℕ, Bool, true, false, List, length, Option, Some, None, Result, Ok, Err, refl, sym, ap, ◌∙◌}
+use Rattle.std.proofs.Common.{◌≡◌, ◌<◌, true, List, length, Option, Some, None, Result, Ok, Err, refl, sym, ap, ◌∙◌}
 use Rattle.std.specs.Prelude.{IsSome, IfOk}
 use Rattle.std.specs.Option.{is_some}
 use Rattle.std.proofs.lemmas.Bool.{false≢true}
@@ -13,11 +13,10 @@ use Rattle.flux_model.specs.Setup.{Setup}
 use Rattle.flux_model.specs.Events.{IsNext, CallIsNext}
 use Rattle.flux_laws.specs.Growth.{has_ended}
 use Rattle.flux_laws.specs.Going.{IsBlocked, IsAtCall}
-use Rattle.flow_core.specs.declared.calls.Inputs.{Inputs}
 use Rattle.flow_core.specs.declared.cores.Step.{Step}
 use Rattle.flow_core.specs.declared.cores.Step.TheVariants.{Ended, Calling, Waits, Job, Went}
-use Rattle.flow_core.specs.States.{CoreState, JobState, setup_in, begun_by, IsBegun, IsKept}
-use Rattle.flow_core.specs.Moves.{HasWaited, HasBegun, MakesEvent, HasStepped, IsWaits, IsJob, ComesWherever}
+use Rattle.flow_core.specs.States.{CoreState, setup_in, begun_by, IsKept}
+use Rattle.flow_core.specs.Moves.{HasStepped, ComesWherever}
 use Rattle.flow_core.proofs.Tables.{not-both}
 use Rattle.flow_core.proofs.Ended.{next-goes_on, call-goes_on}
 

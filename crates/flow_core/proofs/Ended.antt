@@ -1,7 +1,7 @@
 -- Which flows have ended, and how many have not.
 use Rattle.std.proofs.Common.{◌≡◌, ◌⊎◌, inl, inr, ℕ, zero, suc, ◌+◌, ◌<◌, ◌≤◌, ◌≢◌, Bool, true, false, ◌||◌, cond, List, [], ◌∷◌, ◌++◌, length, refl, sym, ap, subst, ◌∙◌, arith}
-use Rattle.std.specs.List.{list_any, Contains}
-use Rattle.std.proofs.lemmas.Bool.{false≢true, cases_eq}
+use Rattle.std.specs.List.{list_any}
+use Rattle.std.proofs.lemmas.Bool.{cases_eq}
 use Rattle.std.proofs.lemmas.List.{append-nil, append_cancel_left}
 use Rattle.std.proofs.lemmas.List.Folds.{list_any-append}
 use Rattle.flux_values.specs.declared.values.Value.{Value}
@@ -13,11 +13,11 @@ use Rattle.flux_model.specs.declared.journals.Event.{Event}
 use Rattle.flux_model.specs.declared.journals.Event.TheVariants.{Take, Wait, Enter, Choose, Call, Exit, Drop, End}
 use Rattle.flux_model.specs.Setup.{Setup}
 use Rattle.flux_model.specs.Walk.{Stop, finished, before_call, nowhere, Walked}
-use Rattle.flux_model.specs.Flows.{flow_walk, flow_events, ending, HasEnded}
-use Rattle.flux_model.specs.Events.{events_by, own_events, own_answers, IsNext, CallIsNext, IsWholePath, IsLive}
+use Rattle.flux_model.specs.Flows.{flow_walk, ending, HasEnded}
+use Rattle.flux_model.specs.Events.{events_by, own_events, own_answers, IsNext, CallIsNext, IsWholePath}
 use Rattle.flux_model.specs.Legal.{IsLegal}
 use Rattle.flux_laws.specs.Growth.{is_end, has_ended, sum_below}
-use Rattle.flux_laws.proofs.Members.{In, in-from_contains, contains-from_in, in-right}
+use Rattle.flux_laws.proofs.Members.{In, contains-from_in, in-right}
 use Rattle.flux_laws.proofs.OwnEvents.{in-from_own}
 use Rattle.flux_laws.proofs.Ends.{whole-ended}
 use Rattle.flow_core.proofs.Entries.{events-own, events-other}

@@ -1,6 +1,6 @@
 -- Lines have exactly the flows that stand at a key, by their places; so they stay with one entry more.
 use Rattle.std.proofs.Common.{◌≡◌, ◌<◌, ◌⊎◌, inl, inr, ℕ, suc, ◌+◌, Bool, true, false, not, cond, eqb, List, [], ◌∷◌, ◌++◌, length, take, refl, sym, ap, subst, ◌∙◌, arith}
-use Rattle.std.specs.List.{Contains, take_while, prefix_len}
+use Rattle.std.specs.List.{Contains, prefix_len}
 use Rattle.std.proofs.lemmas.Bool.{false≢true, eqb-true, eq-eqb, ne_eqb, cases_eq}
 use Rattle.std.proofs.lemmas.List.{length-append}
 use Rattle.flux_values.specs.declared.answers.Mode.{Mode}
@@ -15,7 +15,7 @@ use Rattle.flux_table.specs.Blockers.{line_before}
 use Rattle.flux_table.specs.Changes.{line_without}
 use Rattle.flux_laws.proofs.Members.{In, in-from_contains, contains-from_in, in-left, in-right, in-either}
 use Rattle.flux_laws.proofs.Lasting.{last-unique}
-use Rattle.flow_core.specs.steps.Table.{AreBehind, IsFirst, AreInOrder, IsLine}
+use Rattle.flow_core.specs.steps.Table.{IsFirst, AreInOrder, IsLine}
 use Rattle.flow_core.proofs.Entries.{stands-own, stands-here, stands-still, stood-before}
 
 -- ---- lines

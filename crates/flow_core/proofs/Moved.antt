@@ -1,12 +1,9 @@
 -- What holds of a core's fields keeps holding with each move.
-use Rattle.std.proofs.Common.{◌≡◌, ◌≢◌, ◌<◌, ◌⊎◌, inl, inr, ℕ, Bool, true, false, List, [], ◌∷◌, ◌++◌, length, map, Option, Some, None, refl, sym, ap, subst, ◌∙◌, arith}
-use Rattle.std.specs.Prelude.{IsSome}
+use Rattle.std.proofs.Common.{◌≡◌, ℕ, true, false, List, [], ◌∷◌, ◌++◌, Some, None, refl, sym, ap, subst, ◌∙◌}
 use Rattle.std.specs.List.{slice_get, slice_set}
-use Rattle.std.specs.Option.{option_map}
 use Rattle.flux_values.specs.declared.values.Value.{Value}
 use Rattle.flux_values.specs.declared.answers.Mode.{Mode}
 use Rattle.flux_values.specs.declared.answers.Answer.{Answer}
-use Rattle.flux_model.specs.declared.programs.ClassNo.{ClassNo}
 use Rattle.flux_model.specs.declared.programs.NodeNo.{NodeNo}
 use Rattle.flux_model.specs.declared.journals.FlowNo.{FlowNo}
 use Rattle.flux_model.specs.declared.journals.Key.{Key}
@@ -18,14 +15,13 @@ use Rattle.flux_model.specs.Setup.{Setup, item_of}
 use Rattle.flux_model.specs.Keys.{Cells}
 use Rattle.flux_model.specs.CellsAfter.{after_event, after_entries, cells_after}
 use Rattle.flux_model.specs.Events.{events_by, own_events, own_answers, IsNext, CallIsNext}
-use Rattle.flux_model.specs.Waits.{Blocks, StandsAt, IsNoWaitLast}
+use Rattle.flux_model.specs.Waits.{Blocks}
 use Rattle.flux_model.specs.Legal.{IsLegal}
-use Rattle.flux_table.specs.Tables.{Locks, holders_of, lines_of}
+use Rattle.flux_table.specs.Tables.{Locks}
 use Rattle.flux_table.specs.Changes.{Takes, Waits, Releases}
 use Rattle.flux_laws.specs.Going.{IsBlocked}
 use Rattle.flux_laws.specs.Moves.{MayStep, MayStand, MayCall}
 use Rattle.flux_laws.proofs.Standing.{next-unique}
-use Rattle.flux_laws.proofs.NextEvents.{next-item, call-item}
 use Rattle.flux_laws.proofs.Added.{event_is_legal, wait_is_legal, call_is_legal}
 use Rattle.flux_laws.proofs.NextEvents.{own_events-more, own_answers-more}
 use Rattle.std.proofs.lemmas.List.{append-nil}
@@ -33,12 +29,11 @@ use Rattle.flux_plan.specs.declared.plans.Plan.{Plan}
 use Rattle.flux_plan.specs.declared.locals.Next.{Next}
 use Rattle.flux_plan.specs.declared.locals.Next.TheVariants as nexts
 use Rattle.flux_plan.specs.Machine.{values_at}
-use Rattle.flux_plan.specs.Moves.{next_in, called_in, IsReached, Advances, IsAnswered}
-use Rattle.flux_plan.proofs.Following.{next-called}
+use Rattle.flux_plan.specs.Moves.{next_in, called_in, Advances, IsAnswered}
 use Rattle.flow_core.specs.declared.calls.Inputs.{Inputs}
 use Rattle.flow_core.specs.declared.places.Place.{Place}
 use Rattle.flow_core.specs.States.{IsBegun}
-use Rattle.flow_core.specs.steps.Places.{matches_in, plan_of_item, HasPlan, MayAdvance, MayAnswer, key_in, is_wait, ends_waiting, IsPlaceOf, ArePlaces, IsComing, event_for, IsQuiet, IsEventComing}
+use Rattle.flow_core.specs.steps.Places.{matches_in, HasPlan, is_wait, ends_waiting, IsPlaceOf, IsComing, IsQuiet, IsEventComing}
 use Rattle.flow_core.specs.steps.Table.{IsTable}
 use Rattle.flow_core.specs.steps.Running.{IsGiven, IsAfter}
 use Rattle.flow_core.proofs.Entries.{events-own, waiting-last, not_waiting-last, not_waiting-nowhere}

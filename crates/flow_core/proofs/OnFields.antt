@@ -1,53 +1,45 @@
 -- What moves leave in a core's fields.
-use Rattle.std.proofs.Common.{◌≡◌, ◌≢◌, ◌<◌, ◌≤◌, ◌-◌, ◌+◌, ◌⊎◌, inl, inr, ℕ, Bool, true, false, cond, get_or, List, [], ◌∷◌, ◌++◌, length, map, Option, Some, None, refl, sym, ap, subst, ◌∙◌, arith}
+use Rattle.std.proofs.Common.{◌≡◌, ◌<◌, ◌≤◌, ◌-◌, inl, inr, ℕ, true, false, get_or, List, [], ◌∷◌, ◌++◌, length, map, Option, Some, None, refl, sym, ap, subst, ◌∙◌, arith}
 use Rattle.std.specs.Prelude.{IsSome}
 use Rattle.std.specs.List.{slice_get, slice_set}
 use Rattle.std.specs.Option.{option_map, option_flatten}
-use Rattle.std.specs.Arc.{arc_value}
 use Rattle.std.specs.Vec.{with_item}
 use Rattle.std.proofs.lemmas.Option.{slice_get_within, slice_get_read, slice_get-map}
 use Rattle.std.proofs.lemmas.List.{length-map}
 use Rattle.flux_values.specs.declared.answers.Mode.{Mode}
 use Rattle.flux_values.specs.Meanings.{LibraryMeaning}
 use Rattle.flux_model.specs.declared.programs.ClassNo.{ClassNo}
-use Rattle.flux_model.specs.declared.programs.NodeNo.{NodeNo}
 use Rattle.flux_model.specs.declared.journals.FlowNo.{FlowNo}
 use Rattle.flux_model.specs.declared.journals.Key.{Key}
-use Rattle.flux_model.specs.declared.journals.Outcome.{Outcome}
 use Rattle.flux_model.specs.declared.journals.Entry.{Entry}
 use Rattle.flux_model.specs.declared.journals.Journal.{Journal}
 use Rattle.flux_model.specs.declared.journals.CallMade.{CallMade}
 use Rattle.flux_model.specs.declared.journals.Event.{Event}
-use Rattle.flux_model.specs.declared.journals.Event.TheVariants.{Take, Wait, Enter, Choose, Call, Exit, Drop, End}
+use Rattle.flux_model.specs.declared.journals.Event.TheVariants.{Take, Wait, Call, Drop}
 use Rattle.flux_model.specs.Setup.{Setup, item_of}
 use Rattle.flux_model.specs.CellsAfter.{key_for}
-use Rattle.flux_model.specs.Events.{IsNext, CallIsNext}
+use Rattle.flux_model.specs.Events.{IsNext}
 use Rattle.flux_model.specs.Waits.{Blocks, StandsAt}
 use Rattle.flux_model.specs.Legal.{IsLegal}
 use Rattle.flux_laws.specs.Growth.{is_end, has_ended}
-use Rattle.flux_laws.specs.Moves.{MayStep}
-use Rattle.flux_laws.proofs.Members.{get-within}
-use Rattle.flux_plan.specs.declared.plans.Plan.{Plan}
 use Rattle.flux_plan.specs.declared.locals.Next.{Next}
 use Rattle.flux_plan.specs.declared.locals.Next.TheVariants as nexts
 use Rattle.flux_plan.specs.Moves.{next_in, IsReached, Advances}
-use Rattle.flux_table.specs.declared.locks.Held.{Held}
 use Rattle.flux_table.specs.Tables.{Locks, holders_of, lines_of}
 use Rattle.flux_table.specs.Blockers as table
 use Rattle.flux_table.specs.Blockers.{MayTake, MayWait, IsLowestOf}
 use Rattle.flux_table.specs.Changes.{Takes, Waits, Releases}
-use Rattle.flux_cells.specs.Kept.{Kept, cells_of}
+use Rattle.flux_cells.specs.Kept.{cells_of}
 use Rattle.flow_core.specs.declared.calls.Inputs.{Inputs}
 use Rattle.flow_core.specs.declared.places.Place.{Place}
 use Rattle.flow_core.specs.declared.running.Running.{Running}
-use Rattle.flow_core.specs.States.{CoreState, setup_in, begun_by, IsBegun, IsKept}
-use Rattle.flow_core.specs.Moves.{MakesEvent, AddsWait, HasWaited}
-use Rattle.flow_core.specs.Runs.{live_count}
-use Rattle.flow_core.specs.steps.Places.{matches_in, plan_of_item, HasPlan, MayAdvance, key_in, IsPlaceOf, ArePlaces, IsComing, event_for, IsQuiet, IsEventComing}
+use Rattle.flow_core.specs.States.{setup_in, IsBegun, IsKept}
+use Rattle.flow_core.specs.Moves.{MakesEvent, HasWaited}
+use Rattle.flow_core.specs.steps.Places.{matches_in, HasPlan, MayAdvance, key_in, IsPlaceOf, event_for, IsQuiet, IsEventComing}
 use Rattle.flow_core.specs.steps.Table.{IsUndone}
-use Rattle.flow_core.specs.steps.Running.{core_of, plans_of, IsGiven, IsAfter, IsAfterIn, IsRunning}
+use Rattle.flow_core.specs.steps.Running.{core_of, plans_of, IsAfter, IsRunning}
 use Rattle.flow_core.proofs.Entries.{waiting-stands, not_waiting-nowhere, StandsAnywhere}
-use Rattle.flow_core.proofs.Tables.{stands-next, table-back, lowest-blocks, blocks-to, may-take, may-wait, may-release}
+use Rattle.flow_core.proofs.Tables.{stands-next, table-back, blocks-to, may-take, may-wait, may-release}
 use Rattle.flow_core.proofs.Sets.{replaced-same, map-replaced_same}
 use Rattle.flow_core.proofs.Ended.{live_in, live-still, live-less, next-goes_on, not-true, live-some}
 use Rattle.flow_core.proofs.AtPlaces.{place-key_for, place-reached, place-may_advance}

@@ -1,7 +1,6 @@
 -- A core whose flows have done nothing.
-use Rattle.std.proofs.Common.{◌≡◌, ◌<◌, ◌≤◌, ℕ, zero, suc, false, List, [], ◌∷◌, ◌++◌, length, map, take, get_or, ◌+◌, Option, Some, None, refl, sym, ap, subst, ◌∙◌, arith}
+use Rattle.std.proofs.Common.{◌≡◌, ◌<◌, ℕ, zero, suc, List, [], ◌∷◌, ◌++◌, length, map, take, get_or, ◌+◌, Option, Some, None, refl, sym, ap, subst, ◌∙◌, arith}
 use Rattle.std.specs.List.{slice_get}
-use Rattle.std.specs.Arc.{arc_value}
 use Rattle.flux_values.specs.Meanings.{LibraryMeaning}
 use Rattle.flux_library.specs.Libraries.{IsLawful}
 use Rattle.flux_model.specs.declared.programs.Program.{Program}
@@ -9,15 +8,11 @@ use Rattle.flux_model.specs.declared.programs.SourceLine.{SourceLine}
 use Rattle.flux_model.specs.declared.journals.Item.{Item}
 use Rattle.flux_model.specs.declared.journals.Key.{Key}
 use Rattle.flux_model.specs.declared.journals.Entry.{Entry}
-use Rattle.flux_model.specs.declared.journals.FlowNo.{FlowNo}
 use Rattle.flux_model.specs.declared.journals.Event.TheVariants.{Wait}
 use Rattle.flux_values.specs.declared.answers.Mode.{Mode}
 use Rattle.flux_model.specs.Setup.{Setup, item_of}
-use Rattle.flux_model.specs.Keys.{Cells}
 use Rattle.flux_model.specs.Flows.{given_for}
 use Rattle.flux_model.specs.Waits.{StandsAt}
-use Rattle.flux_model.specs.Legal.{IsLegal}
-use Rattle.flux_laws.specs.Hoisted.{locks_of}
 use Rattle.std.specs.Prelude.{IsSome}
 use Rattle.flux_model.specs.Items.{IsItemOf, IsItemFor}
 use Rattle.flux_laws.proofs.Members.{all-get}
@@ -29,17 +24,16 @@ use Rattle.flux_plan.specs.Flows.{IsAt}
 use Rattle.flux_plan.specs.Runs.{IsPlanOf}
 use Rattle.std.proofs.lemmas.Option.{slice_get_within}
 use Rattle.flux_plan.proofs.Following.{reached-fresh}
-use Rattle.flux_cells.specs.Kept.{Kept, cells_of}
-use Rattle.flow_core.specs.declared.calls.Inputs.{Inputs}
+use Rattle.flux_cells.specs.Kept.{cells_of}
 use Rattle.flow_core.specs.declared.places.Place.{Place}
 use Rattle.flow_core.specs.declared.running.Running.{Running}
-use Rattle.flow_core.specs.States.{setup_in, MayRun, IsBegun}
+use Rattle.flow_core.specs.States.{setup_in, MayRun}
 use Rattle.flow_core.specs.steps.Opening.{IsFreshPlace, AreFreshPlaces}
 use Rattle.flow_core.specs.steps.Places.{IsPlaceOf, ArePlaces}
 use Rattle.flow_core.specs.steps.Table.{IsTable}
 use Rattle.flow_core.specs.steps.Running.{core_of, plans_of, IsGiven, IsAfter, IsRunning}
 use Rattle.flow_core.proofs.Ended.{live_in, live-all}
-use Rattle.flow_core.proofs.AtPlaces.{HasLine, has-line, line-plan}
+use Rattle.flow_core.proofs.AtPlaces.{has-line, line-plan}
 
 -- ---- lists of places
 

@@ -3,7 +3,7 @@ use Rattle.std.proofs.Common.{◌≡◌, ◌≢◌, ◌<◌, ◌⊎◌, inl, inr
 use Rattle.std.specs.List.{Contains, list_any}
 use Rattle.std.specs.Option.{is_some}
 use Rattle.std.specs.Prelude.{IsSome}
-use Rattle.std.proofs.lemmas.Bool.{false≢true, eqb-true, eq-eqb, ne_eqb, cases_eq}
+use Rattle.std.proofs.lemmas.Bool.{false≢true, eqb-true, eq-eqb, cases_eq}
 use Rattle.std.proofs.lemmas.List.{append-nil, append_cancel_left}
 use Rattle.flux_values.specs.declared.values.Value.{Value}
 use Rattle.flux_values.specs.declared.answers.Mode.{Mode}
@@ -22,16 +22,13 @@ use Rattle.flux_model.specs.Waits.{StandsAt, StandsBefore, Blocks}
 use Rattle.flux_model.specs.Legal.{IsLegal}
 use Rattle.flux_model.proofs.Keys.{key_cases, same_key_itself}
 use Rattle.flux_table.specs.declared.locks.Held.{Held}
-use Rattle.flux_table.specs.declared.locks.Waiter.{Waiter}
-use Rattle.flux_table.specs.Locks.{Holding}
 use Rattle.flux_table.specs.Tables.{Locks, Holders, Lines, holders_of, lines_of}
 use Rattle.flux_table.specs.Blockers as table
 use Rattle.flux_table.specs.Blockers.{HoldsAgainst, StandsAgainst, line_before, IsLowestOf, MayTake, MayWait}
 use Rattle.flux_table.specs.Changes.{one_more, one_less, with_held, line_without, with_holding, with_line, Takes, Waits, Releases}
 use Rattle.flux_table.proofs.Standing.{lowest_same}
-use Rattle.flux_laws.specs.Going.{IsBlocked}
 use Rattle.flux_laws.specs.Takes.{HoldsEnough, HoldsBelow}
-use Rattle.flux_laws.proofs.Members.{In, in-from_contains}
+use Rattle.flux_laws.proofs.Members.{in-from_contains}
 use Rattle.flux_laws.proofs.OwnEvents.{modes_held-own, modes_held-other}
 use Rattle.flux_laws.proofs.Standing.{next-unique}
 use Rattle.flux_laws.proofs.Living.{blockers_are_live}

@@ -1,5 +1,5 @@
 -- What the calls of a core do: each is one move, or none.
-use Rattle.std.specs.Prelude.{◌≡◌, ℕ, ◌≤◌, ◌⊎◌, List, [], ◌∷◌, ◌++◌, Option, Some, None, IsSome, true, ⊤}
+use Rattle.std.specs.Prelude.{◌≡◌, ℕ, ◌≤◌, ◌⊎◌, [], ◌∷◌, ◌++◌, Option, Some, None, IsSome, true, ⊤}
 use Rattle.std.specs.List.{slice_set}
 use Rattle.flux_values.specs.declared.answers.Answer.{Answer}
 use Rattle.flux_values.specs.declared.answers.Mode.{Mode}
@@ -19,7 +19,7 @@ use Rattle.flow_core.specs.declared.cores.Step.{Step}
 use Rattle.flow_core.specs.declared.cores.Step.TheVariants.{Ended, Calling, Waits, Job, Went}
 use Rattle.flow_core.specs.declared.cores.Finish.{Finish}
 use Rattle.flow_core.specs.declared.cores.Finish.TheVariants as finishes
-use Rattle.flow_core.specs.States.{CoreState, JobState, DoneState, setup_in, begun_by, IsBegun}
+use Rattle.flow_core.specs.States.{CoreState, JobState, setup_in, begun_by, IsBegun}
 
 -- ---- changes
 

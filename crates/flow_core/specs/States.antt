@@ -1,5 +1,5 @@
 -- What a core, its jobs and its finished calls are seen as, and what a core keeps at every moment.
-use Rattle.std.specs.Prelude.{◌≡◌, ℕ, ◌≤◌, Bool, false, List, [], ◌∷◌, map, length, Option, Some, None, refl}
+use Rattle.std.specs.Prelude.{◌≡◌, ℕ, ◌≤◌, Bool, false, List, [], map, length, Option, Some, None, refl}
 use Rattle.std.specs.Option.{option_flatten}
 use Rattle.std.specs.List.{slice_get, AllByRecursion}
 use Rattle.std.specs.Coded.{Coded, code_by, coded×, coded_list, coded_option, coded_bool}

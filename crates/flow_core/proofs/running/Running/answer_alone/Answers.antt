@@ -1,4 +1,4 @@
-use Rattle.std.proofs.Common.{◌≡◌, List, [], ◌∷◌, ◌++◌, map, None, ap, sym, refl, ◌∙◌}
+use Rattle.std.proofs.Common.{List, [], ◌∷◌, ◌++◌, map, None, ap, sym, refl, ◌∙◌}
 use Rattle.std.specs.Arc.{arc_value}
 use Rattle.flux_values.specs.declared.answers.Put.{Put}
 use Rattle.flux_model.specs.declared.programs.Hold.{Hold}

@@ -1,4 +1,4 @@
-use Rattle.std.proofs.Common.{◌≡◌, List, [], ◌∷◌, ◌++◌, None, ap, sym, refl, ◌∙◌}
+use Rattle.std.proofs.Common.{◌≡◌, [], ◌∷◌, ◌++◌, None, ap, sym, refl, ◌∙◌}
 use Rattle.flux_model.specs.declared.journals.CallMade.{CallMade}
 use Rattle.flux_model.specs.declared.journals.Entry.{Entry}
 use Rattle.flux_cells.specs.Kept.{cells_of}

@@ -1,6 +1,3 @@
-use Rattle.std.proofs.Common.{sym, subst}
-use Rattle.flow_core.specs.States.{setup_in, IsBegun}
-use Rattle.flow_core.specs.steps.Running.{core_of}
 use Rattle.flow_core.proofs.OnFields.{read-there}
 use Rattle.flow_core.proofs.Called.{begun-running, has-begun}
 use Rattle.flow_core.proofs.running.Running.begin.Goals as goal

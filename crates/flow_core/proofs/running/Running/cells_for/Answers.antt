@@ -1,4 +1,4 @@
-use Rattle.std.proofs.Common.{◌≡◌, ap, sym, ◌∙◌}
+use Rattle.std.proofs.Common.{ap, sym, ◌∙◌}
 use Rattle.std.specs.Arc.{arc_value}
 use Rattle.flux_model.specs.Locks.{declared}
 use Rattle.flux_cells.specs.Kept.{cells_of}

@@ -1,4 +1,4 @@
-use Rattle.std.proofs.Common.{false, refl}
+use Rattle.std.proofs.Common.{refl}
 use Rattle.flux_model.specs.declared.journals.Event.TheVariants as events
 use Rattle.flow_core.specs.declared.places.Place.{Place}
 use Rattle.flow_core.proofs.OnFields.{at-place, may-advance, may-take-it, none-blocks, take-moved, undone-running, moved-makes, moved-goes_on}

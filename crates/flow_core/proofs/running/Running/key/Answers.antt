@@ -1,4 +1,3 @@
-use Rattle.std.proofs.Common.{sym}
 use Rattle.flow_core.proofs.OnFields.{key-of}
 use Rattle.flow_core.proofs.running.Running.key.Goals as goal
 

@@ -1,7 +1,6 @@
-use Rattle.std.proofs.Common.{map, None, refl}
+use Rattle.std.proofs.Common.{refl}
 use Rattle.std.specs.Arc.{arc_value}
 use Rattle.flow_core.specs.States.{opened}
-use Rattle.flow_core.specs.declared.running.Running.{Running}
 use Rattle.flow_core.proofs.Opened.{may-sources, fresh-begun, opened-given, opened-running}
 use Rattle.flow_core.proofs.running.Running.new.Goals as goal
 

@@ -1,4 +1,3 @@
-use Rattle.flow_core.specs.steps.Running.{plans_of}
 use Rattle.flow_core.proofs.OnFields.{reached-of, read-there}
 use Rattle.flow_core.proofs.running.Running.next.Goals as goal
 

@@ -1,7 +1,7 @@
-use Rattle.std.proofs.Common.{◌≡◌, sym, subst, ap}
+use Rattle.std.proofs.Common.{subst}
 use Rattle.std.specs.Arc.{arc_value}
 use Rattle.flux_plan.specs.declared.plans.Plan.{Plan}
-use Rattle.flux_plan.specs.Moves.{IsReached, Advances}
+use Rattle.flux_plan.specs.Moves.{IsReached}
 use Rattle.flux_plan.proofs.Acting.{on_ok}
 use Rattle.flow_core.specs.steps.Places.{matches_by}
 use Rattle.flow_core.proofs.AtPlaces.{one-plan}
