@@ -13,3 +13,4 @@ pub mod Called
 pub mod Opened
 pub mod Comes
 pub mod LegalRuns
+pub mod Stops

@@ -10,6 +10,10 @@ ghost use Rattle.flow_core.specs.States.{setup_in, begun_by, opened, library_nam
 ghost use Rattle.flow_core.specs.Moves.{HasStepped, HasFinished, ComesWherever, job_of};
 ghost use Rattle.flow_core.specs.Runs.{live_count, IsBlockedAt};
 
+mod waiting;
+
+pub use waiting::Stop;
+
 use crate::calls::{CallDone, Job};
 use crate::running::Running;
 use crate::setups::Setup;

@@ -6,6 +6,7 @@
 #![tactic(auto)]
 
 mod adding;
+mod asking;
 mod calling;
 mod calls;
 mod copies;
@@ -22,7 +23,7 @@ mod setups;
 mod stepping;
 
 pub use calls::{CallDone, Inputs, Job};
-pub use cores::{Core, Finish, Step};
+pub use cores::{Core, Finish, Step, Stop};
 pub use laws::{calls_are_moves, runs_are_legal};
 pub use runtimes::{Runtime, Stopped};
 pub use setups::Setup;

@@ -1,7 +1,8 @@
 -- A key's holders and its line stay apart, and each flow stands there once.
-use Rattle.std.proofs.Common.{◌≡◌, ◌≢◌, ℕ, zero, suc, ◌<◌, Bool, true, false, cond, eqb, List, [], ◌∷◌, ◌++◌, length, get_or, Option, Some, None, refl, sym, ap, subst, ◌∙◌, inl, inr, arith, is_some}
+use Rattle.std.proofs.Common.{◌≡◌, ◌≢◌, ℕ, zero, suc, ◌<◌, true, false, cond, eqb, List, [], ◌∷◌, ◌++◌, length, get_or, Option, Some, None, Result, Ok, Err, refl, sym, ap, subst, ◌∙◌, inl, inr, arith}
 use Rattle.std.specs.List.{Contains}
-use Rattle.std.proofs.lemmas.Bool.{eqb-true, eqb-false, false≢true}
+use Rattle.std.specs.Prelude.{OnOk, OnErr}
+use Rattle.std.proofs.lemmas.Bool.{eqb-true, eqb-false}
 use Rattle.std.proofs.lemmas.List.Elements.{Contains-push_cases}
 use Rattle.flux_values.specs.declared.answers.Mode.{Mode}
 use Rattle.flux_table.specs.declared.locks.Held.{Held}
@@ -11,7 +12,7 @@ use Rattle.flux_table.specs.Blockers.{Blocks, IsLowestOf}
 use Rattle.flux_table.specs.Changes.{line_without, with_held, one_more, one_less}
 use Rattle.flux_table.proofs.Holding.{changed_else, peaceful_more, peaceful_less}
 
-contains_later : (first : Waiter) (line : List Waiter) (waiter : Waiter) → Contains line waiter → Contains (first ∷ line) waiter
+pub contains_later : (first : Waiter) (line : List Waiter) (waiter : Waiter) → Contains line waiter → Contains (first ∷ line) waiter
 contains_later first line waiter is = (suc is.0, omega (arith, is.1), is.2)
 
 contains_first : (first : Waiter) (line less : List Waiter) (waiter : Waiter) → (Contains less waiter → Contains line waiter) → Contains (first ∷ less) waiter → Contains (first ∷ line) waiter
@@ -46,7 +47,7 @@ first_or_later first line waiter flow apart rest is = placed is.0 is.1 is.2 wher
   placed zero within at own = apart (ap (λ w. w.flow.0) at ∙ own)
   placed (suc k) within at own = rest (k, omega (arith, within), at) own
 
-nowhere_after : (line : List Waiter) (flow : ℕ) → StandOnce line → StandsNowhere (line_without line flow) flow
+pub nowhere_after : (line : List Waiter) (flow : ℕ) → StandOnce line → StandsNowhere (line_without line flow) flow
 nowhere_after [] flow once waiter = λ is. absurd (omega (arith, is.1))
 nowhere_after (first ∷ line) flow once waiter =
     elim (eqb first.flow.0 flow) as (λ b. eqb first.flow.0 flow ≡ b → Contains (cond b line (first ∷ line_without line flow)) waiter → waiter.flow.0 ≢ flow) [
@@ -62,7 +63,7 @@ once_after (first ∷ line) flow once =
       | false ↦ (λ waiter is. once.0 waiter (contains_without line flow waiter is), once_after line flow once.1)
     ]
 
-once_more : (line : List Waiter) (last : Waiter) → StandOnce line → StandsNowhere line last.flow.0 → StandOnce (line ++ last ∷ [])
+pub once_more : (line : List Waiter) (last : Waiter) → StandOnce line → StandsNowhere line last.flow.0 → StandOnce (line ++ last ∷ [])
 once_more [] last once nowhere = (λ waiter is. absurd (omega (arith, is.1)), once)
 once_more (first ∷ line) last once nowhere = (
   λ waiter is. elim (Contains-push_cases line last waiter is) [
@@ -76,10 +77,6 @@ once_more (first ∷ line) last once nowhere = (
 
 none_some : (own : Held) → None ≡ Some own → ⊥
 none_some own e = subst (λ (o : Option Held). elim o as (λ _. Type 0) [ None ↦ Unit {0} | Some x ↦ ⊥ ]) e tt
-
--- a holder stands nowhere
-pub holder_nowhere : (held : Holding) (line : List Waiter) (flow : ℕ) (own : Held) → IsOrderly held line → held flow ≡ Some own → StandsNowhere line flow
-holder_nowhere held line flow own orderly holds waiter is same = none_some own (sym (orderly.apart waiter is) ∙ ap held same ∙ holds)
 
 pub orderly_more : (held after : Holding) (line : List Waiter) (flow : ℕ) (mode : Mode) → IsOrderly held line
     → IsLowestOf (λ other. Blocks held line other flow mode) None
@@ -119,11 +116,8 @@ orderly_wait held line last orderly free nowhere = record {
 }
 
 -- the same, whether or not there was memory
-pub orderly_push : (held : Holding) (line after : List Waiter) (last : Waiter) (pushed : Bool) → IsOrderly held line → held last.flow.0 ≡ None → StandsNowhere line last.flow.0
-    → after ≡ cond pushed (line ++ last ∷ []) line → IsOrderly held after
-orderly_push held line after last true orderly free nowhere is = subst (IsOrderly held) (sym is) (orderly_wait held line last orderly free nowhere)
-orderly_push held line after last false orderly free nowhere is = subst (IsOrderly held) (sym is) orderly
-
-pub holder_of : (o : Option Held) → is_some o ≡ true → (own : Held) × (o ≡ Some own)
-holder_of None is = absurd (false≢true is)
-holder_of (Some own) is = (own, refl)
+pub orderly_push : {E : Type 0} (held : Holding) (line after : List Waiter) (last : Waiter) (pushed : Result (Unit {0}) E) → IsOrderly held line
+    → held last.flow.0 ≡ None → StandsNowhere line last.flow.0
+    → OnOk pushed (after ≡ line ++ last ∷ []) → OnErr pushed (after ≡ line) → IsOrderly held after
+orderly_push held line after last (Ok _) orderly free nowhere ok err = subst (IsOrderly held) (sym ok) (orderly_wait held line last orderly free nowhere)
+orderly_push held line after last (Err _) orderly free nowhere ok err = subst (IsOrderly held) (sym err) orderly

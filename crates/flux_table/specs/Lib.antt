@@ -2,4 +2,5 @@ pub mod Locks
 pub mod Tables
 pub mod Blockers
 pub mod Changes
+pub mod Lines
 pub mod steps

@@ -4,6 +4,7 @@
 //! first. A call that takes memory takes it first, and changes nothing where there is none.
 #![tactic(auto)]
 
+mod lines;
 mod locks;
 mod tables;
 #[cfg(test)]

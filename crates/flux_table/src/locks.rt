@@ -1,12 +1,11 @@
 //! One key: the flows that hold it, and the line of those that wait.
 
 ghost use Rattle.std.specs.Prelude.{◌≡◌, ◌++◌, ◌∷◌, [], ◌↔◌, IfOk, OnOk, OnErr, Some, None, IsTrue};
-ghost use Rattle.std.specs.Prelude.{◌==◌};
-ghost use Rattle.std.specs.List.{position};
 ghost use Rattle.flux_table.specs.Locks.{held_by, StandsNowhere};
-ghost use Rattle.flux_table.specs.Blockers.{Blocks, HoldsAgainst, StandsAgainst, IsLowestOf, IsEither, line_before};
+ghost use Rattle.flux_table.specs.Blockers.{Blocks, HoldsAgainst, IsLowestOf};
 ghost use Rattle.flux_table.specs.Changes.{one_more, one_less, with_held, line_without};
 
+use crate::lines::{Line, lower};
 use flux_model::{FlowNo, Mode, conflict};
 use flux_values::Memory;
 use std::alloc::Global;
@@ -32,7 +31,7 @@ pub struct Waiter {
 #[derive(Drop)]
 pub struct Lock {
     holders: BTreeMap<FlowNo, Held>,
-    line: Vec<Waiter>,
+    line: Line,
 }
 
 impl Model for Lock {
@@ -40,9 +39,9 @@ impl Model for Lock {
 
     ghost Value = { LockState };
 
-    ghost view = { λ l. record { holders = l.holders.entries; line = l.line.items } };
+    ghost view = { λ l. record { holders = l.holders.entries; line = l.line } };
 
-    ghost invariant = { λ l. IsOrderly (held_by l.holders.entries) l.line.items };
+    ghost invariant = { λ l. IsOrderly (held_by l.holders.entries) l.line };
 }
 
 impl Lock {
@@ -52,7 +51,7 @@ impl Lock {
     {
         Lock {
             holders: BTreeMap::new(alloc),
-            line: Vec::new(alloc),
+            line: Line::new(alloc),
         }
     }
 
@@ -70,6 +69,13 @@ impl Lock {
         self.holders.is_empty() && self.line.is_empty()
     }
 
+    /// The flows that wait, first come first.
+    pub fn line(&self) -> &[Waiter]
+        ensures { result.now ≡ self.now.line }
+    {
+        self.line.waiters()
+    }
+
     /// The lowest-numbered flow that blocks a flow from the key in a mode.
     pub fn blocker(&self, flow: FlowNo, mode: Mode) -> Option<FlowNo>
         ensures { IsLowestOf (λ other. Blocks (held_by self.now.holders) self.now.line other flow.0 mode) result }
@@ -78,7 +84,7 @@ impl Lock {
             Some(_) => None,
             None => lower(
                 self.holder_against(mode),
-                stander_against(&self.line, flow, mode),
+                self.line.lowest_against(flow, mode),
             ),
         }
     }
@@ -105,10 +111,9 @@ impl Lock {
         ensures line { OnOk result (self.new.line ≡ line_without self.old.line flow.0) }
         ensures err { OnErr result (self.new ≡ self.old) }
     {
-        let old = self.held_by(flow);
-        let held = more(old, mode)?;
+        let held = more(self.held_by(flow), mode)?;
         self.holders.insert(flow, held)?;
-        leave(&mut self.line, flow, old.is_some());
+        self.line.leave(flow);
         Ok(())
     }
 
@@ -120,7 +125,7 @@ impl Lock {
         ensures line { OnOk result (self.new.line ≡ self.old.line ++ record { flow = flow; mode = mode } ∷ []) }
         ensures err { OnErr result (self.new ≡ self.old) }
     {
-        Ok(self.line.push(Waiter { flow, mode })?)
+        self.line.push(Waiter { flow, mode })
     }
 
     /// The flow holds the key once less.
@@ -139,33 +144,6 @@ impl Lock {
                 let _ = self.holders.remove(&flow);
             }
         }
-    }
-}
-
-/// The lowest-numbered flow in conflict with a mode that stands before a flow, or in all of the line.
-fn stander_against(line: &[Waiter], flow: FlowNo, mode: Mode) -> Option<FlowNo>
-    ensures { IsLowestOf (λ other. StandsAgainst (line_before line.now flow.0) other mode) result }
-{
-    let mut lowest = None;
-    for waiter in line {
-        if waiter.flow == flow {
-            return lowest;
-        }
-        if conflict(waiter.mode, mode) {
-            lowest = lower(lowest, Some(waiter.flow));
-        }
-    }
-    lowest
-}
-
-/// The lower-numbered of two flows.
-fn lower(a: Option<FlowNo>, b: Option<FlowNo>) -> Option<FlowNo>
-    ensures { IsLowestOf (IsEither a b) result }
-{
-    match (a, b) {
-        (Some(a), Some(b)) => Some(if b < a { b } else { a }),
-        (Some(a), None) => Some(a),
-        (None, b) => b,
     }
 }
 
@@ -193,24 +171,4 @@ fn fewer(held: Option<Held>) -> Option<Held>
         }),
         _ => None,
     }
-}
-
-/// Takes a flow out of a line. Who holds the key stands in no line.
-fn leave(line: &mut Vec<Waiter>, flow: FlowNo, is_holder: bool)
-    requires { IsTrue is_holder → StandsNowhere line.old.items flow.0 }
-    ensures { line.new.items ≡ line_without line.old.items flow.0 }
-{
-    if is_holder {
-        return;
-    }
-    if let Some(place) = place_of(line, flow) {
-        let _ = line.remove(place);
-    }
-}
-
-/// The first place of a flow in a line.
-fn place_of(line: &[Waiter], flow: FlowNo) -> Option<usize>
-    ensures { result ≡ position (λ waiter. waiter.flow.0 == flow.0) line.now }
-{
-    line.iter().position(|waiter| waiter.flow == flow)
 }

@@ -5,7 +5,7 @@ ghost use Rattle.flux_table.specs.Tables.{holders_of, lines_of};
 ghost use Rattle.flux_table.specs.Blockers.{Blocks, IsLowestOf, MayTake, MayWait};
 ghost use Rattle.flux_table.specs.Changes.{Takes, Waits, Releases, blocker_in, Follows};
 
-use crate::locks::Lock;
+use crate::locks::{Lock, Waiter};
 use flux_model::{FlowNo, Key, Mode};
 use flux_values::Memory;
 use std::alloc::Global;
@@ -105,6 +105,16 @@ impl Table {
             result }
     {
         self.locks.get(&key)?.blocker(flow, mode)
+    }
+
+    /// The flows that wait for a key, first come first.
+    pub fn line(&self, key: Key) -> &[Waiter]
+        ensures { result.now ≡ lines_of self.now key }
+    {
+        match self.locks.get(&key) {
+            Some(lock) => lock.line(),
+            None => &[],
+        }
     }
 
     /// The flow gets the key.

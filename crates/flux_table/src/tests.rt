@@ -292,3 +292,20 @@ fn keys_are_apart(rt: HostRuntime) -> Result<(), Fail> {
     ];
     play_all(&rt, rt.alloc(), &steps)
 }
+
+#[test]
+fn the_lowest_of_hundreds_is_named(rt: HostRuntime) -> Result<(), Fail> {
+    let k = key(0, None);
+    let mut steps = vec![in rt.alloc(); Step::Got(2000, k, WRITER)]?;
+    for before in 0..300 {
+        steps.push(Step::Wait(1000 - before, k, WRITER))?;
+    }
+    steps.push(Step::Wait(500, k, READER))?;
+    // Who comes anew is behind all of them; who stands there is behind those before it.
+    steps.push(Step::Busy(3000, k, READER, 701))?;
+    steps.push(Step::Busy(3000, k, WRITER, 500))?;
+    steps.push(Step::Busy(500, k, READER, 701))?;
+    steps.push(Step::Busy(990, k, WRITER, 991))?;
+    steps.push(Step::Busy(1000, k, WRITER, 2000))?;
+    play_all(&rt, rt.alloc(), &steps)
+}

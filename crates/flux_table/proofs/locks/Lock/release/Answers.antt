@@ -17,8 +17,8 @@ returns-in-None-clause-holders c = removed c
 
 pub invariant_of-self-in-None : goal.invariant_of-self-in-None
 invariant_of-self-in-None c =
-    orderly_less (held_by c.args.self.now.holders) (held_by c.remove.new.self.entries) c.self.inside.line.items c.args.flow.0
-    (subst (λ s. IsOrderly (held_by s.holders) c.self.inside.line.items) c.self.view_is c.self.invariant) (removed c)
+    orderly_less (held_by c.args.self.now.holders) (held_by c.remove.new.self.entries) c.self.inside.line c.args.flow.0
+    (subst (λ s. IsOrderly (held_by s.holders) c.self.inside.line) c.self.view_is c.self.invariant) (removed c)
 
 written : (c : goal.After-self-in-Some-get_mut-1) → held_by (c.get_mut.follows.lender c.in-Some.fewer).entries
     ≡ with_held (held_by c.args.self.now.holders) c.args.flow.0 (one_less (held_by c.args.self.now.holders c.args.flow.0))
@@ -32,5 +32,5 @@ returns-in-Some-get_mut-clause-holders c = written c
 
 pub invariant_of-self : goal.invariant_of-self
 invariant_of-self c =
-    orderly_less (held_by c.args.self.now.holders) (held_by (c.get_mut.follows.lender c.in-Some.fewer).entries) c.self.inside.line.items c.args.flow.0
-    (subst (λ s. IsOrderly (held_by s.holders) c.self.inside.line.items) c.self.view_is c.self.invariant) (written c)
+    orderly_less (held_by c.args.self.now.holders) (held_by (c.get_mut.follows.lender c.in-Some.fewer).entries) c.self.inside.line c.args.flow.0
+    (subst (λ s. IsOrderly (held_by s.holders) c.self.inside.line) c.self.view_is c.self.invariant) (written c)

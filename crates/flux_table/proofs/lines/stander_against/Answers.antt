@@ -1,7 +1,7 @@
 use Rattle.std.proofs.Common.{◌≡◌, length, arith, subst, sym, refl}
 use Rattle.flux_table.proofs.Standing.{IsSearched, searched_past, searched_more, searched_stop, searched_all}
-use Rattle.flux_table.proofs.locks.stander_against.Goals as goal
-use Rattle.flux_table.proofs.locks.stander_against.Goals.{then-conflict, else-conflict}
+use Rattle.flux_table.proofs.lines.stander_against.Goals as goal
+use Rattle.flux_table.proofs.lines.stander_against.Goals.{then-conflict, else-conflict}
 
 pub returns-then-eq : goal.returns-then-eq
 returns-then-eq c =

@@ -1,0 +1,147 @@
+//! Candidates: the flows that are looked at for one that can go on.
+//!
+//! Flows that are found blocked are no longer looked at, until an entry may have freed them. Those that stand in a
+//! line are found there; of those that don't, the first at a key in a mode is enough, since they are blocked alike.
+//! So what is done behind each entry doesn't grow with the number of flows.
+
+ghost use Rattle.std.specs.Prelude.{◌≡◌, ℕ, ◌||◌, IfOk, OnOk, MatchOption};
+ghost use Rattle.flux_model.specs.Events.{IsLive};
+ghost use Rattle.flow_core.specs.States.{setup_in};
+ghost use Rattle.flow_waits.specs.Waking.{has};
+ghost use Rattle.flow_waits.specs.Covers.{Covers, IsChosen, Lags, StayReady, Parks, WakesFirst, Wakes, served_of, WakesLine};
+
+use crate::numbers::Numbers;
+use crate::rooms::Rooms;
+use flow_core::{Core, Stop};
+use flux_library::Library;
+use flux_model::{Event, FlowNo, Key, Mode};
+use flux_table::Waiter;
+use flux_values::Memory;
+use std::alloc::Global;
+use std::marker::Model;
+
+/// The flows of a core that are looked at, and those that needn't be. After want of memory it is of no more use.
+#[derive(Drop)]
+pub struct Candidates {
+    ready: Numbers,
+    readers: Rooms,
+    writers: Rooms,
+}
+
+impl Model for Candidates {
+    ghost use Rattle.flow_waits.specs.Covers.{Pools};
+
+    ghost Value = { Pools };
+
+    ghost view = { λ c. record { ready = c.ready; readers = c.readers; writers = c.writers } };
+}
+
+impl Candidates {
+    /// Looks at each flow.
+    pub fn new<L: Library>(core: &Core<L>) -> Result<Candidates, Memory>
+        ensures { IfOk result (λ pools. (from : ℕ)
+            → Covers (setup_in L.meaning core.now) core.now.entries pools from) }
+    {
+        let mut ready = Numbers::new(core.alloc());
+        for flow in 0..core.flows() {
+            ready.add(flow)?;
+        }
+        Ok(Candidates {
+            ready,
+            readers: Rooms::new(core.alloc()),
+            writers: Rooms::new(core.alloc()),
+        })
+    }
+
+    /// The first flow, from a number on upward and then from 0 on, that has not ended and isn't blocked.
+    pub fn first<L: Library>(&mut self, core: &Core<L>, from: u32) -> Result<Option<FlowNo>, Memory>
+        requires { Covers (setup_in L.meaning core.now) core.now.entries self.old from }
+        ensures first { IfOk result (λ found. MatchOption found
+            ((flow : ℕ) → IsLive (setup_in L.meaning core.now) core.now.entries flow → ⊥)
+            (λ flow. IsChosen (setup_in L.meaning core.now) core.now.entries self.new from flow.0)) }
+        ensures covers { OnOk result (Covers (setup_in L.meaning core.now) core.now.entries self.new from) }
+    {
+        let _journal = core.journal();
+        while let Some(number) = self.ready.first_from(from) {
+            let flow = FlowNo(number);
+            if core.is_ended(flow) {
+                self.ready.remove(number);
+                continue;
+            }
+            match core.stop_at(flow) {
+                Some(stop) => self.park(number, stop)?,
+                None => return Ok(Some(flow)),
+            }
+        }
+        Ok(None)
+    }
+
+    /// Is told of the last entry, of a flow that is looked at.
+    pub fn told<L: Library>(&mut self, core: &Core<L>, from: u32) -> Result<(), Memory>
+        requires { Lags (setup_in L.meaning core.now) core.now.entries self.old from }
+        ensures covers { OnOk result (Covers (setup_in L.meaning core.now) core.now.entries self.new from) }
+        ensures ready { OnOk result (StayReady self.old self.new) }
+    {
+        let Some(entry) = core.journal().entries.last() else {
+            return Ok(());
+        };
+        match &entry.event {
+            Event::Take(key, mode) => self.wake(*key, *mode, from),
+            Event::Drop(key) => {
+                self.wake(*key, Mode::Reader, from)?;
+                self.wake(*key, Mode::Writer, from)?;
+                self.wake_line(core.line(*key))
+            }
+            _ => Ok(()),
+        }
+    }
+
+    /// No longer looks at a flow that is blocked.
+    fn park(&mut self, flow: u32, stop: Stop) -> Result<(), Memory>
+        ensures ok { OnOk result (Parks self.old self.new flow stop) }
+    {
+        if !stop.stands {
+            match stop.mode {
+                Mode::Reader => self.readers.add(stop.key, flow)?,
+                Mode::Writer => self.writers.add(stop.key, flow)?,
+            }
+        }
+        self.ready.remove(flow);
+        Ok(())
+    }
+
+    /// Looks at the first flow of a room.
+    fn wake(&mut self, key: Key, mode: Mode, from: u32) -> Result<(), Memory>
+        ensures { OnOk result (Wakes self.old self.new key mode from) }
+    {
+        match mode {
+            Mode::Reader => wake_first(&mut self.ready, &mut self.readers, key, from),
+            Mode::Writer => wake_first(&mut self.ready, &mut self.writers, key, from),
+        }
+    }
+
+    /// Looks at the first flows of a line, to the first writer.
+    fn wake_line(&mut self, line: &[Waiter]) -> Result<(), Memory>
+        ensures { OnOk result (WakesLine self.old self.new line.now) }
+    {
+        for waiter in line {
+            self.ready.add(waiter.flow.0)?;
+            if waiter.mode == Mode::Writer {
+                return Ok(());
+            }
+        }
+        Ok(())
+    }
+}
+
+/// Looks at the first flow of a room, which leaves it.
+fn wake_first(ready: &mut Numbers, rooms: &mut Rooms, key: Key, from: u32) -> Result<(), Memory>
+    ensures { OnOk result (WakesFirst ready.old ready.new rooms.old rooms.new key from) }
+{
+    let Some(flow) = rooms.first_from(key, from) else {
+        return Ok(());
+    };
+    ready.add(flow)?;
+    rooms.remove(key, flow);
+    Ok(())
+}

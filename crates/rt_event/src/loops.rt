@@ -1,0 +1,108 @@
+//! The event loop.
+
+ghost use Rattle.std.specs.Prelude.{◌≡◌, ◌<◌, length, IfOk, IfErr, OnOk, OnErr};
+ghost use Rattle.flow_core.specs.States.{setup_in};
+ghost use Rattle.flow_core.specs.Runs.{GoesOnLegally, GoesToEnd};
+ghost use Rattle.flow_waits.specs.Driven.{SameSetup};
+ghost use Rattle.rt_event.specs.Round.{IsRound};
+ghost use Rattle.rt_event.specs.steps.Owners.{Stays, Leads, MakesTurn};
+
+use flow_core::{Core, Stopped};
+use flow_waits::{Candidates, Turn, take_turn};
+use flux_library::Library;
+use flux_model::FlowNo;
+use flux_outside::Gate;
+use flux_values::Memory;
+use std::marker::Sync;
+use std::sync::Wait;
+use std::thread::Threads;
+
+/// Drives a core by an event loop. As yet the loop runs all calls itself, with no helpers.
+#[derive(Clone, Copy, Debug, PartialEq, Eq)]
+pub struct EventLoop {
+    pub helpers: u8,
+}
+
+impl EventLoop {
+    /// Drives a core to its end, without a handle for threads.
+    pub fn drive_alone<L: Library, G: Gate>(
+        &mut self,
+        core: Core<L>,
+        gate: &G,
+    ) -> Result<Core<L>, Stopped<L>>
+        requires { self.old.helpers ≡ 0 }
+        ensures ok { IfOk result (GoesToEnd L.meaning core) }
+        ensures err { IfErr result (λ stopped. GoesOnLegally L.meaning core stopped.core) }
+        ensures round { IfOk result (λ driven. IsRound (setup_in L.meaning core) core.entries driven.entries) }
+        ensures helpers { self.new ≡ self.old }
+    {
+        let mut core = core;
+        match round(&mut core, gate) {
+            Ok(()) => Ok(core),
+            Err(Memory) => Err(Stopped { core }),
+        }
+    }
+
+    /// Drives a core to its end. No other thread is started.
+    pub fn drive<Rt: Threads + Wait + Sync, L: Library, G: Gate>(
+        &mut self,
+        _rt: &Rt,
+        core: Core<L>,
+        gate: &G,
+    ) -> Result<Core<L>, Stopped<L>>
+        requires { self.old.helpers ≡ 0 }
+        ensures ok { IfOk result (GoesToEnd L.meaning core) }
+        ensures err { IfErr result (λ stopped. GoesOnLegally L.meaning core stopped.core) }
+        ensures round { IfOk result (λ driven. IsRound (setup_in L.meaning core) core.entries driven.entries) }
+        ensures helpers { self.new ≡ self.old }
+    {
+        self.drive_alone(core, gate)
+    }
+}
+
+/// One owner after another, an entry at a time.
+fn round<L: Library, G: Gate>(core: &mut Core<L>, gate: &G) -> Result<(), Memory>
+    ensures ok { OnOk result (IsRound (setup_in L.meaning core.old) core.old.entries core.new.entries) }
+    ensures legal { GoesOnLegally L.meaning core.old core.new }
+{
+    let _journal = core.journal();
+    let mut candidates = Candidates::new(core)?;
+    let mut from = 0;
+    let mut on_turn = None;
+    while let Some(owner) = next_owner(core, &mut candidates, on_turn, from)? {
+        let ends = own_turn(core, gate, owner)?;
+        from = owner.0 + 1;
+        candidates.told(core, from)?;
+        on_turn = if ends { None } else { Some(owner) };
+    }
+    Ok(())
+}
+
+/// The flow whose turn it is: the one that is on turn, or else the first that can go on.
+fn next_owner<L: Library>(
+    core: &Core<L>,
+    candidates: &mut Candidates,
+    on_turn: Option<FlowNo>,
+    from: u32,
+) -> Result<Option<FlowNo>, Memory>
+    requires { Stays (setup_in L.meaning core.now) core.now.entries candidates.old from on_turn }
+    ensures { IfOk result (Leads (setup_in L.meaning core.now) core.now.entries candidates.new from on_turn) }
+{
+    match on_turn {
+        Some(owner) => Ok(Some(owner)),
+        None => candidates.first(core, from),
+    }
+}
+
+/// Lets a flow make its next move, and says whether its turn is over.
+fn own_turn<L: Library, G: Gate>(core: &mut Core<L>, gate: &G, owner: FlowNo) -> Result<bool, Memory>
+    requires { owner.0 < length core.old.items }
+    ensures ok { IfOk result (MakesTurn (setup_in L.meaning core.old) core.old.entries owner core.new.entries) }
+    ensures err { OnErr result (core.new.entries ≡ core.old.entries) }
+    ensures setup { SameSetup core.old core.new }
+{
+    match take_turn(core, gate, owner)? {
+        Turn::Went => Ok(core.is_ended(owner)),
+        _ => Ok(true),
+    }
+}

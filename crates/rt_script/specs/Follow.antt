@@ -1,0 +1,30 @@
+-- The journal of a script: each listed number in turn, and then the lowest flow that can go on, again and again.
+use Rattle.std.specs.Prelude.{◌≡◌, ℕ, ◌⊎◌, List, [], ◌∷◌}
+use Rattle.flux_model.specs.declared.journals.Entry.{Entry}
+use Rattle.flux_model.specs.declared.journals.Event.{Event}
+use Rattle.flux_model.specs.declared.journals.FlowNo.{FlowNo}
+use Rattle.flux_model.specs.Setup.{Setup}
+use Rattle.flux_model.specs.Events.{IsLive}
+use Rattle.flow_waits.specs.Turns.{IsInLine, MakesMove}
+use Rattle.flow_waits.specs.Draining.{DrainsTo}
+
+-- there is nothing for a flow to do: there is no such flow, it has ended, or it is blocked and stands in a line
+abbrev pub Rests : Setup → List Entry → ℕ → Type 0
+Rests setup before flow = (IsLive setup before flow → ⊥) ⊎ IsInLine setup before flow
+
+-- a turn: nothing, where there is nothing to do; else the flow's next event, or its wait at a take that is blocked
+abbrev pub IsTurn : Setup → List Entry → FlowNo → List Entry → Type 0
+IsTurn setup before flow after = (Rests setup before flow.0 × (after ≡ before))
+    ⊎ ((event : Event) × MakesMove setup before flow event after)
+
+-- turns one after another
+abbrev pub AreTurns : Setup → List Entry → List FlowNo → List Entry → Type 0
+AreTurns setup before [] after = after ≡ before
+AreTurns setup before (flow ∷ flows) after =
+    (between : List Entry) × IsTurn setup before flow between × AreTurns setup between flows after
+
+-- a journal goes on by the turns of the listed numbers, and then it is drained
+pub record IsFollow (setup : Setup) (old : List Entry) (numbers : List FlowNo) (new : List Entry) : Type 0 where
+  pub listed : List Entry
+  pub turns : AreTurns setup old numbers listed
+  pub drains : DrainsTo setup listed new
