@@ -1,5 +1,4 @@
-// A server that counts: it answers each line of a link. It has every form of the language, and can be checked,
-// planned and formatted. It can't be run yet.
+// A server that counts: it answers each line of a link, and has every form of the language.
 Listen () => (int link, text request);
 Command (int link, text request) => (text word, int amount);
 Amount (text word, int amount) => (int amount);

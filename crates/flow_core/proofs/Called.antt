@@ -1,8 +1,11 @@
 -- Calls that are begun and finished.
 use Rattle.std.proofs.Common.{◌≡◌, ◌<◌, ◌⊎◌, inl, inr, ℕ, Bool, true, false, get_or, List, [], ◌∷◌, ◌++◌, length, map, Option, Some, None, refl, sym, ap, subst, ◌∙◌, arith}
-use Rattle.std.specs.List.{slice_get, slice_set, find}
+use Rattle.std.specs.List.{slice_get, slice_set, find, AllByRecursion, Contains}
+use Rattle.flux_laws.proofs.Members.{in-from_contains}
+use Rattle.flux_model.specs.Kinds.{NodeKinds}
+use Rattle.flux_model.specs.Soundness.{IsProtected, AreCellsProtected, IsSound}
 use Rattle.std.specs.Option.{option_map, option_flatten, is_some}
-use Rattle.std.specs.Prelude.{IsSome}
+use Rattle.std.specs.Prelude.{IsSome, IfSome}
 use Rattle.std.specs.Arc.{arc_value}
 use Rattle.std.specs.Vec.{with_item}
 use Rattle.std.proofs.lemmas.Option.{slice_get_within, slice_get-map}
@@ -58,7 +61,7 @@ use Rattle.flow_core.specs.declared.running.Running.{Running}
 use Rattle.flow_core.specs.States.{CoreState, JobState, setup_in, begun_by, node_name, body_name, library_name, IsReadyBy, IsReady, IsAnswerBy, IsAnswerOf, IsBegun}
 use Rattle.flow_core.specs.Moves.{BeginsCall, FinishesCall, HasBegun, job_of}
 use Rattle.flow_core.specs.steps.Cells.{declares_named, class_in, cells_by}
-use Rattle.flow_core.specs.steps.Calling.{IsKnown, IsSigIn, IsSigOf, AreRead, AreKeys}
+use Rattle.flow_core.specs.steps.Calling.{IsKnown, IsSigIn, IsSigOf, IsGuarded, AreRead, AreKeys}
 use Rattle.flow_core.specs.steps.Places.{matches_in, HasPlan, MayAnswer, key_in, IsPlaceOf, IsComing}
 use Rattle.flow_core.specs.steps.Running.{core_of, plans_of, IsAfter, IsRunning}
 use Rattle.flow_core.proofs.Sets.{map-replaced}
@@ -105,11 +108,40 @@ sig-same meaning p node known sig is =
     let e : Some known.sig ≡ Some sig = sym known.is_sig ∙ h in
     cc
 
+-- in a sound program cells are guarded
+guarded-sig : (meaning : LibraryMeaning) (p : Program) (node : ℕ) (sig : Sig) → AllByRecursion (IsProtected p node) sig.cells → declared p node ≡ [] → sig.cells ≡ []
+guarded-sig meaning p node sig all none = by sig.cells refl all
+  where
+    by : (uses : List CellUse) → sig.cells ≡ uses → AllByRecursion (IsProtected p node) uses → sig.cells ≡ []
+    by [] is all = is
+    by (use_ ∷ uses) is (own, all) = absurd (in-from_contains [] own.hold (subst (λ (holds : List Hold). Contains holds own.hold) none own.declares))
+
+pub sound-guarded : (meaning : LibraryMeaning) (p : Program) (kinds : ℕ → NodeKinds) → IsSound meaning p kinds → (node : ℕ) → IsGuarded meaning p node
+sound-guarded meaning p kinds sound node none sig is = by (slice_get p.nodes node) refl is
+  where
+    in_body : (found : Node) → slice_get p.nodes node ≡ Some found → (body : Body) → found.body ≡ body → IsSigIn meaning body sig → sig.cells ≡ []
+    in_body found at (Concrete name) body_is is_sig =
+        let protected : AreCellsProtected meaning p node (Concrete name) = subst (λ (b : Body). AreCellsProtected meaning p node b) body_is (sound.protected node found at) in
+        guarded-sig meaning p node sig (subst (λ (o : Option Sig). IfSome o (λ s. AllByRecursion (IsProtected p node) s.cells)) is_sig protected) none
+    in_body found at (Abstract cases) body_is is_sig = absurd is_sig
+
+    by : (o : Option Node) → slice_get p.nodes node ≡ o → IsSigOf meaning o sig → sig.cells ≡ []
+    by None at is_sig = absurd is_sig
+    by (Some found) at is_sig = in_body found at found.body refl is_sig
+
 pub known-some : (meaning : LibraryMeaning) (p : Program) (node : ℕ) → IsKnown meaning p node → IsSome (slice_get p.nodes node)
 known-some meaning p node known = ap is_some known.is_found
 
 library_name-known : (meaning : LibraryMeaning) (p : Program) (node : NodeNo) (known : IsKnown meaning p node.0) → library_name p node ≡ Some known.name
 library_name-known meaning p node known = ap node_name known.is_found ∙ ap body_name known.is_name
+
+-- what is read where no constraint is declared
+pub none-read : (meaning : LibraryMeaning) (p : Program) (cells : Cells) (session node : ℕ) → IsKnown meaning p node → IsGuarded meaning p node → declared p node ≡ [] → (read : List CellMap) → read ≡ []
+    → AreRead meaning p cells session node read
+none-read meaning p cells session node known guarded none read empty =
+    let found : IsSigOf meaning (slice_get p.nodes node) known.sig =
+    subst (λ (o : Option Node). IsSigOf meaning o known.sig) (sym known.is_found) (subst (λ (b : Body). IsSigIn meaning b known.sig) (sym known.is_name) known.is_sig) in
+    record { sig = known.sig; is_sig = found; read_ = empty ∙ sym (ap (λ (uses : List CellUse). cells_by p cells session (declared p node) uses) (guarded none known.sig found)) }
 
 -- ---- begun calls
 
@@ -188,6 +220,9 @@ module _ {L : Type 0} (meaning : L → LibraryMeaning) (r : Running L) (is : IsR
 
     pub known-next : IsKnown setup.meaning setup.program node.0
     known-next = let fit = fit-of node (values_at place.local) call-is in fit.known
+
+    pub guarded-next : IsGuarded setup.meaning setup.program node.0
+    guarded-next = let given = is.given in sound-guarded setup.meaning setup.program given.kinds given.sound node.0
 
     pub called-there : (let own = own-at place at in called_in own.plan place.local ≡ Some node)
     called-there =

@@ -139,6 +139,12 @@ module _ (entries : List Entry) (key : Key) where
     line-still away nowhere line is =
         subst (IsLine more key) (without-none line flow.0 (nowhere-in nowhere line is.order)) (line-left away line is)
 
+  -- a flow that stands nowhere leaves a line as it is
+  pub line-unchanged : (flow : FlowNo) → ((mode : Mode) (place : ℕ) → StandsAt entries flow.0 key mode place → ⊥) → (line : List Waiter) → IsLine entries key line → line_without line flow.0 ≡ line
+  line-unchanged flow nowhere line is = without-none line flow.0 (λ waiter there same.
+      let (place, stands) = order-stands line is.order waiter there in
+      nowhere waiter.mode place (subst (λ (f : ℕ). StandsAt entries f key waiter.mode place) same stands))
+
   -- ---- with a wait
 
   module _ (flow : FlowNo) (mode : Mode) where
@@ -222,9 +228,9 @@ module _ (entries : List Entry) (key : Key) where
     where
       by : (b : Bool) → eqb first.flow.0 flow ≡ b → In waiter (cond b [] (first ∷ front_of line flow)) → (In waiter (front_of line flow) → In waiter line × (waiter.flow.0 ≡ flow → ⊥))
           → In waiter (first ∷ line) × (waiter.flow.0 ≡ flow → ⊥)
-      by true own is more = absurd is
-      by false own (inl same) more = (inl same, λ e. false≢true (sym own ∙ eq-eqb first.flow.0 flow (ap (λ (w : Waiter). w.flow.0) same ∙ e)))
-      by false own (inr is) more = let (there, apart) = more is in (inr there, apart)
+      by true own is later = absurd is
+      by false own (inl same) later = (inl same, λ e. false≢true (sym own ∙ eq-eqb first.flow.0 flow (ap (λ (w : Waiter). w.flow.0) same ∙ e)))
+      by false own (inr is) later = let (there, apart) = later is in (inr there, apart)
 
   -- who stands before a flow has a lower place
   front-lower : (line : List Waiter) → AreInOrder entries key line → (flow : ℕ) (waiter own : Waiter) → In waiter (front_of line flow) → In own line → own.flow.0 ≡ flow

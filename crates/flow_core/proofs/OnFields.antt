@@ -44,9 +44,10 @@ use Rattle.flow_core.specs.States.{CoreState, setup_in, begun_by, IsBegun, IsKep
 use Rattle.flow_core.specs.Moves.{MakesEvent, AddsWait, HasWaited}
 use Rattle.flow_core.specs.Runs.{live_count}
 use Rattle.flow_core.specs.steps.Places.{matches_in, plan_of_item, HasPlan, MayAdvance, key_in, IsPlaceOf, ArePlaces, IsComing, event_for, IsQuiet, IsEventComing}
+use Rattle.flow_core.specs.steps.Table.{IsUndone}
 use Rattle.flow_core.specs.steps.Running.{core_of, plans_of, IsGiven, IsAfter, IsAfterIn, IsRunning}
 use Rattle.flow_core.proofs.Entries.{waiting-stands, not_waiting-nowhere, StandsAnywhere}
-use Rattle.flow_core.proofs.Tables.{stands-next, lowest-blocks, blocks-to, may-take, may-wait, may-release}
+use Rattle.flow_core.proofs.Tables.{stands-next, table-back, lowest-blocks, blocks-to, may-take, may-wait, may-release}
 use Rattle.flow_core.proofs.Sets.{replaced-same, map-replaced_same}
 use Rattle.flow_core.proofs.Ended.{live_in, live-still, live-less, next-goes_on, not-true, live-some}
 use Rattle.flow_core.proofs.AtPlaces.{place-key_for, place-reached, place-may_advance}
@@ -260,6 +261,23 @@ module _ {L : Type 0} (meaning : L → LibraryMeaning) (r : Running L) (is : IsR
             (subst (λ (ps : List Place). IsAfter setup (plans_of r) entries ps r.table (cells_of r.cells)) (sym (replaced-same items flow.0 place (at-place (Take key mode) coming place read))) is.after));
         live = is.live ∙ ap (λ (es : List Entry). live_in es (length setup.items)) (sym same_entries);
       }
+
+      -- nor where it was undone
+      pub undone-running : place.stands ≡ false → (locks : Locks) (journal : Journal) → IsUndone r.table locks flow.0 key mode → journal.entries ≡ entries
+          → IsRunning meaning (Moved (Take key mode) coming place read place locks journal r.live)
+      undone-running idle locks journal (inl same_locks) same_entries = still-running locks journal same_locks same_entries
+      undone-running idle locks journal (inr back) same_entries =
+          let after = is.after in
+          let own = own-place (Take key mode) coming place read in
+          let nowhere = not_waiting-nowhere entries flow.0 (sym own.stands ∙ idle) in
+          let table = table-back setup entries legal r.table after.table flow key mode back.between locks back.takes back.gives (nowhere key) in
+          record {
+            given = is.given;
+            after = subst (λ (es : List Entry). IsAfter setup (plans_of r) es (slice_set items flow.0 place) locks (cells_of r.cells)) (sym same_entries)
+                (subst (λ (ps : List Place). IsAfter setup (plans_of r) entries ps locks (cells_of r.cells)) (sym (replaced-same items flow.0 place (at-place (Take key mode) coming place read)))
+                (record { legal = after.legal; places_ = after.places_; table = table; cells_ = after.cells_ }));
+            live = is.live ∙ ap (λ (es : List Entry). live_in es (length setup.items)) (sym same_entries);
+          }
 
       module _ (holder : FlowNo) (lowest : IsLowestOf (λ other. Blocks entries other flow.0 key mode) (Some holder)) where
         pub may-stand : place.stands ≡ false → MayWait (holders_of r.table) (lines_of r.table) flow.0 key

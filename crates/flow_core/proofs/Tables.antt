@@ -1,6 +1,8 @@
 -- The table says who holds and who waits as the journal does, and keeps doing so with one entry more.
 use Rattle.std.proofs.Common.{◌≡◌, ◌≢◌, ◌<◌, ◌⊎◌, inl, inr, ℕ, Bool, true, false, cond, eqb, List, [], ◌∷◌, ◌++◌, length, Option, Some, None, refl, sym, ap, subst, ◌∙◌, arith}
 use Rattle.std.specs.List.{Contains, list_any}
+use Rattle.std.specs.Option.{is_some}
+use Rattle.std.specs.Prelude.{IsSome}
 use Rattle.std.proofs.lemmas.Bool.{false≢true, eqb-true, eq-eqb, ne_eqb, cases_eq}
 use Rattle.std.proofs.lemmas.List.{append-nil, append_cancel_left}
 use Rattle.flux_values.specs.declared.values.Value.{Value}
@@ -37,7 +39,18 @@ use Rattle.flux_laws.proofs.Stacked.{takes_go_up, drops_are_held, first_takes_ar
 use Rattle.flow_core.specs.steps.Places.{IsQuiet}
 use Rattle.flow_core.specs.steps.Table.{held_in, IsLine, IsTable}
 use Rattle.flow_core.proofs.Held.{held-none, held-less, FirstIsGreatest, held-against, against-held, held-enough}
-use Rattle.flow_core.proofs.Lines.{line-left, line-still, line-waited, before-stands, stands-before, line-stands, without-none}
+use Rattle.flow_core.proofs.Lines.{line-left, line-still, line-waited, before-stands, stands-before, line-stands, line-unchanged}
+
+-- who took a key holds it
+pub taken-holds : (old new : Locks) (flow : ℕ) (key : Key) (mode : Mode) → Takes old new flow key mode → holders_of new key flow ≡ Some (one_more (holders_of old key flow) mode)
+taken-holds old new flow key mode takes =
+    let now : Option Held = Some (one_more (holders_of old key flow) mode) in
+    ap (λ (h : Holders). h key flow) takes.holders
+    ∙ ap (λ (b : Bool). (cond b (with_held (holders_of old key) flow now) (holders_of old key)) flow) (same_key_itself key)
+    ∙ ap (λ (b : Bool). cond b now (holders_of old key flow)) (eq-eqb flow flow refl)
+
+pub taken-some : (old new : Locks) (flow : ℕ) (key : Key) (mode : Mode) → Takes old new flow key mode → IsSome (holders_of new key flow)
+taken-some old new flow key mode takes = ap is_some (taken-holds old new flow key mode takes)
 
 -- an event doesn't come next where a call does
 pub not-both : (setup : Setup) (entries : List Entry) (flow : ℕ) (event : Event) (node : NodeNo) (args : List Value) → IsNext setup entries flow event → CallIsNext setup entries flow node args → ⊥
@@ -156,6 +169,53 @@ module _ (setup : Setup) (entries : List Entry) (legal : IsLegal setup entries) 
         by : (modes : List Mode) → holders_of locks key flow ≡ held_in modes → modes ≢ [] → (held : Held) × (holders_of locks key flow ≡ Some held)
         by [] same some = absurd (some refl)
         by (m ∷ modes) same some = (one_more (held_in modes) m, same)
+
+    -- ---- a take that was undone
+
+    module _ (flow : FlowNo) (key : Key) (mode : Mode) (between new : Locks) (takes : Takes locks between flow.0 key mode) (gives : Releases between new flow.0 key) where
+      less-back : (h : Option Held) (modes : List Mode) → h ≡ held_in modes → one_less (Some (one_more h mode)) ≡ h
+      less-back h modes same = ap (λ o. one_less (Some (one_more o mode))) same ∙ held-less mode modes ∙ sym same
+
+      back-own : one_less (holders_of between key flow.0) ≡ holders_of locks key flow.0
+      back-own = ap one_less (taken-holds locks between flow.0 key mode takes) ∙ less-back (holders_of locks key flow.0) (modes_held entries flow.0 key) (is.holders key flow.0)
+
+      taken-else : (other : ℕ) → eqb flow.0 other ≡ false → holders_of between key other ≡ holders_of locks key other
+      taken-else other apart =
+          let now : Option Held = Some (one_more (holders_of locks key flow.0) mode) in
+          ap (λ (h : Holders). h key other) takes.holders
+          ∙ ap (λ (b : Bool). (cond b (with_held (holders_of locks key) flow.0 now) (holders_of locks key)) other) (same_key_itself key)
+          ∙ ap (λ (b : Bool). cond b now (holders_of locks key other)) apart
+
+      taken-elsewhere : (k : Key) (other : ℕ) → same_key key k ≡ false → holders_of between k other ≡ holders_of locks k other
+      taken-elsewhere k other apart =
+          let now : Option Held = Some (one_more (holders_of locks key flow.0) mode) in
+          ap (λ (h : Holders). h k other) takes.holders
+          ∙ ap (λ (b : Bool). (cond b (with_held (holders_of locks key) flow.0 now) (holders_of locks k)) other) apart
+
+      back-at : (other : ℕ) (b : Bool) → eqb flow.0 other ≡ b → cond b (one_less (holders_of between key flow.0)) (holders_of between key other) ≡ holders_of locks key other
+      back-at other true same = back-own ∙ ap (holders_of locks key) (eqb-true flow.0 other same)
+      back-at other false apart = taken-else other apart
+
+      back-holders : (k : Key) (other : ℕ) → holders_of new k other ≡ holders_of locks k other
+      back-holders k other =
+          let now : Option Held = one_less (holders_of between key flow.0) in
+          ap (λ (h : Holders). h k other) gives.holders ∙ key_cases key k
+          (λ same test. ap (λ (b : Bool). (cond b (with_held (holders_of between key) flow.0 now) (holders_of between k)) other) test
+          ∙ back-at other (eqb flow.0 other) refl ∙ ap (λ (x : Key). holders_of locks x other) same)
+          (λ test apart. ap (λ (b : Bool). (cond b (with_held (holders_of between key) flow.0 now) (holders_of between k)) other) test ∙ taken-elsewhere k other test)
+
+      back-lines : ((m : Mode) (place : ℕ) → StandsAt entries flow.0 key m place → ⊥) → (k : Key) → lines_of new k ≡ lines_of locks k
+      back-lines nowhere k =
+          ap (λ (l : Lines). l k) (gives.lines ∙ takes.lines) ∙ key_cases key k
+          (λ same test. ap (λ (b : Bool). cond b (line_without (lines_of locks key) flow.0) (lines_of locks k)) test
+          ∙ line-unchanged entries key flow nowhere (lines_of locks key) (is.lines key) ∙ ap (lines_of locks) same)
+          (λ test apart. ap (λ (b : Bool). cond b (line_without (lines_of locks key) flow.0) (lines_of locks k)) test)
+
+      pub table-back : ((m : Mode) (place : ℕ) → StandsAt entries flow.0 key m place → ⊥) → IsTable entries new
+      table-back nowhere = record {
+        holders = λ k other. back-holders k other ∙ is.holders k other;
+        lines = λ k. subst (IsLine entries k) (sym (back-lines nowhere k)) (is.lines k);
+      }
 
     -- ---- one entry more
 

@@ -1,7 +1,8 @@
 //! How calls are begun and finished.
 
-ghost use Rattle.std.specs.Prelude.{◌≡◌, ◌<◌, ◌↔◌, Some, None, IsSome, length, slice_get, IsTrue, IfOk, OnOk, OnErr, map as mapped, option_map};
+ghost use Rattle.std.specs.Prelude.{◌≡◌, ◌<◌, [], ◌↔◌, Some, None, IsSome, length, slice_get, IsTrue, IfOk, OnOk, OnErr, map as mapped, option_map};
 ghost use Rattle.std.specs.Arc.{arc_value};
+ghost use Rattle.flux_model.specs.declared.journals.Event.TheVariants as events;
 ghost use Rattle.flux_model.specs.Locks.{declared};
 ghost use Rattle.flux_plan.specs.declared.locals.Next.TheVariants as nexts;
 ghost use Rattle.flux_plan.specs.Machine.{values_at};
@@ -9,19 +10,19 @@ ghost use Rattle.flux_cells.specs.Kept.{cells_of};
 ghost use Rattle.flow_core.specs.States.{setup_in, begun_by, IsBegun, IsReady, IsAnswerOf};
 ghost use Rattle.flow_core.specs.Moves.{BeginsCall, FinishesCall, HasBegun, job_of};
 ghost use Rattle.flow_core.specs.steps.Places.{IsComing};
-ghost use Rattle.flow_core.specs.steps.Calling.{IsKnown, IsSigOf, AreRead, AreKeys};
+ghost use Rattle.flow_core.specs.steps.Calling.{IsKnown, IsGuarded, IsSigOf, AreRead, AreKeys};
 ghost use Rattle.flow_core.specs.steps.Running.{core_of, plans_of, IsRunning};
 
-use crate::adding::put;
+use crate::adding::{answer_on, put};
 use crate::calls::{Begun, Inputs, Job};
-use crate::copies::copy_answer;
+use crate::copies::call_entry;
 use crate::keys::{cells_in, keys_in};
 use crate::places::Place;
 use crate::running::Running;
 use crate::sameness::same_inputs;
 use flux_library::Library;
 use flux_library::answers::copies;
-use flux_model::{Body, CallMade, Entry, Event, FlowNo, Hold, Key, NodeNo, Program};
+use flux_model::{Body, Entry, FlowNo, Hold, Key, NodeNo, Program};
 use flux_plan::Next;
 use flux_values::{Answer, Cell, List, Memory, Sig};
 use std::alloc::Global;
@@ -57,14 +58,19 @@ fn sig_of<L: Library>(alloc: Global, library: &L, p: &Program, node: NodeNo) -> 
 impl<L: Library> Running<L> {
     /// The cells that a node uses in a session.
     fn cells_for(&self, session: u64, node: NodeNo) -> Result<List<Cell>, Memory>
-        requires { IsKnown (L.meaning (arc_value self.now.setup.library))
+        requires known { IsKnown (L.meaning (arc_value self.now.setup.library))
+            (arc_value self.now.setup.program) node.0 }
+        requires protected { IsGuarded (L.meaning (arc_value self.now.setup.library))
             (arc_value self.now.setup.program) node.0 }
         ensures { IfOk result (AreRead (L.meaning (arc_value self.now.setup.library))
             (arc_value self.now.setup.program) (cells_of self.now.cells) session node.0) }
     {
         let p = &self.setup.program;
-        let sig = sig_of(self.alloc, &*self.setup.library, p, node)?;
         let declared = declared_of(p, node);
+        if declared.is_empty() {
+            return Ok(List::new(self.alloc));
+        }
+        let sig = sig_of(self.alloc, &*self.setup.library, p, node)?;
         let read = cells_in(
             self.alloc,
             p,
@@ -96,7 +102,8 @@ impl<L: Library> Running<L> {
     /// The job of a begun call.
     fn job(&self, flow: FlowNo, begun: &Begun) -> Result<Job<L>, Memory>
         requires running { IsRunning L.meaning self.now }
-        requires begun { IsBegun (setup_in L.meaning (core_of self.now)) self.now.journal.entries flow.0 begun.now }
+        requires begun { IsBegun (setup_in L.meaning (core_of self.now)) self.now.journal.entries flow.0
+            begun.now }
         ensures { IfOk result (λ job. job
             ≡ job_of L.meaning (core_of self.now) (core_of self.now) flow begun.now) }
     {
@@ -127,7 +134,8 @@ impl<L: Library> Running<L> {
         requires running { IsRunning L.meaning self.now }
         requires flow { flow.0 < length self.now.setup.items }
         ensures { IfOk result (λ job. job ≡ option_map
-            (job_of L.meaning (core_of self.now) (core_of self.now) flow) (begun_by (core_of self.now) flow.0)) }
+            (job_of L.meaning (core_of self.now) (core_of self.now) flow)
+            (begun_by (core_of self.now) flow.0)) }
     {
         let place = &self.places[flow.0 as usize];
         match &place.begun {
@@ -138,7 +146,8 @@ impl<L: Library> Running<L> {
 
     /// Whether a flow has begun a call with these inputs.
     pub fn has_begun(&self, flow: FlowNo, inputs: &Inputs) -> Result<bool, Memory>
-        ensures { IfOk result (λ has. IsTrue has ↔ (begun_by (core_of self.now) flow.0 ≡ Some inputs.now)) }
+        ensures { IfOk result (λ has. IsTrue has
+            ↔ (begun_by (core_of self.now) flow.0 ≡ Some inputs.now)) }
     {
         match self.places.get(flow.0 as usize) {
             Some(
@@ -159,7 +168,8 @@ impl<L: Library> Running<L> {
         requires flow { flow.0 < length self.now.setup.items }
         requires coming { IsComing (setup_in L.meaning (core_of self.now)) (plans_of self.now)
             self.now.places.items flow.0 (nexts.Call node) }
-        ensures { IfOk result (λ keys. AreKeys (setup_in L.meaning (core_of self.now)) flow.0 node.0 keys.items) }
+        ensures { IfOk result (λ keys.
+            AreKeys (setup_in L.meaning (core_of self.now)) flow.0 node.0 keys.items) }
     {
         let place = &self.places[flow.0 as usize];
         let declared = declared_of(&self.setup.program, node);
@@ -175,22 +185,89 @@ impl<L: Library> Running<L> {
         requires right { IsAnswerOf (L.meaning (arc_value self.old.setup.library))
             (arc_value self.old.setup.program) inputs.now answer.now }
         ensures running { IsRunning L.meaning self.new }
-        ensures ok { OnOk result (FinishesCall L.meaning (core_of self.old) (core_of self.new) flow inputs.now answer.now) }
+        ensures ok { OnOk result (FinishesCall L.meaning (core_of self.old) (core_of self.new) flow
+            inputs.now answer.now) }
         ensures err { OnErr result (core_of self.new ≡ core_of self.old) }
     {
         let Next::Call(node) = self.next(flow) else {
             unreachable!()
         };
-        let keys = self.keys(flow, node)?;
-        let made = CallMade {
-            node,
-            args: copies(self.alloc, inputs.args.as_slice())?,
-            answer: copy_answer(self.alloc, answer)?,
-        };
-        let entry = Entry {
+        let entry = call_entry(self.alloc, flow, node, inputs.args.as_slice(), answer)?;
+        if answer.puts.is_empty() {
+            self.answer_alone(flow, node, inputs, answer, entry)
+        } else {
+            self.answer_with_puts(flow, node, inputs, answer, entry)
+        }
+    }
+
+    /// The same for an answer without puts.
+    fn answer_alone(
+        &mut self,
+        flow: FlowNo,
+        node: NodeNo,
+        inputs: &Inputs,
+        answer: &Answer,
+        entry: Entry,
+    ) -> Result<(), Memory>
+        requires running { IsRunning L.meaning self.old }
+        requires flow { flow.0 < length self.old.setup.items }
+        requires coming { IsComing (setup_in L.meaning (core_of self.old)) (plans_of self.old)
+            self.old.places.items flow.0 (nexts.Call node) }
+        requires begun { begun_by (core_of self.old) flow.0 ≡ Some inputs.now }
+        requires right { IsAnswerOf (L.meaning (arc_value self.old.setup.library))
+            (arc_value self.old.setup.program) inputs.now answer.now }
+        requires entry { entry ≡ record {
+          flow = flow;
+          event = events.Call (record { node = node; args = inputs.now.args; answer = answer.now });
+        } }
+        requires alone { answer.now.puts ≡ [] }
+        ensures running { IsRunning L.meaning self.new }
+        ensures ok { OnOk result (FinishesCall L.meaning (core_of self.old) (core_of self.new) flow
+            inputs.now answer.now) }
+        ensures err { OnErr result (core_of self.new ≡ core_of self.old) }
+    {
+        let _ = node;
+        let _ = inputs;
+        let place = &mut self.places[flow.0 as usize];
+        answer_on(
+            &self.setup,
+            &mut self.journal,
+            &mut place.local,
             flow,
-            event: Event::Call(made),
-        };
+            entry,
+            answer,
+        )?;
+        place.begun = None;
+        Ok(())
+    }
+
+    /// The same with puts. The flow's place is changed last, since puts can't be undone.
+    fn answer_with_puts(
+        &mut self,
+        flow: FlowNo,
+        node: NodeNo,
+        inputs: &Inputs,
+        answer: &Answer,
+        entry: Entry,
+    ) -> Result<(), Memory>
+        requires running { IsRunning L.meaning self.old }
+        requires flow { flow.0 < length self.old.setup.items }
+        requires coming { IsComing (setup_in L.meaning (core_of self.old)) (plans_of self.old)
+            self.old.places.items flow.0 (nexts.Call node) }
+        requires begun { begun_by (core_of self.old) flow.0 ≡ Some inputs.now }
+        requires right { IsAnswerOf (L.meaning (arc_value self.old.setup.library))
+            (arc_value self.old.setup.program) inputs.now answer.now }
+        requires entry { entry ≡ record {
+          flow = flow;
+          event = events.Call (record { node = node; args = inputs.now.args; answer = answer.now });
+        } }
+        ensures running { IsRunning L.meaning self.new }
+        ensures ok { OnOk result (FinishesCall L.meaning (core_of self.old) (core_of self.new) flow
+            inputs.now answer.now) }
+        ensures err { OnErr result (core_of self.new ≡ core_of self.old) }
+    {
+        let _ = inputs;
+        let keys = self.keys(flow, node)?;
         let mut ahead = self.places[flow.0 as usize].local.copy()?;
         self.setup.answered(flow, &mut ahead, answer)?;
         put(

@@ -125,7 +125,8 @@ impl<L: Library> Model for CallDone<L> {
       library = arc_value d.library;
     } };
 
-    ghost invariant = { λ d. IsAnswerOf (L.meaning (arc_value d.library)) (arc_value d.program) d.begun d.answer };
+    ghost invariant = { λ d.
+        IsAnswerOf (L.meaning (arc_value d.library)) (arc_value d.program) d.begun d.answer };
 }
 
 impl<L: Library> Job<L> {

@@ -1,8 +1,10 @@
 //! Copies of answers.
 
 ghost use Rattle.std.specs.Prelude.{◌≡◌, IfOk};
+ghost use Rattle.flux_model.specs.declared.journals.Event.TheVariants as events;
 
 use flux_library::answers::copies;
+use flux_model::{CallMade, Entry, Event, FlowNo, NodeNo};
 use flux_values::{Answer, Bytes, CallResult, List, Memory, Put, Value};
 use std::alloc::Global;
 
@@ -52,5 +54,28 @@ pub fn copy_answer(alloc: Global, answer: &Answer) -> Result<Answer, Memory>
         result: copy_result(alloc, &answer.result)?,
         puts: copy_puts(alloc, answer.puts.as_slice())?,
         emits: Bytes::copy(alloc, answer.emits.as_bytes())?,
+    })
+}
+
+/// The entry of a call with its answer.
+pub fn call_entry(
+    alloc: Global,
+    flow: FlowNo,
+    node: NodeNo,
+    args: &[Value],
+    answer: &Answer,
+) -> Result<Entry, Memory>
+    ensures { IfOk result (λ entry. entry ≡ record {
+      flow = flow;
+      event = events.Call (record { node = node; args = args.now; answer = answer.now });
+    }) }
+{
+    Ok(Entry {
+        flow,
+        event: Event::Call(CallMade {
+            node,
+            args: copies(alloc, args)?,
+            answer: copy_answer(alloc, answer)?,
+        }),
     })
 }

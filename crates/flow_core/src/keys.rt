@@ -32,7 +32,8 @@ pub fn keys_in(
     session: u64,
     declared: &[Hold],
 ) -> Result<Vec<Key>, Memory>
-    ensures { IfOk result (λ keys. keys.items ≡ mapped (λ hold. key_in p.now session hold.class) declared.now) }
+    ensures { IfOk result (λ keys. keys.items
+        ≡ mapped (λ hold. key_in p.now session hold.class) declared.now) }
 {
     let mut keys = Vec::new(alloc);
     for hold in declared {

@@ -22,7 +22,8 @@ use std::alloc::Global;
 impl<L: Library> Setup<L> {
     /// The number of a session's values on a source line; 0 where the line has no session function.
     fn session(&self, line: &SourceLine, values: &[Value]) -> u64
-        ensures { result ≡ session_number (L.meaning (arc_value self.now.library)) line.now.session values.now }
+        ensures { result
+            ≡ session_number (L.meaning (arc_value self.now.library)) line.now.session values.now }
     {
         match &line.session {
             Some(function) => self.library.id(function.as_bytes(), values),

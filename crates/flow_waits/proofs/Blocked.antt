@@ -4,7 +4,7 @@ use Rattle.std.specs.List.{list_any}
 use Rattle.std.proofs.lemmas.Bool.{cases_eq}
 use Rattle.std.proofs.lemmas.List.{append_cancel_left, append-nil}
 use Rattle.flux_values.specs.declared.answers.Mode.{Mode}
-use Rattle.flux_values.specs.declared.answers.Mode.TheVariants.{Reader, Writer}
+use Rattle.flux_values.specs.declared.answers.Mode.TheVariants.{Writer}
 use Rattle.flux_model.specs.declared.journals.FlowNo.{FlowNo}
 use Rattle.flux_model.specs.declared.journals.Key.{Key}
 use Rattle.flux_model.specs.declared.journals.Entry.{Entry}
@@ -15,17 +15,16 @@ use Rattle.flux_model.specs.Keys.{same_key}
 use Rattle.flux_model.specs.Modes.{conflict}
 use Rattle.flux_model.specs.Events.{events_by, own_events, IsNext}
 use Rattle.flux_model.specs.Exclusion.{without_first, held_after, modes_held, HoldsKey, holds_against}
-use Rattle.flux_model.specs.Waits.{IsLast, StandsAt, StandsBefore, Blocks, IsNoWaitLast}
+use Rattle.flux_model.specs.Waits.{StandsAt, StandsBefore, Blocks}
 use Rattle.flux_model.specs.Legal.{IsLegal}
 use Rattle.flux_model.proofs.Keys.{key_cases, same_key_itself}
-use Rattle.flux_laws.specs.Going.{IsBlocked}
 use Rattle.flux_laws.specs.Moves.{IsMove}
 use Rattle.flux_laws.proofs.OwnEvents.{events_by-append, by_itself, modes_held-own}
 use Rattle.flux_laws.proofs.Standing.{next-unique, standing-next}
 use Rattle.flux_laws.proofs.Lasting.{last-unique}
 use Rattle.flux_laws.proofs.Fronts.{fronts_are_legal}
 use Rattle.flux_laws.proofs.LastMoves.{entries_are_moves}
-use Rattle.flow_waits.specs.Staying.{IsFresh, BlockedStay, WritersBlock, FreshAreAlike}
+use Rattle.flow_waits.specs.Staying.{BlockedStay, WritersBlock, FreshAreAlike}
 use Rattle.flow_waits.proofs.Others.{held-stays, free-stays, next-stays, last-stays, last-back}
 
 -- ---- what the flow of an entry still does to others
@@ -131,13 +130,15 @@ pub blocked_stay : BlockedStay
 blocked_stay setup entries flow event legal other key mode apart next (third, waits) kept =
     let same : Take waits.key waits.mode ≡ Take key mode = next-unique setup entries other (Take waits.key waits.mode) (Take key mode) waits.next next in
     let key_is : waits.key ≡ key = cc same in
-    let mode_is : waits.mode ≡ mode = cc same in
-    (third, record {
-      key = key;
-      mode = mode;
-      next = next-stays entries flow event other apart setup (Take key mode) next;
-      blocked = blocks-stay setup entries flow event legal other apart key mode third kept (rw (key_is, mode_is) at waits.blocked);
-    })
+    let mode_is : waits.mode ≡ mode = cc same in (
+      third,
+      record {
+        key = key;
+        mode = mode;
+        next = next-stays entries flow event other apart setup (Take key mode) next;
+        blocked = blocks-stay setup entries flow event legal other apart key mode third kept (rw (key_is, mode_is) at waits.blocked);
+      },
+    )
 
 -- ---- lines
 
@@ -173,17 +174,19 @@ stander-free setup entries legal flow key mode place stands holds =
     held none = ap (held_after key []) own ∙ held_after-wait key key mode [] (events_by flow stands.before) ∙ none
 
 pub writers_block : WritersBlock
-writers_block setup entries legal flow writer key mode place before stands their lt =
-    (writer, record {
-      key = key;
-      mode = mode;
-      next = standing-next setup entries flow key mode place legal.waits stands;
-      blocked = record {
-        free = stander-free setup entries legal flow key mode place stands;
-        apart = apart;
-        cause = inr (record { their = Writer; place = before; stands = their; against = writer-against mode; first = behind });
-      };
-    })
+writers_block setup entries legal flow writer key mode place before stands their lt = (
+  writer,
+  record {
+    key = key;
+    mode = mode;
+    next = standing-next setup entries flow key mode place legal.waits stands;
+    blocked = record {
+      free = stander-free setup entries legal flow key mode place stands;
+      apart = apart;
+      cause = inr (record { their = Writer; place = before; stands = their; against = writer-against mode; first = behind });
+    };
+  },
+)
   where
     apart : writer ≢ flow
     apart same =

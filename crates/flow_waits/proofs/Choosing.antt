@@ -5,7 +5,6 @@ use Rattle.flux_values.specs.declared.answers.Mode.{Mode}
 use Rattle.flux_values.specs.declared.answers.Mode.TheVariants.{Reader, Writer}
 use Rattle.flux_model.specs.declared.journals.Key.{Key}
 use Rattle.flux_model.specs.declared.journals.Entry.{Entry}
-use Rattle.flux_model.specs.declared.journals.Event.{Event}
 use Rattle.flux_model.specs.declared.journals.Event.TheVariants.{Take}
 use Rattle.flux_model.specs.Setup.{Setup}
 use Rattle.flux_model.specs.Events.{IsLive}
@@ -16,9 +15,9 @@ use Rattle.flux_laws.proofs.Living.{not_all_blocked}
 use Rattle.flux_laws.proofs.Standing.{next-unique}
 use Rattle.flow_core.specs.declared.cores.waiting.Stop.{Stop}
 use Rattle.flow_core.specs.Lines.{IsStop}
-use Rattle.flow_waits.specs.Turns.{IsBefore, IsFirstFrom, IsInLine}
+use Rattle.flow_waits.specs.Turns.{IsBefore, IsInLine}
 use Rattle.flow_waits.specs.Staying.{IsFresh}
-use Rattle.flow_waits.specs.Waking.{has, IsMore, IsLess, IsEarliest, room_at, IsMoreAt}
+use Rattle.flow_waits.specs.Waking.{has, IsLess, IsEarliest, room_at}
 use Rattle.flow_waits.specs.Covers.{Pools, IsReady, IsParked, IsInRoom, IsBehind, IsCovered, Covers, IsChosen, HasRoom, Parks, rooms_for}
 use Rattle.flow_waits.proofs.Orders.{before-itself, before-then, before-turned}
 use Rattle.flow_waits.proofs.Membership.{none_has, less_there, less_kept, less_own, more_at_cases, more_at_there, more_at_own}

@@ -1,30 +1,27 @@
 -- A core that is driven a turn at a time.
-use Rattle.std.proofs.Common.{◌≡◌, ◌≢◌, ◌<◌, ◌≤◌, ◌+◌, ◌⊎◌, inl, inr, ℕ, suc, List, [], ◌∷◌, ◌++◌, length, refl, sym, ap, subst, ◌∙◌, append_assoc, arith}
+use Rattle.std.proofs.Common.{◌≡◌, ◌<◌, ◌≤◌, ◌+◌, ◌⊎◌, inl, inr, ℕ, List, [], ◌∷◌, ◌++◌, length, refl, sym, ap, subst, ◌∙◌, append_assoc, arith}
 use Rattle.std.specs.List.{AllByRecursion}
 use Rattle.std.proofs.lemmas.Bool.{cases_lt}
 use Rattle.std.proofs.lemmas.List.{length-append, append-nil}
-use Rattle.flux_values.specs.declared.answers.Mode.{Mode}
 use Rattle.flux_values.specs.Meanings.{LibraryMeaning}
 use Rattle.flux_model.specs.declared.journals.FlowNo.{FlowNo}
-use Rattle.flux_model.specs.declared.journals.Key.{Key}
 use Rattle.flux_model.specs.declared.journals.Entry.{Entry}
 use Rattle.flux_model.specs.declared.journals.Event.{Event}
 use Rattle.flux_model.specs.declared.journals.Event.TheVariants.{Take, Wait, Enter, Choose, Call, Exit, Drop, End}
 use Rattle.flux_model.specs.Setup.{Setup}
-use Rattle.flux_model.specs.Events.{IsLive, Stands}
+use Rattle.flux_model.specs.Events.{IsLive}
 use Rattle.flux_model.specs.Legal.{IsLegal}
 use Rattle.flux_laws.specs.Going.{CanGoOn, IsLowest}
 use Rattle.flux_laws.specs.Growth.{room_of, sum_below, IsNoWait}
-use Rattle.flux_laws.specs.Moves.{IsMove}
 use Rattle.flux_laws.proofs.Members.{all-more, end_or_front, IsEnd, InFront}
 use Rattle.flux_laws.proofs.Added.{moves_are_legal}
 use Rattle.flux_laws.proofs.Ends.{none_live_is_whole}
 use Rattle.flux_laws.proofs.Growing.{growth_is_bounded}
 use Rattle.flow_core.specs.States.{CoreState, setup_in}
-use Rattle.flow_core.specs.Runs.{GoesOn, GoesOnLegally}
+use Rattle.flow_core.specs.Runs.{GoesOnLegally}
 use Rattle.flow_waits.specs.declared.turns.Turn.{Turn}
 use Rattle.flow_waits.specs.declared.turns.Turn.TheVariants.{Ended, InLine, Waited, Called, Went}
-use Rattle.flow_waits.specs.Turns.{IsBefore, IsFirstFrom, IsPassing, TakesTurn, MakesMove, EachStands}
+use Rattle.flow_waits.specs.Turns.{IsFirstFrom, IsPassing, TakesTurn, MakesMove, EachStands}
 use Rattle.flow_waits.specs.Driven.{SameSetup}
 use Rattle.flow_waits.specs.Draining.{IsLowestMove, DrainsTo}
 use Rattle.flow_waits.specs.Covers.{Pools, IsReady, Covers, IsChosen, Lags}
@@ -34,23 +31,24 @@ use Rattle.flow_waits.proofs.Orders.{before-from_zero}
 
 pub same-setup : {L : Type 0} (meaning : L → LibraryMeaning) (old new : CoreState L) → SameSetup old new → setup_in meaning new ≡ setup_in meaning old
 same-setup {L} meaning old new same =
-    λ i. setup_in meaning (record { program = same.program_ i; items = same.items_ i; opening = same.opening_ i; library = same.library_ i; entries = new.entries; begun = new.begun; halted = new.halted })
+    λ i. setup_in meaning (record { program = same.program_ i; plans = same.plans_ i; items = same.items_ i; opening = same.opening_ i; library = same.library_ i; entries = new.entries; begun = new.begun; halted = new.halted })
 
 pub same-then : {L : Type 0} (a b c : CoreState L) → SameSetup a b → SameSetup b c → SameSetup a c
 same-then a b c one other = record {
   program_ = other.program_ ∙ one.program_;
+  plans_ = other.plans_ ∙ one.plans_;
   items_ = other.items_ ∙ one.items_;
   opening_ = other.opening_ ∙ one.opening_;
   library_ = other.library_ ∙ one.library_;
 }
 
 pub same-itself : {L : Type 0} (a : CoreState L) → SameSetup a a
-same-itself a = record { program_ = refl; items_ = refl; opening_ = refl; library_ = refl }
+same-itself a = record { program_ = refl; plans_ = refl; items_ = refl; opening_ = refl; library_ = refl }
 
 pub goes-on : {L : Type 0} (meaning : L → LibraryMeaning) (old new : CoreState L) → SameSetup old new → (more : List Entry) → new.entries ≡ old.entries ++ more
     → IsLegal (setup_in meaning old) new.entries → GoesOnLegally meaning old new
 goes-on meaning old new same more added legal = record {
-  on = record { program_ = same.program_; items_ = same.items_; opening_ = same.opening_; library_ = same.library_; more = more; added = added };
+  on = record { program_ = same.program_; plans_ = same.plans_; items_ = same.items_; opening_ = same.opening_; library_ = same.library_; more = more; added = added };
   legal = subst (λ setup. IsLegal setup new.entries) (sym (same-setup meaning old new same)) legal;
 }
 

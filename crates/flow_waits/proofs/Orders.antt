@@ -1,5 +1,5 @@
 -- The order in which flows are looked at.
-use Rattle.std.proofs.Common.{◌≡◌, ◌≢◌, ◌<◌, ◌≤◌, ◌+◌, ◌⊎◌, inl, inr, ℕ, arith}
+use Rattle.std.proofs.Common.{◌<◌, ◌+◌, inl, inr, ℕ, arith}
 use Rattle.flow_waits.specs.Turns.{IsBefore}
 
 -- no flow comes before itself

@@ -1,20 +1,19 @@
 -- What an entry of one flow leaves of all others.
-use Rattle.std.proofs.Common.{◌≡◌, ◌⊎◌, inl, inr, ℕ, List, [], ◌∷◌, ◌++◌, refl, sym, ap, ◌∙◌, append_assoc}
-use Rattle.std.specs.List.{flat_map, Contains}
+use Rattle.std.proofs.Common.{◌≡◌, ◌⊎◌, inl, inr, ℕ, List, [], ◌∷◌, ◌++◌, sym, ap, ◌∙◌, append_assoc}
+use Rattle.std.specs.List.{flat_map}
 use Rattle.std.proofs.lemmas.List.{append-nil}
 use Rattle.flux_values.specs.declared.answers.Mode.{Mode}
 use Rattle.flux_model.specs.declared.journals.FlowNo.{FlowNo}
 use Rattle.flux_model.specs.declared.journals.Key.{Key}
 use Rattle.flux_model.specs.declared.journals.Entry.{Entry}
 use Rattle.flux_model.specs.declared.journals.Event.{Event}
-use Rattle.flux_model.specs.declared.journals.Event.TheVariants.{Take, Wait, End}
-use Rattle.flux_model.specs.declared.journals.Outcome.{Outcome}
+use Rattle.flux_model.specs.declared.journals.Event.TheVariants.{Take, Wait}
 use Rattle.flux_model.specs.Setup.{Setup}
 use Rattle.flux_model.specs.Events.{unless_wait, answer_in, events_by, own_events, own_answers, IsNext, IsLive}
-use Rattle.flux_model.specs.Exclusion.{modes_held, HoldsKey, holds_against}
-use Rattle.flux_model.specs.Waits.{IsLast, StandsAt}
+use Rattle.flux_model.specs.Exclusion.{modes_held, HoldsKey}
+use Rattle.flux_model.specs.Waits.{IsLast}
 use Rattle.flux_laws.proofs.Members.{end_or_front, IsEnd, InFront}
-use Rattle.flux_laws.proofs.OwnEvents.{events_by-append, own_events-append, own_answers-append, by_another, modes_held-other}
+use Rattle.flux_laws.proofs.OwnEvents.{events_by-append, by_another, modes_held-other}
 use Rattle.flow_waits.specs.Staying.{IsFresh}
 
 module _ (entries : List Entry) (flow : FlowNo) (event : Event) (other : ℕ) (apart : flow.0 ≡ other → ⊥) where

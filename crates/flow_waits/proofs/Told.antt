@@ -1,5 +1,5 @@
 -- Candidates that are told of one entry more cover all flows again.
-use Rattle.std.proofs.Common.{◌≡◌, ◌≢◌, ◌<◌, ◌-◌, ◌⊎◌, inl, inr, ℕ, suc, Bool, true, false, List, [], ◌∷◌, ◌++◌, length, Option, Some, None, refl, sym, ap, subst, ◌∙◌, arith}
+use Rattle.std.proofs.Common.{◌≡◌, ◌-◌, ◌⊎◌, inl, inr, ℕ, suc, List, [], ◌∷◌, ◌++◌, length, Some, refl, sym, ap, subst, ◌∙◌, arith}
 use Rattle.std.specs.List.{slice_get}
 use Rattle.flux_values.specs.declared.answers.Mode.{Mode}
 use Rattle.flux_values.specs.declared.answers.Mode.TheVariants.{Reader, Writer}
@@ -17,7 +17,7 @@ use Rattle.flow_core.specs.Lines.{IsLineAt}
 use Rattle.flow_waits.specs.Staying.{IsFresh}
 use Rattle.flow_waits.specs.Covers.{Pools, IsReady, IsParked, IsCovered, Covers, Lags, StayReady, Wakes, WakesLine}
 use Rattle.flow_waits.proofs.Waking.{IsOwed, carried, parked-fresh}
-use Rattle.flow_waits.proofs.Woken.{AreFresh, AreApart, AllExist, woken-ready, woken-kept, woken-covered, woken-fresh, woken-apart, woken-exist, woken-owed, line-ready, line-covered, line-fresh, line-apart, line-exist, line-owed}
+use Rattle.flow_waits.proofs.Woken.{AreFresh, woken-ready, woken-kept, woken-covered, woken-fresh, woken-apart, woken-exist, woken-owed, line-ready, line-covered, line-fresh, line-apart, line-exist, line-owed}
 
 -- the last of a list
 pub last-is : {X : Type 0} (xs : List X) (x : X) → slice_get (xs ++ x ∷ []) (length (xs ++ x ∷ []) - 1) ≡ Some x

@@ -1,8 +1,7 @@
 -- What a step of a core makes of a flow's turn.
-use Rattle.std.proofs.Common.{◌≡◌, ◌+◌, ◌⊎◌, inl, inr, ℕ, true, List, [], ◌∷◌, ◌++◌, length, refl, sym, ap, subst, ◌∙◌, arith}
-use Rattle.std.specs.List.{list_any, Contains}
+use Rattle.std.proofs.Common.{◌≡◌, ◌⊎◌, inl, inr, ℕ, true, List, [], ◌∷◌, length, refl, ap, subst, ◌∙◌, arith}
+use Rattle.std.specs.List.{list_any}
 use Rattle.std.proofs.lemmas.List.{length-append}
-use Rattle.flux_values.specs.declared.answers.Mode.{Mode}
 use Rattle.flux_values.specs.Meanings.{LibraryMeaning}
 use Rattle.flux_model.specs.declared.journals.FlowNo.{FlowNo}
 use Rattle.flux_model.specs.declared.journals.Key.{Key}
@@ -19,9 +18,9 @@ use Rattle.flux_laws.specs.Moves.{MayStep, IsMove}
 use Rattle.flux_laws.proofs.Members.{In, contains-from_in}
 use Rattle.flux_laws.proofs.NextEvents.{next-no_call, next-plain, IsPlain}
 use Rattle.flow_core.specs.declared.cores.Step.{Step}
-use Rattle.flow_core.specs.declared.cores.Step.TheVariants.{Ended, Calling, Waits, Job, Went}
+use Rattle.flow_core.specs.declared.cores.Step.TheVariants.{Ended, Waits, Went}
 use Rattle.flow_core.specs.States.{CoreState, setup_in}
-use Rattle.flow_core.specs.Moves.{HasStepped, HasWaited, AddsWait, MakesEvent}
+use Rattle.flow_core.specs.Moves.{HasStepped, HasWaited, AddsWait}
 use Rattle.flow_waits.specs.Turns.{IsPassing, IsInLine, MakesMove}
 
 pub end-in : (list : List Event) → list_any is_end list ≡ true → (outcome : Outcome) × In (events.End outcome) list
@@ -72,7 +71,7 @@ module _ {L : Type 0} (meaning : L → LibraryMeaning) (old new : CoreState L) (
           → IsInLine (setup_in meaning old) old.entries flow.0 × (new.entries ≡ old.entries)
       by (inl adds) =
           let longer = ap (λ (c : CoreState L). length c.entries) adds.new_
-              ∙ length-append old.entries (record { flow = flow; event = events.Wait key waited.mode } ∷ []) in
+          ∙ length-append old.entries (record { flow = flow; event = events.Wait key waited.mode } ∷ []) in
           absurd (omega (arith, longer, same))
       by (inr (place, stands, stays)) = (
         record {

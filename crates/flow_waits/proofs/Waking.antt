@@ -1,9 +1,7 @@
 -- What one entry more leaves of candidates.
-use Rattle.std.proofs.Common.{◌≡◌, ◌≢◌, ◌<◌, ◌⊎◌, inl, inr, ℕ, Bool, true, false, ◌||◌, List, [], ◌∷◌, ◌++◌, refl, sym, ap, subst, ◌∙◌}
+use Rattle.std.proofs.Common.{◌≡◌, ◌≢◌, ◌⊎◌, inl, inr, ℕ, List, [], ◌∷◌, ◌++◌, sym, ap, subst, ◌∙◌}
 use Rattle.std.proofs.lemmas.Bool.{cases_eq}
-use Rattle.std.specs.List.{Contains}
 use Rattle.flux_values.specs.declared.answers.Mode.{Mode}
-use Rattle.flux_values.specs.declared.answers.Mode.TheVariants.{Reader, Writer}
 use Rattle.flux_model.specs.declared.journals.FlowNo.{FlowNo}
 use Rattle.flux_model.specs.declared.journals.Key.{Key}
 use Rattle.flux_model.specs.declared.journals.Entry.{Entry}
@@ -21,11 +19,9 @@ use Rattle.flux_laws.proofs.Fronts.{fronts_are_legal}
 use Rattle.flux_laws.proofs.LastMoves.{entries_are_moves}
 use Rattle.flow_waits.specs.Turns.{IsBefore, IsInLine}
 use Rattle.flow_waits.specs.Staying.{IsFresh}
-use Rattle.flow_waits.specs.Waking.{has, IsMore, IsEarliest, room_at}
-use Rattle.flow_waits.specs.Covers.{Pools, IsReady, IsParked, IsInRoom, IsBehind, IsCovered, Covers, rooms_for}
-use Rattle.flow_waits.proofs.Others.{live-back, next-stays, last-stays, fresh-stays}
-use Rattle.flow_waits.proofs.Blocked.{blocked_stay, fresh_are_alike, writers_block, nothing-left}
-use Rattle.flow_waits.proofs.Membership.{more_cases, more_there, more_own}
+use Rattle.flow_waits.specs.Covers.{Pools, IsReady, IsParked, IsBehind, IsCovered, Covers}
+use Rattle.flow_waits.proofs.Others.{live-back, last-stays, fresh-stays}
+use Rattle.flow_waits.proofs.Blocked.{blocked_stay, fresh_are_alike, nothing-left}
 
 -- ---- what an entry leaves
 

@@ -1,13 +1,11 @@
 -- Candidates that are woken stay covered, and so are those that were to be looked after.
-use Rattle.std.proofs.Common.{◌≡◌, ◌≢◌, ◌<◌, ◌⊎◌, inl, inr, ℕ, Bool, true, false, cond, ◌||◌, eqb, List, [], ◌∷◌, length, refl, sym, ap, subst, ◌∙◌}
-use Rattle.std.specs.List.{Contains}
+use Rattle.std.proofs.Common.{◌≡◌, ◌<◌, ◌⊎◌, inl, inr, ℕ, Bool, true, false, cond, ◌||◌, eqb, List, [], ◌∷◌, length, refl, sym, ap, subst, ◌∙◌}
 use Rattle.std.proofs.lemmas.Bool.{cases_eq, eqb-true, eq-eqb}
 use Rattle.flux_values.specs.declared.answers.Mode.{Mode}
 use Rattle.flux_values.specs.declared.answers.Mode.TheVariants.{Reader, Writer}
 use Rattle.flux_model.specs.declared.journals.FlowNo.{FlowNo}
 use Rattle.flux_model.specs.declared.journals.Key.{Key}
 use Rattle.flux_model.specs.declared.journals.Entry.{Entry}
-use Rattle.flux_model.specs.declared.journals.Event.{Event}
 use Rattle.flux_model.specs.declared.journals.Event.TheVariants.{Take}
 use Rattle.flux_model.specs.Setup.{Setup}
 use Rattle.flux_model.specs.Waits.{StandsAt}
@@ -18,11 +16,10 @@ use Rattle.flux_laws.proofs.Members.{In, in-from_contains, contains-from_in}
 use Rattle.flux_laws.proofs.Standing.{next-unique, standing-next}
 use Rattle.flux_laws.proofs.NextEvents.{next-item}
 use Rattle.flux_table.specs.declared.locks.Waiter.{Waiter}
-use Rattle.flow_core.specs.Lines.{IsLineAt, StandBehind, StandInOrder}
-use Rattle.flow_waits.specs.Turns.{IsBefore, IsInLine}
+use Rattle.flow_core.specs.Lines.{IsLineAt, StandInOrder}
 use Rattle.flow_waits.specs.Staying.{IsFresh}
-use Rattle.flow_waits.specs.Waking.{has, IsMore, IsEarliest, room_at}
-use Rattle.flow_waits.specs.Covers.{Pools, IsReady, IsParked, IsInRoom, IsBehind, IsCovered, Covers, rooms_for, StayReady, MovesFirst, WakesFirst, Wakes, served_of, WakesLine}
+use Rattle.flow_waits.specs.Waking.{has, room_at}
+use Rattle.flow_waits.specs.Covers.{Pools, IsReady, IsParked, IsBehind, IsCovered, rooms_for, StayReady, MovesFirst, WakesFirst, Wakes, served_of, WakesLine}
 use Rattle.flow_waits.proofs.Blocked.{writers_block}
 use Rattle.flow_waits.proofs.Choosing.{mode_cases}
 use Rattle.flow_waits.proofs.Membership.{none_has, more_cases, more_there, more_own, less_at_there, less_at_own, less_at_kept}

@@ -8,7 +8,6 @@ use Rattle.flux_model.specs.declared.journals.FlowNo.{FlowNo}
 use Rattle.flux_model.specs.declared.journals.Key.{Key}
 use Rattle.flux_model.specs.Setup.{Setup}
 use Rattle.flux_model.specs.Events.{IsLive}
-use Rattle.flux_model.specs.Waits.{StandsAt}
 use Rattle.flux_laws.specs.Going.{IsBlocked}
 use Rattle.flux_laws.specs.Hoisted.{is_writer}
 use Rattle.flux_table.specs.declared.locks.Waiter.{Waiter}

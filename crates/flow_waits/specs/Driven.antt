@@ -11,6 +11,7 @@ use Rattle.flow_waits.specs.Turns.{MakesMove}
 -- its setup stays
 pub record SameSetup {L : Type 0} (old new : CoreState L) : Type 0 where
   pub program_ : new.program ≡ old.program
+  pub plans_ : new.plans ≡ old.plans
   pub items_ : new.items ≡ old.items
   pub opening_ : new.opening ≡ old.opening
   pub library_ : new.library ≡ old.library

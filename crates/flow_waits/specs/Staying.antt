@@ -1,5 +1,5 @@
 -- How long a flow stays blocked.
-use Rattle.std.specs.Prelude.{◌≡◌, ◌≢◌, ℕ, ◌<◌, List, [], ◌∷◌, ◌++◌}
+use Rattle.std.specs.Prelude.{◌≢◌, ℕ, ◌<◌, List, [], ◌∷◌, ◌++◌}
 use Rattle.flux_values.specs.declared.answers.Mode.{Mode}
 use Rattle.flux_values.specs.declared.answers.Mode.TheVariants.{Writer}
 use Rattle.flux_model.specs.declared.journals.Entry.{Entry}

@@ -28,7 +28,11 @@ pub enum Turn {
 
 /// Lets a flow make its next move. A call is run at once, begun before or not, and the gate is called before and
 /// after it.
-pub fn take_turn<L: Library, G: Gate>(core: &mut Core<L>, gate: &G, flow: FlowNo) -> Result<Turn, Memory>
+pub fn take_turn<L: Library, G: Gate>(
+    core: &mut Core<L>,
+    gate: &G,
+    flow: FlowNo,
+) -> Result<Turn, Memory>
     requires { flow.0 < length core.old.items }
     ensures ok { IfOk result (TakesTurn (setup_in L.meaning core.old) core.old.entries flow core.new.entries) }
     ensures err { OnErr result (core.new.entries ≡ core.old.entries) }
@@ -39,7 +43,11 @@ pub fn take_turn<L: Library, G: Gate>(core: &mut Core<L>, gate: &G, flow: FlowNo
         Step::Ended => Ok(Turn::Ended),
         Step::Waits { .. } => {
             let after = core.journal();
-            Ok(if after.entries.len() == before { Turn::InLine } else { Turn::Waited })
+            Ok(if after.entries.len() == before {
+                Turn::InLine
+            } else {
+                Turn::Waited
+            })
         }
         Step::Went => Ok(Turn::Went),
         Step::Job(job) => {

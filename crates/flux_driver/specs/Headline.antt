@@ -33,8 +33,8 @@ setup_of program locks items meaning = record {
   meaning = meaning;
 }
 
--- the order in which a runtime lets flows go on: each in turn up to its call, its wait or its end, or as
--- the script's numbers say
+-- the order in which a runtime lets flows go on: flow after flow, each up to its
+-- first call, its wait or its end, or as the script's numbers say
 abbrev pub IsOrderOf : Runtime → Setup → List Entry → Type 0
 IsOrderOf Event setup entries = IsRound setup [] entries
 IsOrderOf (Script numbers) setup entries = IsFollow setup [] numbers entries

@@ -2,7 +2,7 @@
 use Rattle.std.specs.Prelude.{ℕ, ◌≤◌, ◌<◌, ◌==◌, ⊤, if◌then◌else◌, List, [], ◌∷◌, ◌++◌, length, codes}
 use Rattle.std.specs.Fmt.{decimal}
 use Rattle.flux_faults.specs.declared.faults.FaultKind.{FaultKind}
-use Rattle.flux_faults.specs.declared.faults.FaultKind.TheVariants.{NotBuilt, TooLong, BadByte, UnclosedComment, Unexpected, TwiceNamed, UnknownNode, UnknownType, NotInLibrary, UnlikeLibrary, UnknownPredicate, UnknownSession, NotASource, SourceMisused, TooMany, Cycle, NoSignature, JoinTypes, CaseCount, CaseTypes, PredicateType, HandlerTypes, SourceTypes, SessionTypes, BothScopes, Unprotected, NoSession, PlanTooLarge, BadCode}
+use Rattle.flux_faults.specs.declared.faults.FaultKind.TheVariants.{TooLong, BadByte, UnclosedComment, Unexpected, TwiceNamed, UnknownNode, UnknownType, NotInLibrary, UnlikeLibrary, UnknownPredicate, UnknownSession, NotASource, SourceMisused, TooMany, Cycle, NoSignature, JoinTypes, CaseCount, CaseTypes, PredicateType, HandlerTypes, SourceTypes, SessionTypes, BothScopes, Unprotected, NoSession, PlanTooLarge, BadCode}
 use Rattle.flux_faults.specs.declared.faults.StaticFault.{StaticFault}
 use Rattle.flux_faults.specs.declared.faults.CheckFault.{CheckFault}
 use Rattle.flux_faults.specs.declared.faults.CheckFault.TheVariants.{Static, Memory}
@@ -11,7 +11,6 @@ use Rattle.flux_faults.specs.Places.{line_of, column_of}
 
 -- a fault's number in its line
 abbrev pub number_of : FaultKind → ℕ
-number_of NotBuilt = 0
 number_of TooLong = 1
 number_of BadByte = 2
 number_of UnclosedComment = 3
@@ -43,7 +42,6 @@ number_of BadCode = 28
 
 -- a fault's name in its line
 abbrev pub name_of : FaultKind → List ℕ
-name_of NotBuilt = codes "NotBuilt"
 name_of TooLong = codes "TooLong"
 name_of BadByte = codes "BadByte"
 name_of UnclosedComment = codes "UnclosedComment"

@@ -9,8 +9,6 @@ use flux_values::{List, Memory, TextBytes};
 /// The kinds of faults, each under its number.
 #[derive(Clone, Copy, Debug, PartialEq, Eq)]
 pub enum FaultKind {
-    /// The text is of no form that is built yet.
-    NotBuilt,
     /// The text has more than 1,048,576 bytes.
     TooLong,
     /// A byte outside comments begins no token.
@@ -75,7 +73,6 @@ impl FaultKind {
         ensures { result ≡ number_of self }
     {
         match self {
-            FaultKind::NotBuilt => 0,
             FaultKind::TooLong => 1,
             FaultKind::BadByte => 2,
             FaultKind::UnclosedComment => 3,
@@ -112,7 +109,6 @@ impl FaultKind {
         ensures { result.now ≡ name_of self }
     {
         match self {
-            FaultKind::NotBuilt => b"NotBuilt",
             FaultKind::TooLong => b"TooLong",
             FaultKind::BadByte => b"BadByte",
             FaultKind::UnclosedComment => b"UnclosedComment",

@@ -26,8 +26,7 @@ fn lines_tell_place_number_and_name(rt: HostRuntime) -> Result<(), Fail> {
     let alloc = rt.alloc();
     let text = b"source Tick =>".as_slice();
     let table = [
-        (FaultKind::NotBuilt, 0, b"1:1: fault 0 NotBuilt".as_slice()),
-        (FaultKind::BadByte, 6, b"1:7: fault 2 BadByte"),
+        (FaultKind::BadByte, 6, b"1:7: fault 2 BadByte".as_slice()),
         (FaultKind::Unexpected, 14, b"1:15: fault 4 Unexpected"),
         (FaultKind::PlanTooLarge, 7, b"1:8: fault 27 PlanTooLarge"),
         (FaultKind::BadCode, 3, b"1:4: fault 28 BadCode"),

@@ -1,1 +1,16 @@
 pub mod ValueLists
+pub mod Cutting
+pub mod Named
+pub mod Keying
+pub mod Parted
+pub mod Called
+pub mod Failing
+pub mod Missing
+pub mod Worded
+pub mod Lined
+pub mod Once
+pub mod Journaled
+pub mod Clean
+pub mod Printed
+pub mod Entered
+pub mod Exemplary

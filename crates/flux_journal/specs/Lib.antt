@@ -1,3 +1,7 @@
 pub mod Formats
 pub mod Logs
+pub mod Entries
+pub mod Spelled
+pub mod Journals
+pub mod Laws
 pub mod steps

@@ -1,8 +1,26 @@
 //! The text of a journal, in its two formats: printed, and read back with values in any spelling.
 //!
 //! A journal has one printed text in format 1, and in format 2 one for each number of flows.
+//! `read_line` and `read_journal` take exactly the lines of the program's entries, and name the first bad
+//! line otherwise. A text reads as one journal at most, and the printed text of a journal reads as that one.
 #![tactic(auto)]
 
+mod calls;
+mod cursors;
+mod cuts;
+mod faults;
+mod journals;
+mod keys;
+mod laws;
+mod lines;
+mod names;
+mod outcomes;
 mod printing;
+#[cfg(test)]
+mod tests;
 
+pub use faults::{JournalFault, LineFault};
+pub use journals::read_journal;
+pub use laws::text_law;
+pub use lines::read_line;
 pub use printing::{print_item, print_journal, print_journal_2, print_log};

@@ -1,33 +1,26 @@
 -- Worked examples: what the definitions say of small programs, as theorems.
-use Rattle.std.specs.Prelude.{◌≡◌, ℕ, ℤ, pos, zero, suc, Bool, true, false, List, [], ◌∷◌, ◌++◌, Option, Some, None, refl, codes}
+use Rattle.std.specs.Prelude.{◌≡◌, ℕ, pos, zero, suc, Bool, true, false, List, [], ◌∷◌, Option, Some, None, codes}
 use Rattle.std.specs.FinMap as map
-use Rattle.flux_values.specs.declared.values.Kind.{Kind}
 use Rattle.flux_values.specs.declared.values.Kind.TheVariants as kinds
 use Rattle.flux_values.specs.declared.values.Value.{Value}
 use Rattle.flux_values.specs.declared.values.Value.TheVariants as values
-use Rattle.flux_values.specs.declared.answers.Mode.{Mode}
 use Rattle.flux_values.specs.declared.answers.Mode.TheVariants.{Reader, Writer}
 use Rattle.flux_values.specs.declared.answers.Answer.{Answer}
 use Rattle.flux_values.specs.declared.answers.CallResult.{CallResult}
 use Rattle.flux_values.specs.declared.answers.CallResult.TheVariants as results
 use Rattle.flux_values.specs.Meanings.{LibraryMeaning}
 use Rattle.flux_values.specs.Cells.{CellMap, no_cell}
-use Rattle.flux_model.specs.declared.programs.Program.{Program}
 use Rattle.flux_model.specs.declared.programs.Node.{Node}
 use Rattle.flux_model.specs.declared.programs.NodeNo.{NodeNo}
 use Rattle.flux_model.specs.declared.programs.Hold.{Hold}
 use Rattle.flux_model.specs.declared.programs.HandleArm.{HandleArm}
 use Rattle.flux_model.specs.declared.programs.Case.{Case}
-use Rattle.flux_model.specs.declared.programs.Body.{Body}
 use Rattle.flux_model.specs.declared.programs.Body.TheVariants.{Concrete, Abstract}
-use Rattle.flux_model.specs.declared.programs.SourceLine.{SourceLine}
-use Rattle.flux_model.specs.declared.journals.Item.{Item}
 use Rattle.flux_model.specs.declared.journals.Key.{Key}
 use Rattle.flux_model.specs.declared.journals.Entry.{Entry}
-use Rattle.flux_model.specs.declared.journals.Outcome.{Outcome}
 use Rattle.flux_model.specs.declared.journals.Outcome.TheVariants.{Good, Over, Bad}
 use Rattle.flux_model.specs.declared.journals.Event.{Event}
-use Rattle.flux_model.specs.declared.journals.Event.TheVariants.{Take, Wait, Enter, Choose, Call, Exit, Drop, End}
+use Rattle.flux_model.specs.declared.journals.Event.TheVariants.{Take, Enter, Choose, Call, Exit, Drop, End}
 use Rattle.flux_model.specs.Setup.{Setup}
 use Rattle.flux_model.specs.Locks.{Holds}
 use Rattle.flux_model.specs.Flows.{flow_events}

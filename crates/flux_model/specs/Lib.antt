@@ -17,7 +17,6 @@ pub mod Answers
 pub mod Exclusion
 pub mod Waits
 pub mod Legal
-pub mod Serial
 pub mod Sizes
 pub mod Kinds
 pub mod Soundness

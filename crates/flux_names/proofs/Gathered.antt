@@ -1,6 +1,6 @@
 -- A node made from its lines is the node made from all declarations.
-use Rattle.std.proofs.Common.{◌≡◌, ◌≤◌, ◌<◌, ◌+◌, ℕ, zero, suc, ◌||◌, ◌&&◌, Bool, true, false, cond, if◌then◌else◌, List, [], ◌∷◌, ◌++◌, length, get_or, set, take, drop, map, replicate, Option, Some, None, refl, sym, ap, subst, ◌∙◌, arith}
-use Rattle.std.specs.List.{list_any, filter, filter_map, cons_option, flat_map, position_or_len, range_with_len, enumerate_from, AllByRecursion}
+use Rattle.std.proofs.Common.{◌≡◌, ◌<◌, ◌+◌, ℕ, zero, suc, ◌||◌, ◌&&◌, Bool, true, false, cond, if◌then◌else◌, List, [], ◌∷◌, ◌++◌, length, get_or, set, take, drop, map, replicate, Option, Some, None, refl, sym, ap, ◌∙◌, arith}
+use Rattle.std.specs.List.{list_any, filter, filter_map, cons_option, flat_map, range_with_len, enumerate_from, AllByRecursion}
 use Rattle.std.specs.Str.{bytes_eq}
 use Rattle.std.proofs.lemmas.List.{take_more, at_drop_more, append-nil, append_assoc, length-append, length-map, get_or_at, get_or-map}
 use Rattle.std.proofs.lemmas.List.Elements.{filter-append}
@@ -9,19 +9,18 @@ use Rattle.flux_model.specs.declared.programs.Hold.{Hold}
 use Rattle.flux_model.specs.declared.programs.Node.{Node}
 use Rattle.flux_model.specs.declared.programs.HandleArm.{HandleArm}
 use Rattle.flux_model.specs.declared.programs.Case.{Case}
-use Rattle.flux_model.specs.declared.programs.Body.{Body}
 use Rattle.flux_model.specs.declared.programs.Body.TheVariants.{Concrete, Abstract}
 use Rattle.flux_model.specs.declared.programs.SourceLine.{SourceLine}
 use Rattle.flux_syntax.specs.declared.declarations.Word.{Word}
 use Rattle.flux_syntax.specs.declared.declarations.Constraint.{Constraint}
 use Rattle.flux_syntax.specs.declared.declarations.Decl.{Decl}
 use Rattle.flux_syntax.specs.declared.declarations.Decl.TheVariants.{Signature, Flow, Source, Typedef, Handler, Atomic, Session}
-use Rattle.flux_syntax.specs.Words.{known, names_of, first_words, sourced, listed, texts_of, function_of}
-use Rattle.flux_syntax.specs.ProgramOfText.{place_of, number_of, decimal_value, patterns_of, library_name, case_of, is_signed, body_of, arm_of, constraints_of, constraints_on, hold_on, mode_on, declared_by, node_of, session_of, source_of, places, handler_place}
+use Rattle.flux_syntax.specs.Words.{known, names_of, first_words, texts_of, function_of}
+use Rattle.flux_syntax.specs.ProgramOfText.{place_of, number_of, decimal_value, patterns_of, library_name, case_of, is_signed, body_of, arm_of, constraints_of, constraints_on, hold_on, mode_on, node_of, session_of, source_of, handler_place}
 use Rattle.flux_names.specs.Rows.{is_code, code_of, used_names, not_among}
 use Rattle.flux_names.specs.steps.Classes.{with_constraints, holds_of}
-use Rattle.flux_names.specs.steps.Nodes.{unknown_in, subject, with_line, has_text, is_line_of, lines_of, is_signature, cases_in, arms_in, session_in, handler_sites_in, body_in, no_modes, node_in, sources_in, predicates_in, nodes_from, handler_sites_from}
-use Rattle.flux_names.proofs.Symbols.{AreApart, bytes_same, changed_at, at_its_place, below_length, map_same, flat_map_same, names_apart, first_texts}
+use Rattle.flux_names.specs.steps.Nodes.{unknown_in, subject, with_line, has_text, is_line_of, lines_of, is_signature, cases_in, arms_in, session_in, handler_sites_in, no_modes, node_in, sources_in, predicates_in, nodes_from, handler_sites_from}
+use Rattle.flux_names.proofs.Symbols.{AreApart, bytes_same, changed_at, at_its_place, below_length, map_same, flat_map_same, first_texts}
 use Rattle.flux_names.proofs.Joined.{holds_are}
 
 -- ---- what lists of lines give

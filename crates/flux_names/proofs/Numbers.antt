@@ -1,6 +1,6 @@
 -- Where no row stands the program is numbered.
-use Rattle.std.proofs.Common.{◌≡◌, ◌≤◌, ◌<◌, ◌+◌, ℕ, Bool, true, false, if◌then◌else◌, List, [], ◌∷◌, ◌++◌, length, map, Option, Some, None, refl, sym, ap, subst, ◌∙◌, arith}
-use Rattle.std.specs.List.{list_any, filter_map, cons_option, flat_map, position_or_len, enumerate_from, AllByRecursion}
+use Rattle.std.proofs.Common.{◌≡◌, ◌≤◌, ◌<◌, ◌+◌, ℕ, Bool, true, false, if◌then◌else◌, List, [], ◌∷◌, ◌++◌, length, map, Option, Some, None, refl, sym, subst, arith}
+use Rattle.std.specs.List.{list_any, filter_map, cons_option, flat_map, enumerate_from, AllByRecursion}
 use Rattle.std.specs.Str.{bytes_eq}
 use Rattle.std.proofs.lemmas.List.{length-append, length-map}
 use Rattle.flux_values.specs.Meanings.{LibraryMeaning}
@@ -11,25 +11,23 @@ use Rattle.flux_model.specs.declared.programs.Hold.{Hold}
 use Rattle.flux_model.specs.declared.programs.NodeNo.{NodeNo}
 use Rattle.flux_model.specs.declared.programs.HandleArm.{HandleArm}
 use Rattle.flux_model.specs.declared.programs.Case.{Case}
-use Rattle.flux_model.specs.declared.programs.Body.{Body}
 use Rattle.flux_model.specs.declared.programs.Body.TheVariants.{Concrete, Abstract}
 use Rattle.flux_model.specs.declared.programs.SourceLine.{SourceLine}
 use Rattle.flux_model.specs.Leading.{members_of, handlers_of, leads_to}
 use Rattle.flux_model.specs.Numbered.{AreBelow, AreOnClasses, IsPatternBelow, ArePatternsBelow, parts_of, IsNumbered}
 use Rattle.flux_syntax.specs.declared.declarations.Word.{Word}
-use Rattle.flux_syntax.specs.declared.declarations.Constraint.{Constraint}
 use Rattle.flux_syntax.specs.declared.declarations.Decl.{Decl}
 use Rattle.flux_syntax.specs.declared.declarations.Decl.TheVariants.{Signature, Flow, Source, Typedef, Handler, Atomic, Session}
 use Rattle.flux_syntax.specs.Counted.{total, words_in, words_of}
-use Rattle.flux_syntax.specs.Words.{naming, defined, known, and_name, names_after, names_of, function_of, texts_of, sourced, listed}
-use Rattle.flux_syntax.specs.ProgramOfText.{place_of, number_of, library_name, pattern_of, patterns_of, case_of, is_signed, body_of, arm_of, constraints_of, constraints_on, decimal_value, classes_of, hold_on, mode_on, declared_by, source_of, node_of, program_of}
+use Rattle.flux_syntax.specs.Words.{naming, defined, known, and_name, names_after, names_of, function_of, texts_of}
+use Rattle.flux_syntax.specs.ProgramOfText.{place_of, number_of, library_name, pattern_of, patterns_of, case_of, is_signed, body_of, arm_of, constraints_of, constraints_on, decimal_value, classes_of, hold_on, mode_on, source_of, node_of, program_of}
 use Rattle.flux_syntax.specs.Least.{first_fault}
 use Rattle.flux_syntax.proofs.Counts.{decls_few}
-use Rattle.flux_names.specs.Rows.{not_among, used_names, inner_names, sessioned, pattern_words, unknown_function, unknown_predicates_in, unknown_nodes, unknown_predicates, rows}
+use Rattle.flux_names.specs.Rows.{not_among, used_names, pattern_words, unknown_function, unknown_predicates_in, rows}
 use Rattle.flux_names.proofs.Symbols.{bytes_same, below_length}
 use Rattle.flux_names.proofs.Canonical.{classes_in_order, canonical, few_classes}
 use Rattle.flux_names.proofs.Gathered.{nil_append}
-use Rattle.flux_names.proofs.Sound.{AreSound, sound, all_parts}
+use Rattle.flux_names.proofs.Sound.{AreSound, sound}
 
 -- ---- lists
 

@@ -1,5 +1,5 @@
 -- Where no row stands: each row has no words.
-use Rattle.std.proofs.Common.{◌≡◌, ℕ, ◌||◌, ◌&&◌, Bool, true, false, not, if◌then◌else◌, List, [], ◌∷◌, ◌++◌, drop, map, Option, Some, None, refl, sym, ap, subst, ◌∙◌}
+use Rattle.std.proofs.Common.{◌≡◌, ℕ, ◌||◌, ◌&&◌, Bool, true, false, List, [], ◌∷◌, ◌++◌, map, Option, Some, None, refl, sym, ap, subst, ◌∙◌}
 use Rattle.std.specs.List.{list_any, filter_map, cons_option, flat_map, AllByRecursion}
 use Rattle.std.specs.Option.{is_none}
 use Rattle.std.specs.Str.{bytes_eq}
@@ -12,7 +12,7 @@ use Rattle.flux_syntax.specs.declared.declarations.Decl.{Decl}
 use Rattle.flux_syntax.specs.declared.declarations.Decl.TheVariants.{Signature, Flow, Source, Typedef, Handler, Atomic, Session}
 use Rattle.flux_syntax.specs.Words.{known, naming, defined, sourced, listed, texts_of}
 use Rattle.flux_syntax.specs.Least.{sooner, soonest, fault_or, first_fault}
-use Rattle.flux_names.specs.Rows.{handled, sessioned, repeats, have_one_name, is_patterned, word_if, listed_if, repeated_after, repeated, twice_named, unknown_nodes, unknown_types, not_in_library, unlike_library, unknown_predicates, unknown_sessions, not_sources, misused_sources, too_many, is_code, code_of, CodeOn, codes_in, is_taken_by, is_bad_code, bad_codes_after, bad_codes, rows}
+use Rattle.flux_names.specs.Rows.{handled, sessioned, repeats, is_patterned, word_if, listed_if, repeated_after, repeated, twice_named, unknown_nodes, unknown_types, not_in_library, unlike_library, unknown_predicates, unknown_sessions, not_sources, misused_sources, too_many, is_code, code_of, CodeOn, codes_in, is_taken_by, is_bad_code, bad_codes_after, bad_codes, rows}
 use Rattle.flux_names.specs.steps.Sorts.{names_by}
 use Rattle.flux_names.specs.steps.Codes.{codes_on}
 use Rattle.flux_names.proofs.Symbols.{AreApart, bytes_same, apart_push, names_by_apart}

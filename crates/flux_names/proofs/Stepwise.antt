@@ -1,12 +1,11 @@
 -- The least place of words, step by step.
-use Rattle.std.proofs.Common.{◌≡◌, ◌<◌, ◌+◌, ℕ, Bool, true, false, not, List, [], ◌∷◌, ◌++◌, length, get_or, drop, map, Option, Some, None, refl, sym, ap, ◌∙◌}
-use Rattle.std.specs.List.{filter, flat_map, list_any}
+use Rattle.std.proofs.Common.{◌≡◌, ◌<◌, ◌+◌, ℕ, Bool, true, false, not, List, [], ◌∷◌, length, get_or, drop, Option, refl, ◌∙◌}
+use Rattle.std.specs.List.{filter, flat_map}
 use Rattle.std.proofs.lemmas.List.{at_drop_more}
 use Rattle.flux_syntax.specs.declared.declarations.Word.{Word}
-use Rattle.flux_syntax.specs.Least.{sooner, soonest}
+use Rattle.flux_syntax.specs.Least.{soonest}
 use Rattle.flux_syntax.specs.Words.{known}
 use Rattle.flux_syntax.proofs.Soonest.{soonest_append}
-use Rattle.flux_names.specs.Rows.{among, not_among}
 use Rattle.flux_names.specs.steps.Picks.{picked}
 
 -- one thing more of a list, each of which has words

@@ -1,7 +1,7 @@
 -- Names in tables: what a table knows, that its names are distinct, and where each stands.
-use Rattle.std.proofs.Common.{◌≡◌, ◌≤◌, ◌<◌, ◌+◌, ℕ, suc, ◌||◌, Bool, true, false, not, cond, if◌then◌else◌, List, [], ◌∷◌, ◌++◌, length, get_or, set, map, Option, Some, None, refl, sym, ap, subst, ◌∙◌, arith}
+use Rattle.std.proofs.Common.{◌≡◌, ◌<◌, ◌+◌, ℕ, suc, ◌||◌, Bool, true, false, not, cond, if◌then◌else◌, List, [], ◌∷◌, ◌++◌, length, get_or, set, map, Option, Some, None, refl, sym, ap, ◌∙◌, arith}
 use Rattle.std.specs.Bool.{⊤}
-use Rattle.std.specs.List.{list_any, filter, filter_map, flat_map, position_or_len}
+use Rattle.std.specs.List.{list_any, filter, flat_map, position_or_len}
 use Rattle.std.specs.Str.{bytes_eq}
 use Rattle.std.proofs.lemmas.Slice.Eq.{bytes_eq-Decides}
 use Rattle.std.proofs.lemmas.List.Folds.{list_any-append}
@@ -12,7 +12,6 @@ use Rattle.flux_syntax.specs.Names.{with_name}
 use Rattle.flux_syntax.specs.Words.{naming, known, and_name, names_after, names_of, unless_known, first_words_after, first_words, texts_of}
 use Rattle.flux_names.specs.Rows.{among, not_among}
 use Rattle.flux_names.specs.steps.Sorts.{names_by_after, names_by}
-use Rattle.flux_names.specs.steps.Repeats.{is_known}
 
 -- ---- what a table knows
 

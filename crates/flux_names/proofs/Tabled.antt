@@ -5,7 +5,7 @@ use Rattle.flux_values.specs.Meanings.{LibraryMeaning}
 use Rattle.flux_faults.specs.declared.faults.FaultKind.TheVariants.{TwiceNamed, UnknownNode, UnknownType, NotInLibrary, UnlikeLibrary, UnknownPredicate, UnknownSession, NotASource, SourceMisused, TooMany, BadCode}
 use Rattle.flux_syntax.specs.declared.declarations.Word.{Word}
 use Rattle.flux_syntax.specs.declared.declarations.Decl.{Decl}
-use Rattle.flux_syntax.specs.Words.{known, sourced, defined, listed, texts_of}
+use Rattle.flux_syntax.specs.Words.{sourced, defined, listed, texts_of}
 use Rattle.flux_syntax.specs.Least.{soonest, first_fault}
 use Rattle.flux_names.specs.Rows.{sessioned, inner_names, among, not_among, twice_named, unknown_nodes, unknown_types, not_in_library, unlike_library, pattern_words, unknown_function, unknown_predicates_in, unknown_predicates, unknown_sessions, source_node, source_nodes, not_sources_in, not_sources, misused_sources, too_many, bad_codes, rows}
 use Rattle.flux_names.specs.steps.Sorts.{names_by}

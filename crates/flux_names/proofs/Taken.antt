@@ -1,8 +1,7 @@
 -- Codes that nodes have, by a table and by the numbers before.
-use Rattle.std.proofs.Common.{◌≡◌, ℕ, ◌||◌, ◌&&◌, eqb, Bool, true, false, not, if◌then◌else◌, List, [], ◌∷◌, ◌++◌, map, Option, Some, None, refl, sym, ap, ◌∙◌}
+use Rattle.std.proofs.Common.{◌≡◌, ℕ, ◌||◌, ◌&&◌, Bool, true, false, List, [], ◌∷◌, ◌++◌, Option, Some, None, refl, sym, ap, ◌∙◌}
 use Rattle.std.specs.Bool.{◌==◌}
-use Rattle.std.specs.List.{list_any, flat_map}
-use Rattle.std.specs.Option.{is_none}
+use Rattle.std.specs.List.{list_any}
 use Rattle.std.specs.Str.{bytes_eq}
 use Rattle.std.proofs.lemmas.Bool.{eqb-true}
 use Rattle.std.proofs.lemmas.List.Folds.{list_any-append}
@@ -10,7 +9,7 @@ use Rattle.std.proofs.lemmas.List.{append_assoc}
 use Rattle.std.proofs.lemmas.Slice.Eq.{bytes_eq-Decides}
 use Rattle.flux_syntax.specs.declared.declarations.Word.{Word}
 use Rattle.flux_names.specs.Rows.{CodeOn, code_of, word_if, is_same_code, is_taken_by, is_bad_code, bad_codes_after}
-use Rattle.flux_names.specs.steps.Codes.{Taken, has_code, is_bad, is_bad_by, with_code, and_code, and_codes, bad_codes_by}
+use Rattle.flux_names.specs.steps.Codes.{Taken, has_code, is_bad_by, with_code, and_code, and_codes, bad_codes_by}
 
 or_last : (b : Bool) → (b || false) ≡ b
 or_last true = refl

@@ -1,13 +1,12 @@
 -- Names that stand twice, by the names before and by the lines before.
-use Rattle.std.proofs.Common.{◌≡◌, ℕ, ◌||◌, ◌&&◌, Bool, true, false, not, if◌then◌else◌, List, [], ◌∷◌, ◌++◌, Option, Some, None, refl, sym, ap, ◌∙◌}
+use Rattle.std.proofs.Common.{◌≡◌, ℕ, ◌||◌, ◌&&◌, Bool, true, false, not, List, [], ◌∷◌, ◌++◌, Option, Some, None, refl, sym, ap, ◌∙◌}
 use Rattle.std.specs.List.{list_any}
-use Rattle.std.specs.Str.{bytes_eq}
 use Rattle.std.proofs.lemmas.List.Folds.{list_any-append}
 use Rattle.flux_syntax.specs.declared.declarations.Word.{Word}
 use Rattle.flux_syntax.specs.declared.declarations.Decl.{Decl}
 use Rattle.flux_syntax.specs.Words.{known, and_name}
 use Rattle.flux_names.specs.Rows.{is_patterned, have_one_name, repeats, listed_if, repeated_after}
-use Rattle.flux_names.specs.steps.Repeats.{is_known, repeated_in, and_plain, repeated_by}
+use Rattle.flux_names.specs.steps.Repeats.{repeated_in, and_plain, repeated_by}
 use Rattle.flux_names.proofs.Symbols.{is_text, known_and_name}
 
 or_none : (b : Bool) → (b || false) ≡ b

@@ -1,4 +1,3 @@
 pub mod Rows
 pub mod Resolving
-pub mod Building
 pub mod steps

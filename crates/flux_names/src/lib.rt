@@ -4,7 +4,6 @@
 //! with the places of its names in the text; or the least fault of names.
 #![tactic(auto)]
 
-mod building;
 mod classes;
 mod codes;
 mod lines;
@@ -23,7 +22,6 @@ mod tests;
 mod uses;
 mod words;
 
-pub use building::first_unbuilt;
 pub use flux_model::{Named, Sites};
 pub use places::{Place, with_word};
 pub use resolving::resolve;

@@ -1,6 +1,6 @@
 //! Texts and their faults of names.
 
-use crate::{first_unbuilt, resolve};
+use crate::resolve;
 use flux_faults::{CheckFault, FaultKind};
 use flux_library::{Basic, Library};
 use flux_model::{Body, Case, HandleArm, Hold, Mode, Named, Node};
@@ -523,26 +523,4 @@ fn each_node_is_made_from_all_its_lines(rt: HostRuntime) {
     }
     assert_eq!(rt; named.program.predicates.len(), 2);
     assert!(rt; named.sites.handlers.as_slice() == [110, 227, 63].as_slice());
-}
-
-fn assert_place(rt: &impl Abort, alloc: Global, text: &[u8], wanted: Option<u32>) {
-    match read(alloc, text) {
-        Ok(decls) => assert_eq!(rt; first_unbuilt(&decls), wanted, "{text:?}"),
-        Err(_) => assert!(rt; false, "{text:?} is no program"),
-    }
-}
-
-#[test]
-fn the_first_atomic_line_is_found(rt: HostRuntime) {
-    let table = [
-        (SERVER, None),
-        (b"A = ; typedef b C; handle error A => A;", None),
-        (b"handle error A:(1) => A; A:[_] = ;", None),
-        (b"A:[_] = ; atomic B:{x}; atomic A:{x};", Some(17)),
-        (b"handle error A => A; atomic A:{x}; A = ;", Some(28)),
-        (b"session A => B; typedef b C; A = B -> C;", None),
-    ];
-    for (text, wanted) in table {
-        assert_place(&rt, rt.alloc(), text, wanted);
-    }
 }

@@ -8,7 +8,7 @@ use Rattle.std.proofs.lemmas.Fmt.{decimal_is_IsNumeral}
 use Rattle.std.proofs.Math.Seq.{take-add}
 use Rattle.std.proofs.lemmas.Bool.{cond_both, eqb-true, cases_order}
 use Rattle.std.proofs.lemmas.Bool.Decides.{nat_tests}
-use Rattle.std.proofs.lemmas.List.{length-append, append-nil, take_at}
+use Rattle.std.proofs.lemmas.List.{length-append, append-nil}
 use Rattle.std.proofs.lemmas.List.Elements.{recursion_from_All}
 use Rattle.flux_values.specs.declared.failures.ValueFault.{ValueFault}
 use Rattle.flux_values.specs.declared.failures.ValueFault.TheVariants as faults
@@ -16,8 +16,8 @@ use Rattle.flux_values.specs.declared.values.Value.{Value}
 use Rattle.flux_values.specs.declared.values.Value.TheVariants as values
 use Rattle.flux_values.specs.declared.texts.TheConstants.{TEXT_LIMIT}
 use Rattle.flux_values.specs.Texts.{hex_digit, printed_byte, printed_text, printed_value, printed_bool}
-use Rattle.flux_values.specs.Reading.{IsValue, BeginsWith, BeginsNone, ReadsBack, IsRead}
-use Rattle.flux_values.specs.Spellings.{minus, with_sign, SpellsByte, SpellEach, SpellsText, Spells, BeginsSpelled, IsLongest, CanGoOn, IsTooLong, IsBadValue, HasCause, IsOrMemory}
+use Rattle.flux_values.specs.Reading.{IsValue, BeginsWith, ReadsBack}
+use Rattle.flux_values.specs.Spellings.{minus, with_sign, SpellsByte, SpellEach, SpellsText, Spells, BeginsSpelled, CanGoOn, IsTooLong, IsBadValue, HasCause, IsOrMemory}
 use Rattle.flux_values.proofs.Opened.{cut_alike}
 use Rattle.flux_values.proofs.Fronts.{begins_head, begins_none, goes_less, as_text}
 use Rattle.flux_values.proofs.TextsRead.{closes, nothing_full, Long, long_parts}
@@ -200,24 +200,3 @@ reads_back (Ok read) bytes cause v b =
 reads_back (Err (faults.BadValue at)) bytes cause v b = cause.no_value v (length (printed_value v)) (printed_begins v bytes b)
 reads_back (Err (faults.TooLong at)) bytes cause v b = too_long_no_value bytes at v (length (printed_value v)) cause (printed_begins v bytes b)
 reads_back (Err faults.Memory) bytes cause v b = tt
-
--- ---- printed spellings alone
-
-front_taken : (bytes : List ℕ) (v : Value) (n : ℕ) (b : BeginsSpelled bytes v n) → take n bytes ≡ b.spelling
-front_taken bytes v n b = ap (λ (m : ℕ). take m bytes) b.long ∙ ap (take (length b.spelling)) b.front ∙ take_at b.spelling b.rest (length b.spelling) refl
-
-pub printed_read : (bytes : List ℕ) (v : Value) (n : ℕ) → IsLongest bytes v n → take n bytes ≡ printed_value v → IsRead (Ok (v, n)) bytes
-printed_read bytes v n first is =
-    let b = first.begins in
-    let same : b.spelling ≡ printed_value v = sym (front_taken bytes v n b) ∙ is in (
-      record { is_value = b.spells.is_value; rest = b.rest; spelled = b.front ∙ ap (λ (l : List ℕ). l ++ b.rest) same; ends = b.ends },
-      b.long ∙ ap length same,
-      omega (arith, b.long, ap length b.front, length-append b.spelling b.rest),
-    )
-
-pub other_read : (bytes : List ℕ) (v : Value) (n : ℕ) → (take n bytes ≡ printed_value v → ⊥) → ((w : Value) → BeginsWith w bytes → ReadsBack (Ok (v, n)) w) → BeginsNone bytes
-other_read bytes v n differs again w begins =
-    let same = again w begins in
-    let is : v ≡ w = ap (λ (p : Value × ℕ). p.0) same in
-    let long : n ≡ length (printed_value w) = ap (λ (p : Value × ℕ). p.1) same in
-    differs (ap (λ (m : ℕ). take m bytes) long ∙ ap (take (length (printed_value w))) begins.spelled ∙ take_at (printed_value w) begins.rest (length (printed_value w)) refl ∙ ap printed_value (sym is))

@@ -1,15 +1,15 @@
 -- Decimal numbers without a leading zero at the front of bytes.
-use Rattle.std.proofs.Common.{◌≡◌, ◌⊎◌, inl, inr, ℕ, zero, suc, ◌+◌, ◌<◌, ◌≤◌, ◌^◌, List, [], ◌∷◌, ◌++◌, length, take, drop, get_or, Result, Ok, Err, refl, sym, ap, ◌∙◌, arith, subst}
+use Rattle.std.proofs.Common.{◌≡◌, inl, inr, ℕ, zero, suc, ◌+◌, ◌<◌, ◌≤◌, ◌^◌, List, [], ◌∷◌, ◌++◌, length, take, drop, get_or, Err, refl, sym, ap, ◌∙◌, arith, subst}
 use Rattle.std.specs.Fmt.{decimal}
-use Rattle.std.specs.Str.Parse.{IsNumeral, AllDigits, digits_value}
+use Rattle.std.specs.Str.Parse.{AllDigits, digits_value}
 use Rattle.std.proofs.lemmas.Fmt.{decimal_is_IsNumeral, decimal-digits_value, decimal_digit, first_decimal}
 use Rattle.std.proofs.lemmas.Str.Parse.{IsNumeralModel, digits_value-take-le}
 use Rattle.std.proofs.lemmas.List.{length-append, length-take-le, take-append-drop, append-nil, get_or-take, append_cancel_left}
 use Rattle.std.proofs.Math.Seq.{take-append_seam}
 use Rattle.flux_values.specs.Reading.{NoDigitFirst}
 use Rattle.flux_values.specs.Spellings.{BeginsDecimal}
-use Rattle.flux_values.specs.steps.Numbers.{AreDigits, AreTooMany, AreDigitsRead}
-use Rattle.flux_values.proofs.NumbersRead.{digits_past, first_of, no_digit_first}
+use Rattle.flux_values.specs.steps.Numbers.{AreDigits, AreDigitsRead}
+use Rattle.flux_values.proofs.NumbersRead.{digits_past, no_digit_first}
 
 own : IsNumeralModel (AllDigits 10) (digits_value 10)
 own = record { to = λ ds all. all; from = λ ds all. all; same = λ ds all. refl }

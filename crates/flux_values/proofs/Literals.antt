@@ -1,18 +1,16 @@
 -- What the reading of a text in quotes says of values, and of texts of another length.
-use Rattle.std.proofs.Common.{◌≡◌, ◌≢◌, ◌⊎◌, inl, inr, ℕ, ◌+◌, ◌<◌, ◌≤◌, List, [], ◌∷◌, ◌++◌, length, take, drop, get_or, slice_get, Option, Some, None, Result, Ok, Err, Vec, refl, sym, ap, ◌∙◌, arith, subst, append_assoc, All}
+use Rattle.std.proofs.Common.{◌≡◌, inl, inr, ℕ, ◌+◌, ◌≤◌, List, [], ◌∷◌, ◌++◌, length, take, drop, slice_get, Some, None, Ok, Err, Vec, refl, sym, ap, ◌∙◌, arith, subst, append_assoc}
 use Rattle.std.specs.List.{concat}
-use Rattle.std.proofs.lemmas.List.{length-append, append-nil, length-drop, take-append-drop, length-take-le, drop_more, drop_all}
-use Rattle.flux_values.specs.declared.values.Value.{Value}
+use Rattle.std.proofs.lemmas.List.{length-append, append-nil, take-append-drop, length-take-le, drop_more, drop_all}
 use Rattle.flux_values.specs.declared.values.Value.TheVariants as values
 use Rattle.flux_values.specs.declared.failures.ValueFault.{ValueFault}
 use Rattle.flux_values.specs.declared.failures.ValueFault.TheVariants as faults
-use Rattle.flux_values.specs.declared.reading.Piece.TheVariants as pieces
 use Rattle.flux_values.specs.declared.texts.TheConstants.{TEXT_LIMIT}
-use Rattle.flux_values.specs.Spellings.{SpellEach, OpensText, SpellsText, BeginsText, IsLongest, IsTooLong, IsBadValue, HasCause, IsTextRead}
+use Rattle.flux_values.specs.Spellings.{SpellEach, BeginsText, IsLongest, IsTooLong, IsBadValue, HasCause, IsTextRead}
 use Rattle.flux_values.specs.steps.Pieces.{piece_of}
-use Rattle.flux_values.specs.steps.Literals.{IsOpen, IsClosed, IsFull, IsStopped, IsStuck, IsLiteralFault, IsLiteralRead}
-use Rattle.flux_values.proofs.Opened.{none_found, no_quote, goes_on}
-use Rattle.flux_values.proofs.TextsRead.{text_read, text_stuck, text_ends, front_is, pieces_long, full_is, stuck_is, not_quote}
+use Rattle.flux_values.specs.steps.Literals.{IsClosed, IsFull, IsStuck, IsLiteralFault, IsLiteralRead}
+use Rattle.flux_values.proofs.Opened.{no_quote, goes_on}
+use Rattle.flux_values.proofs.TextsRead.{text_read, text_stuck, text_ends, front_is, full_is, stuck_is, not_quote}
 
 -- ---- as a value
 

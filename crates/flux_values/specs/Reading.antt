@@ -33,21 +33,9 @@ pub record BeginsWith (value : Value) (bytes : List ℕ) : Type 0 where
   pub spelled : bytes ≡ printed_value value ++ rest
   pub ends : EndsBefore value rest
 
--- no value's printed spelling begins the bytes
-abbrev pub BeginsNone : List ℕ → Type 0
-BeginsNone bytes = (value : Value) → BeginsWith value bytes → ⊥
-
 -- this value was read with the length of its printed spelling, or memory was short
 abbrev pub ReadsBack : Result (Value × ℕ) ValueFault → Value → Type 0
 ReadsBack (Ok read) value = read ≡ (value, length (printed_value value))
 ReadsBack (Err faults.Memory) value = ⊤
 ReadsBack (Err (faults.BadValue at)) value = ⊥
 ReadsBack (Err (faults.TooLong at)) value = ⊥
-
--- each answer of a reader of printed spellings has its cause
-abbrev pub IsRead : Result (Value × ℕ) ValueFault → List ℕ → Type 0
-IsRead (Ok read) bytes =
-    BeginsWith read.0 bytes × (read.1 ≡ length (printed_value read.0)) × (read.1 ≤ length bytes)
-IsRead (Err faults.Memory) bytes = ⊤
-IsRead (Err (faults.BadValue at)) bytes = BeginsNone bytes
-IsRead (Err (faults.TooLong at)) bytes = ⊥

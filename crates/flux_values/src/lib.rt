@@ -25,6 +25,6 @@ pub use failures::{Memory, TextFault, ValueFault};
 pub use lists::List;
 pub use meanings::{CellUse, Meaning, Role, Sig};
 pub use printing::{append_number, append_text, append_value, print_value};
-pub use reading::{read_decimal, read_printed_value, read_text_within, read_value};
+pub use reading::{read_decimal, read_text_within, read_value};
 pub use texts::{Bytes, EMISSION_LIMIT, TEXT_LIMIT, TextBytes};
 pub use values::{Kind, Value};

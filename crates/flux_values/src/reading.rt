@@ -4,7 +4,7 @@ ghost use Rattle.std.specs.Prelude.{◌≡◌, ◌<◌, ◌≤◌, ◌*◌, ◌+
 ghost use Rattle.flux_values.specs.declared.values.Value.{Value};
 ghost use Rattle.flux_values.specs.declared.failures.ValueFault.TheVariants as faults;
 ghost use Rattle.flux_values.specs.Texts.{printed_bool};
-ghost use Rattle.flux_values.specs.Reading.{ReadsBack, IsRead, BeginsWith};
+ghost use Rattle.flux_values.specs.Reading.{ReadsBack, BeginsWith};
 ghost use Rattle.flux_values.specs.Spellings.{with_sign, HasCause, IsOrMemory, IsLongest, IsTooLong, IsBadValue, IsDecimalRead, IsTextRead};
 ghost use Rattle.flux_values.specs.steps.Pieces.{piece_of, escape_of, hexadecimal_of, digit_in};
 ghost use Rattle.flux_values.specs.steps.Literals.{IsLiteralRead};
@@ -45,28 +45,6 @@ pub fn read_value(alloc: Global, bytes: &[u8]) -> Result<(Value, usize), ValueFa
     ensures again { (value : Value) → BeginsWith value bytes.now → ReadsBack result value }
 {
     read_front(alloc, bytes)
-}
-
-/// The value whose printed spelling begins the bytes, and that spelling's length.
-/// This call goes when items are read by their whole text.
-pub fn read_printed_value(alloc: Global, bytes: &[u8]) -> Result<(Value, usize), ValueFault>
-    // Each answer has its cause.
-    ensures read { IsRead result bytes.now }
-    // A printed value is read back with its length, whatever follows it; but no digit after an Int.
-    ensures again { (value : Value) → BeginsWith value bytes.now → ReadsBack result value }
-{
-    let (value, length) = match read_value(alloc, bytes) {
-        Ok(read) => read,
-        Err(ValueFault::Memory) => return Err(ValueFault::Memory),
-        Err(ValueFault::BadValue { at }) => return Err(ValueFault::BadValue { at }),
-        Err(ValueFault::TooLong { at }) => return Err(ValueFault::BadValue { at }),
-    };
-    let printed = print_value(alloc, &value)?;
-    if &bytes[..length] == printed.as_bytes() {
-        Ok((value, length))
-    } else {
-        Err(ValueFault::BadValue { at: 0 })
-    }
 }
 
 /// Reads by the first byte what it can begin.

@@ -2,8 +2,7 @@
 
 use crate::{
     Bytes, CallResult, Cell, List, Memory, TextBytes, TextFault, Value, ValueFault, append_number,
-    append_text, append_value, print_value, read_decimal, read_printed_value, read_text_within,
-    read_value,
+    append_text, append_value, print_value, read_decimal, read_text_within, read_value,
 };
 use std::test::Fail;
 
@@ -67,8 +66,6 @@ fn the_longest_spelling_is_read_with_its_length(rt: HostRuntime) -> Result<(), F
             "{bytes:?}"
         );
         assert_eq!(rt; read, length, "{bytes:?}");
-        let again = read_printed_value(alloc, bytes).is_ok();
-        assert_eq!(rt; again, &bytes[..length] == printed, "{bytes:?}");
     }
     Ok(())
 }
@@ -110,7 +107,6 @@ fn a_refusal_names_the_first_byte_that_no_spelling_has(rt: HostRuntime) -> Resul
             Some(ValueFault::BadValue { at }),
             "{bytes:?}"
         );
-        assert!(rt; read_printed_value(alloc, bytes).is_err());
     }
     Ok(())
 }

@@ -16,7 +16,7 @@ pub const NUMBER_LIMIT: u32 = 4_095;
 /// threads; until then no words spell them.
 #[derive(Debug, Drop)]
 pub enum Runtime {
-    /// One event of each flow in turn.
+    /// Flow after flow, each up to its first call, its wait or its end.
     Event,
     /// One event of each flow that is named, in order, as often as it is named.
     Script(List<FlowNo>),

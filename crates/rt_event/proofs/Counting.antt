@@ -1,5 +1,5 @@
 -- A legal journal has at most so many entries: no flow waits twice for a take.
-use Rattle.std.proofs.Common.{◌≡◌, ◌≢◌, ◌<◌, ◌≤◌, ◌+◌, ◌*◌, ◌⊎◌, inl, inr, ℕ, zero, suc, Bool, true, false, cond, List, [], ◌∷◌, ◌++◌, length, refl, sym, ap, subst, ◌∙◌, append_assoc, arith}
+use Rattle.std.proofs.Common.{◌≡◌, ◌≢◌, ◌<◌, ◌≤◌, ◌+◌, ◌*◌, ◌⊎◌, inl, inr, ℕ, zero, suc, Bool, cond, List, [], ◌∷◌, ◌++◌, length, refl, sym, ap, subst, ◌∙◌, append_assoc, arith}
 use Rattle.std.specs.List.{AllByRecursion, flat_map}
 use Rattle.std.proofs.lemmas.Bool.{cases_eq, eq-eqb, ne_eqb}
 use Rattle.std.proofs.lemmas.List.{length-append, append-nil}
@@ -14,7 +14,7 @@ use Rattle.flux_model.specs.Events.{unless_wait, events_by, own_events}
 use Rattle.flux_model.specs.Waits.{IsLast, IsNoWaitLast}
 use Rattle.flux_model.specs.Legal.{IsLegal}
 use Rattle.flux_laws.specs.Growth.{flow_size, sum_below}
-use Rattle.flux_laws.proofs.OwnEvents.{events_by-append, own_events-append, by_itself}
+use Rattle.flux_laws.proofs.OwnEvents.{events_by-append, own_events-append}
 use Rattle.flux_laws.proofs.Fronts.{fronts_are_legal}
 use Rattle.flux_laws.proofs.LastMoves.{entries_are_moves}
 use Rattle.flux_laws.proofs.Growing.{own_events_are_bounded}

@@ -1,25 +1,24 @@
 -- A core that goes round.
-use Rattle.std.proofs.Common.{◌≡◌, ◌≢◌, ◌<◌, ◌≤◌, ◌+◌, ◌⊎◌, inl, inr, ℕ, Bool, true, false, cond, List, [], ◌∷◌, ◌++◌, length, Option, Some, None, refl, sym, ap, subst, ◌∙◌, append_assoc, arith}
+use Rattle.std.proofs.Common.{◌≡◌, ◌≢◌, ◌≤◌, ◌+◌, inl, inr, ℕ, Bool, true, false, List, [], ◌∷◌, ◌++◌, length, Option, Some, None, refl, sym, ap, subst, ◌∙◌, append_assoc}
 use Rattle.std.proofs.lemmas.List.{length-append, append-nil}
 use Rattle.flux_values.specs.Meanings.{LibraryMeaning}
 use Rattle.flux_model.specs.declared.journals.FlowNo.{FlowNo}
 use Rattle.flux_model.specs.declared.journals.Entry.{Entry}
-use Rattle.flux_model.specs.declared.journals.Event.{Event}
 use Rattle.flux_model.specs.Setup.{Setup}
 use Rattle.flux_model.specs.Events.{IsLive}
-use Rattle.flux_model.specs.Legal.{IsLegal, IsWhole}
+use Rattle.flux_model.specs.Legal.{IsLegal}
 use Rattle.flux_laws.specs.Moves.{IsMove}
 use Rattle.flux_laws.proofs.Added.{moves_are_legal}
 use Rattle.flux_laws.proofs.Ends.{none_live_is_whole}
 use Rattle.flow_core.specs.States.{CoreState, setup_in}
 use Rattle.flow_core.specs.Runs.{GoesOnLegally, GoesToEnd}
-use Rattle.flow_waits.specs.Turns.{IsBefore, IsFirstFrom, IsInLine, MakesMove, EachStands}
+use Rattle.flow_waits.specs.Turns.{IsBefore, IsFirstFrom, IsInLine, EachStands}
 use Rattle.flow_waits.specs.Driven.{SameSetup}
-use Rattle.flow_waits.specs.Covers.{Pools, IsReady, Covers, IsChosen, Lags, StayReady}
+use Rattle.flow_waits.specs.Covers.{Pools, IsReady, Covers, Lags, StayReady}
 use Rattle.flow_waits.proofs.Orders.{before-later}
 use Rattle.flow_waits.proofs.Driving.{same-setup, same-then, goes-on, each-none, each-more}
-use Rattle.rt_event.specs.Round.{EndsTurn, IsOnTurn, HasHadTurn, LooksFrom, HasTurn, IsTurnMove, IsRound}
-use Rattle.rt_event.specs.steps.Owners.{IsKeptOn, KeepsOn, Stays, IsOwner, IsFound, Leads, IsOver, MakesOwn, MakesTurn}
+use Rattle.rt_event.specs.Round.{IsOnTurn, LooksFrom, HasTurn, IsTurnMove, IsRound}
+use Rattle.rt_event.specs.steps.Owners.{KeepsOn, Stays, IsOwner, Leads, IsOver, MakesOwn, MakesTurn}
 use Rattle.rt_event.proofs.Ends.{still-live, still-awake}
 use Rattle.rt_event.proofs.Counting.{most_entries, few-entries}
 
@@ -139,7 +138,7 @@ rounding-few setup old new from on_turn kept = few-entries setup new kept.legal
 pub round-whole : {L : Type 0} (meaning : L → LibraryMeaning) (old new : CoreState L) → IsRound (setup_in meaning old) old.entries new.entries → GoesOnLegally meaning old new → GoesToEnd meaning old new
 round-whole meaning old new round legally =
     let on = legally.on in
-    let same : SameSetup old new = record { program_ = on.program_; items_ = on.items_; opening_ = on.opening_; library_ = on.library_ } in
+    let same : SameSetup old new = record { program_ = on.program_; plans_ = on.plans_; items_ = on.items_; opening_ = on.opening_; library_ = on.library_ } in
     record {
       legally = legally;
       whole = none_live_is_whole (setup_in meaning new) new.entries legally.legal

@@ -95,7 +95,11 @@ fn next_owner<L: Library>(
 }
 
 /// Lets a flow make its next move, and says whether its turn is over.
-fn own_turn<L: Library, G: Gate>(core: &mut Core<L>, gate: &G, owner: FlowNo) -> Result<bool, Memory>
+fn own_turn<L: Library, G: Gate>(
+    core: &mut Core<L>,
+    gate: &G,
+    owner: FlowNo,
+) -> Result<bool, Memory>
     requires { owner.0 < length core.old.items }
     ensures ok { IfOk result (MakesTurn (setup_in L.meaning core.old) core.old.entries owner core.new.entries) }
     ensures err { OnErr result (core.new.entries ≡ core.old.entries) }

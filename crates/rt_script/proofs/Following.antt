@@ -1,21 +1,19 @@
 -- Turns one after another.
-use Rattle.std.proofs.Common.{◌≡◌, ◌<◌, ◌+◌, ◌⊎◌, inl, inr, ℕ, ◌≤◌, List, [], ◌∷◌, ◌++◌, length, take, arith, refl, sym, ap, subst, ◌∙◌, append_assoc}
+use Rattle.std.proofs.Common.{◌≡◌, inl, inr, ℕ, ◌≤◌, List, [], ◌∷◌, ◌++◌, length, take, arith, refl, sym, ap, subst, ◌∙◌, append_assoc}
 use Rattle.std.proofs.lemmas.List.{append-nil}
 use Rattle.std.proofs.lemmas.Grind.{common_steps}
 use Rattle.flux_values.specs.Meanings.{LibraryMeaning}
 use Rattle.flux_model.specs.declared.journals.FlowNo.{FlowNo}
 use Rattle.flux_model.specs.declared.journals.Entry.{Entry}
-use Rattle.flux_model.specs.declared.journals.Event.{Event}
 use Rattle.flux_model.specs.Setup.{Setup}
 use Rattle.flux_model.specs.Legal.{IsLegal, IsWhole}
 use Rattle.flux_laws.proofs.Added.{moves_are_legal}
 use Rattle.flow_core.specs.States.{CoreState, setup_in}
-use Rattle.flow_core.specs.Runs.{GoesOn, GoesOnLegally, GoesToEnd}
-use Rattle.flow_waits.specs.Turns.{MakesMove}
+use Rattle.flow_core.specs.Runs.{GoesOnLegally, GoesToEnd}
 use Rattle.flow_waits.specs.Driven.{SameSetup}
 use Rattle.flow_waits.specs.Draining.{DrainsTo}
 use Rattle.flow_waits.proofs.Driving.{same-setup, same-then, same-itself, goes-on}
-use Rattle.rt_script.specs.Follow.{Rests, IsTurn, AreTurns, IsFollow}
+use Rattle.rt_script.specs.Follow.{IsTurn, AreTurns, IsFollow}
 
 -- one turn more
 turns-more : (setup : Setup) (before between after : List Entry) (flows : List FlowNo) (flow : FlowNo) → AreTurns setup before flows between → IsTurn setup between flow after
@@ -82,6 +80,7 @@ pub legally-then : {L : Type 0} (meaning : L → LibraryMeaning) (a b c : CoreSt
 legally-then meaning a b c one other = let first = one.on in let last = other.on in record {
   on = record {
     program_ = last.program_ ∙ first.program_;
+    plans_ = last.plans_ ∙ first.plans_;
     items_ = last.items_ ∙ first.items_;
     opening_ = last.opening_ ∙ first.opening_;
     library_ = last.library_ ∙ first.library_;
@@ -97,7 +96,7 @@ pub follow-whole : {L : Type 0} (meaning : L → LibraryMeaning) (old new : Core
 follow-whole meaning old new numbers follow legally =
     let on = legally.on in
     let drains = follow.drains in
-    let same : SameSetup old new = record { program_ = on.program_; items_ = on.items_; opening_ = on.opening_; library_ = on.library_ } in
+    let same : SameSetup old new = record { program_ = on.program_; plans_ = on.plans_; items_ = on.items_; opening_ = on.opening_; library_ = on.library_ } in
     record {
       legally = legally;
       whole = subst (λ s. IsWhole s new.entries) (sym (same-setup meaning old new same)) drains.whole;

@@ -1,5 +1,5 @@
 -- What a call reads. No promise cites it.
-use Rattle.std.specs.Prelude.{◌≡◌, ℕ, List, map, Option, Some, None}
+use Rattle.std.specs.Prelude.{◌≡◌, ℕ, List, [], map, Option, Some, None}
 use Rattle.std.specs.List.{slice_get}
 use Rattle.flux_values.specs.declared.meanings.Sig.{Sig}
 use Rattle.flux_values.specs.Cells.{CellMap}
@@ -34,6 +34,11 @@ IsSigIn meaning (Abstract cases) sig = ⊥
 abbrev pub IsSigOf : LibraryMeaning → Option Node → Sig → Type 0
 IsSigOf meaning None sig = ⊥
 IsSigOf meaning (Some node) sig = IsSigIn meaning node.body sig
+
+-- a node that declares no constraint uses no cell
+abbrev pub IsGuarded : LibraryMeaning → Program → ℕ → Type 0
+IsGuarded meaning p node = declared p node ≡ []
+    → (sig : Sig) → IsSigOf meaning (slice_get p.nodes node) sig → sig.cells ≡ []
 
 -- the cells that it uses in a session
 pub record AreRead (meaning : LibraryMeaning) (p : Program) (cells : Cells) (session node : ℕ) (read : List CellMap)

@@ -1,5 +1,5 @@
 -- What a table holds of a journal. No promise cites it.
-use Rattle.std.specs.Prelude.{◌≡◌, ◌<◌, ℕ, List, [], ◌∷◌, Option, Some, None, ⊤}
+use Rattle.std.specs.Prelude.{◌≡◌, ◌<◌, ◌⊎◌, ℕ, List, [], ◌∷◌, Option, Some, None, ⊤}
 use Rattle.std.specs.List.{Contains}
 use Rattle.flux_values.specs.declared.answers.Mode.{Mode}
 use Rattle.flux_model.specs.declared.journals.FlowNo.{FlowNo}
@@ -10,7 +10,7 @@ use Rattle.flux_model.specs.Waits.{StandsAt}
 use Rattle.flux_table.specs.declared.locks.Held.{Held}
 use Rattle.flux_table.specs.declared.locks.Waiter.{Waiter}
 use Rattle.flux_table.specs.Tables.{Locks, holders_of, lines_of}
-use Rattle.flux_table.specs.Changes.{one_more}
+use Rattle.flux_table.specs.Changes.{one_more, Takes, Releases}
 
 -- how a key is held in these modes, the latest first
 abbrev pub held_in : List Mode → Option Held
@@ -41,3 +41,12 @@ pub record IsLine (entries : List Entry) (key : Key) (line : List Waiter) : Type
 pub record IsTable (entries : List Entry) (locks : Locks) : Type 0 where
   pub holders : (key : Key) (flow : ℕ) → holders_of locks key flow ≡ held_in (modes_held entries flow key)
   pub lines : (key : Key) → IsLine entries key (lines_of locks key)
+
+-- a take was undone: the table is as it was, or the key was taken and given back
+pub record IsGivenBack (old new : Locks) (flow : ℕ) (key : Key) (mode : Mode) : Type 0 where
+  pub between : Locks
+  pub takes : Takes old between flow key mode
+  pub gives : Releases between new flow key
+
+abbrev pub IsUndone : Locks → Locks → ℕ → Key → Mode → Type 0
+IsUndone old new flow key mode = (new ≡ old) ⊎ IsGivenBack old new flow key mode

@@ -1,13 +1,11 @@
 -- What the loop keeps from entry to entry.
-use Rattle.std.specs.Prelude.{◌≡◌, ◌≢◌, ℕ, ◌+◌, ◌⊎◌, ⊤, Bool, true, false, List, ◌∷◌, [], ◌++◌, Option, Some, None}
-use Rattle.flux_values.specs.declared.answers.Mode.{Mode}
+use Rattle.std.specs.Prelude.{◌≡◌, ℕ, ◌+◌, ⊤, Bool, true, false, List, Option, Some, None}
 use Rattle.flux_model.specs.declared.journals.Entry.{Entry}
 use Rattle.flux_model.specs.declared.journals.Event.{Event}
 use Rattle.flux_model.specs.declared.journals.FlowNo.{FlowNo}
-use Rattle.flux_model.specs.declared.journals.Key.{Key}
 use Rattle.flux_model.specs.Setup.{Setup}
 use Rattle.flux_model.specs.Events.{IsLive}
-use Rattle.flow_waits.specs.Turns.{IsBefore, IsInLine, MakesMove}
+use Rattle.flow_waits.specs.Turns.{IsInLine, MakesMove}
 use Rattle.flow_waits.specs.Covers.{Pools, IsReady, Covers, IsChosen}
 use Rattle.rt_event.specs.Round.{EndsTurn}
 

@@ -1,7 +1,6 @@
-use Rattle.std.proofs.Common.{◌≡◌, ◌∙◌, ◌≤◌, ◌<◌, ◌+◌, ◌-◌, length, refl, sym, ap, subst, arith, ℕ}
+use Rattle.std.proofs.Common.{subst, arith, ℕ}
 use Rattle.flux_model.specs.Events.{IsLive}
 use Rattle.flow_core.specs.States.{setup_in}
-use Rattle.flux_laws.specs.Growth.{room_of, sum_below}
 use Rattle.flow_waits.proofs.Driving.{same-setup, same-then, same-itself, draining-none, draining-few, drained, turn-drains, turn-longer, turn-legal}
 use Rattle.flow_waits.proofs.draining.drain_by.Goals as goal
 
@@ -27,7 +26,7 @@ loop-candidates-preserved g c =
     let chosen = rw c.in-Some.is at c.in_ok-flow.ensures.first in (
       same-then c.args.core.now c.loop-candidates.core c.take_turn.new.core c.loop-candidates.invariant.0 c.take_turn.ensures.setup,
       turn-drains g.L.Meaning.meaning c.args.core.now c.loop-candidates.core c.take_turn.new.core c.first.new.self c.in-Some.flow c.in_ok-take_turn.field-0
-      c.loop-candidates.invariant.0 c.loop-candidates.invariant.1 chosen c.take_turn.ensures.setup c.in_ok-take_turn.ensures.ok,
+          c.loop-candidates.invariant.0 c.loop-candidates.invariant.1 chosen c.take_turn.ensures.setup c.in_ok-take_turn.ensures.ok,
       c.in_ok-told.ensures.covers,
     )
 

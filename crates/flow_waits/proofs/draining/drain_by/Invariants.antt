@@ -1,4 +1,4 @@
-use Rattle.std.proofs.Common.{◌+◌, ◌-◌, ◌≤◌, length}
+use Rattle.std.proofs.Common.{◌+◌, ◌-◌, length}
 use Rattle.flux_laws.specs.Growth.{room_of, sum_below}
 use Rattle.flow_core.specs.States.{setup_in}
 use Rattle.flow_waits.specs.Driven.{SameSetup}

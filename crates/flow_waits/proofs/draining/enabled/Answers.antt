@@ -1,4 +1,4 @@
-use Rattle.std.proofs.Common.{◌≡◌, sym, ◌∙◌, arith, true, false}
+use Rattle.std.proofs.Common.{sym, ◌∙◌, arith}
 use Rattle.std.proofs.lemmas.Bool.{false≢true}
 use Rattle.flow_core.specs.States.{setup_in}
 use Rattle.flow_waits.proofs.Lowest.{blocked-more, lowest-is, none-live}

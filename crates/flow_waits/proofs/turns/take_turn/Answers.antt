@@ -1,5 +1,4 @@
-use Rattle.std.proofs.Common.{◌≡◌, ◌∙◌, sym, ap, length}
-use Rattle.flow_waits.proofs.Turning.{ended-turn, line-turn, went-turn}
+use Rattle.flow_waits.proofs.Turning.{ended-turn, went-turn}
 use Rattle.flow_waits.proofs.turns.take_turn.Goals as goal
 
 pub returns-in-Ended-clause-ok : goal.returns-in-Ended-clause-ok

@@ -1,7 +1,6 @@
-use Rattle.std.proofs.Common.{◌∙◌, ◌+◌, ◌++◌, [], ℕ, List, Option, None, drop, ap, sym}
+use Rattle.std.proofs.Common.{◌∙◌, ◌+◌, ◌++◌, ℕ, List, Option, None, drop, ap, sym}
 use Rattle.std.specs.List.{flat_map}
 use Rattle.std.proofs.lemmas.List.{at_drop_more, at_drop_all}
-use Rattle.flux_syntax.specs.declared.declarations.Word.{Word}
 use Rattle.flux_syntax.specs.declared.declarations.Decl.{Decl}
 use Rattle.flux_syntax.specs.Least.{soonest}
 use Rattle.flux_syntax.proofs.Soonest.{soonest_append}

@@ -1,4 +1,4 @@
-use Rattle.std.proofs.Common.{◌∙◌, List, Option, set, ap, sym}
+use Rattle.std.proofs.Common.{◌∙◌, Option, set, ap, sym}
 use Rattle.flux_values.specs.declared.answers.Mode.{Mode}
 use Rattle.flux_names.specs.steps.Classes.{with_mode}
 use Rattle.flux_names.proofs.Canonical.{in_order_sorted}

@@ -1,4 +1,4 @@
-use Rattle.std.proofs.Common.{◌∙◌, ◌-◌, ℕ, List, length, min, drop, take, ap, sym}
+use Rattle.std.proofs.Common.{◌∙◌, ℕ, List, drop, ap, sym}
 use Rattle.std.specs.Borrow.{Bor}
 use Rattle.std.proofs.lemmas.List.{take_rest, drop_min, drop-map}
 use Rattle.flux_syntax.specs.declared.declarations.Word.{Word}

@@ -1,5 +1,4 @@
-use Rattle.std.proofs.Common.{◌≡◌, ◌<◌, [], ◌∷◌, true, length}
-use Rattle.flux_syntax.specs.Words.{known}
+use Rattle.std.proofs.Common.{◌≡◌, ◌<◌, [], ◌∷◌, length}
 use Rattle.flux_syntax.specs.ProgramOfText.{place_of}
 use Rattle.flux_names.specs.Rows.{not_among}
 use Rattle.flux_names.proofs.Numbers.{known_words, known_below}

@@ -1,7 +1,7 @@
 use Rattle.std.proofs.Common.{◌∙◌, ◌++◌, ℕ, List, [], get_or, ap, sym}
 use Rattle.std.specs.List.{flat_map}
 use Rattle.flux_syntax.specs.declared.declarations.Decl.{Decl}
-use Rattle.flux_names.specs.steps.Nodes.{handler_sites_in, handler_sites_from}
+use Rattle.flux_names.specs.steps.Nodes.{handler_sites_in}
 use Rattle.flux_names.proofs.Gathered.{sites_more}
 use Rattle.flux_names.proofs.programs.handlers_of.Goals as goal
 

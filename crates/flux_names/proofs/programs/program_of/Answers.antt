@@ -1,17 +1,14 @@
 use Rattle.std.proofs.Common.{◌≡◌, ◌∙◌, [], ℕ, List, length, map, ap, sym, subst, arith}
 use Rattle.std.specs.List.{flat_map, filter_map}
-use Rattle.std.specs.List.Sorted.{IsStrictlySortedBy}
 use Rattle.std.specs.Borrow.{Bor}
 use Rattle.std.proofs.lemmas.List.{length-map}
 use Rattle.flux_model.specs.declared.programs.Class.{Class}
 use Rattle.flux_model.specs.declared.programs.Node.{Node}
 use Rattle.flux_model.specs.declared.programs.SourceLine.{SourceLine}
-use Rattle.flux_model.specs.declared.programs.Program.{Program}
-use Rattle.flux_model.specs.Modes.{class_cmp}
 use Rattle.flux_syntax.specs.declared.declarations.Word.{Word}
 use Rattle.flux_syntax.specs.declared.declarations.Decl.{Decl}
 use Rattle.flux_syntax.specs.Words.{names_of, first_words, defined, function_of, texts_of}
-use Rattle.flux_syntax.specs.ProgramOfText.{constraints_of, classes_of, node_of, source_of, program_of}
+use Rattle.flux_syntax.specs.ProgramOfText.{constraints_of, classes_of, node_of, source_of}
 use Rattle.flux_names.specs.steps.Nodes.{lines_of, nodes_from, sources_in, unknown_in}
 use Rattle.flux_names.proofs.Symbols.{first_texts}
 use Rattle.flux_names.proofs.Canonical.{sorted_in_order, classes_in_order}

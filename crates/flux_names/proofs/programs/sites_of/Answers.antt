@@ -1,10 +1,9 @@
 use Rattle.std.proofs.Common.{◌≡◌, ◌∙◌, ℕ, List, length, map, ap, sym}
 use Rattle.std.specs.List.{flat_map, filter_map}
 use Rattle.std.proofs.lemmas.List.{length-map}
-use Rattle.flux_model.specs.declared.named.Sites.{Sites}
 use Rattle.flux_syntax.specs.declared.declarations.Decl.{Decl}
 use Rattle.flux_syntax.specs.Words.{names_of, first_words, sourced, targeted}
-use Rattle.flux_syntax.specs.ProgramOfText.{places, handler_place, sites_of}
+use Rattle.flux_syntax.specs.ProgramOfText.{places, handler_place}
 use Rattle.flux_names.specs.steps.Nodes.{lines_of, handler_sites_from}
 use Rattle.flux_names.proofs.Gathered.{handlers_are}
 use Rattle.flux_names.proofs.programs.sites_of.Goals as goal

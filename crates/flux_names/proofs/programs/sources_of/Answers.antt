@@ -1,13 +1,12 @@
-use Rattle.std.proofs.Common.{◌≡◌, ◌∙◌, ◌+◌, ◌++◌, [], ◌∷◌, List, drop, take, get_or, ap, sym}
+use Rattle.std.proofs.Common.{◌∙◌, ◌++◌, [], ◌∷◌, List, take, ap, sym}
 use Rattle.std.specs.List.{flat_map}
-use Rattle.std.proofs.lemmas.List.{at_drop_more, take_more}
+use Rattle.std.proofs.lemmas.List.{take_more}
 use Rattle.std.proofs.lemmas.List.Concat.{flat_map-append}
 use Rattle.std.proofs.lemmas.List.{append-nil}
 use Rattle.flux_model.specs.declared.programs.SourceLine.{SourceLine}
 use Rattle.flux_syntax.specs.declared.declarations.Decl.{Decl}
-use Rattle.flux_names.specs.Rows.{used_names, not_among}
-use Rattle.flux_names.specs.steps.Nodes.{sources_in, unknown_in}
-use Rattle.flux_names.proofs.Gathered.{nil_append, known_lines}
+use Rattle.flux_names.specs.steps.Nodes.{sources_in}
+use Rattle.flux_names.proofs.Gathered.{known_lines}
 use Rattle.flux_names.proofs.programs.sources_of.Goals as goal
 
 pub add_source-requires-clause-known : goal.add_source-requires-clause-known

@@ -1,7 +1,6 @@
 use Rattle.std.proofs.Common.{◌∙◌, ℕ, List, None, ap}
 use Rattle.std.specs.List.{flat_map}
 use Rattle.flux_syntax.specs.declared.declarations.Word.{Word}
-use Rattle.flux_syntax.specs.Words.{sourced}
 use Rattle.flux_syntax.specs.Words.{first_words}
 use Rattle.flux_syntax.specs.Least.{soonest}
 use Rattle.flux_names.specs.Rows.{among, not_among, used_names, inner_names, unknown_predicates_in, source_node, not_sources_in}

@@ -1,11 +1,11 @@
-use Rattle.std.proofs.Common.{◌≡◌, ◌∙◌, None, Some, List, ap, sym, subst}
+use Rattle.std.proofs.Common.{◌≡◌, ◌∙◌, None, List, ap, sym, subst}
 use Rattle.std.proofs.lemmas.Result.{err_from_is_err_and}
 use Rattle.flux_model.specs.Numbered.{IsNumbered}
 use Rattle.flux_syntax.specs.declared.declarations.Decl.{Decl}
 use Rattle.flux_syntax.specs.Least.{first_fault, IsLeastFault}
 use Rattle.flux_syntax.specs.ProgramOfText.{named_of}
 use Rattle.flux_names.specs.Rows.{rows}
-use Rattle.flux_names.proofs.Sound.{AreSound, sound, StandOnce, stand_once}
+use Rattle.flux_names.proofs.Sound.{sound, stand_once}
 use Rattle.flux_names.proofs.Numbers.{numbered}
 use Rattle.flux_names.proofs.resolving.resolve.Goals as goal
 

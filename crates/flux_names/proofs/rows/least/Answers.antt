@@ -3,7 +3,6 @@ use Rattle.std.specs.List.{flat_map}
 use Rattle.flux_syntax.specs.declared.declarations.Decl.{Decl}
 use Rattle.flux_syntax.specs.Least.{soonest}
 use Rattle.flux_names.specs.steps.Rows.{row_words}
-use Rattle.flux_names.proofs.Numbers.{numbered}
 use Rattle.flux_names.proofs.Stepwise.{soonest_more}
 use Rattle.flux_names.proofs.rows.least.Goals as goal
 

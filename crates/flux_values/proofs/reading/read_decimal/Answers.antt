@@ -1,4 +1,4 @@
-use Rattle.std.proofs.Common.{◌≡◌, ◌<◌, ◌≤◌, ◌^◌, get_or, arith}
+use Rattle.std.proofs.Common.{◌≡◌, ◌≤◌, get_or, arith}
 use Rattle.flux_values.proofs.Decimals.{decimal_taken, none_with_zero, none_read}
 use Rattle.flux_values.proofs.reading.read_decimal.Goals.{then-length-gt1+else-bytes-eq48, else-length-gt1}
 use Rattle.flux_values.proofs.reading.read_decimal.Goals as goal

@@ -1,4 +1,4 @@
-use Rattle.std.proofs.Common.{◌≡◌, ◌<◌, ◌≤◌, ◌+◌, length, ◌∷◌, [], inl, inr, refl, sym, ap, subst, rules, arith, get_or, take}
+use Rattle.std.proofs.Common.{◌≡◌, ◌<◌, ◌+◌, length, ◌∷◌, [], inl, inr, refl, sym, ap, subst, rules, arith, get_or, take}
 use Rattle.std.proofs.lemmas.List.{take_rest, length-append}
 use Rattle.flux_values.specs.Spellings.{OpensText}
 use Rattle.flux_values.proofs.TextsRead.{text_more, not_quote}

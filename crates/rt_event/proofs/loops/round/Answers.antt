@@ -1,5 +1,4 @@
-use Rattle.std.proofs.Common.{◌≡◌, ◌∙◌, ◌≤◌, ◌<◌, ◌+◌, ◌-◌, ℕ, length, refl, sym, ap, subst, arith, Option, None}
-use Rattle.flux_model.specs.declared.journals.FlowNo.{FlowNo}
+use Rattle.std.proofs.Common.{◌≡◌, ◌∙◌, ◌+◌, ℕ, sym, ap, subst, arith}
 use Rattle.flux_model.specs.Events.{IsLive}
 use Rattle.flow_core.specs.States.{setup_in}
 use Rattle.flow_waits.proofs.Driving.{same-setup, same-then, same-itself}
@@ -42,12 +41,12 @@ loop-candidates-preserved g c =
     ] in (
       same-then c.args.core.now c.loop-candidates.core c.own_turn.new.core c.loop-candidates.invariant.0 c.own_turn.ensures.setup,
       subst (IsRounding (setup_in g.L.Meaning.meaning c.args.core.now) c.args.core.now.entries c.own_turn.new.core.entries (c.in-Some.owner.0 + 1)) (sym turn)
-      (core-rounds g.L.Meaning.meaning c.args.core.now c.loop-candidates.core c.own_turn.new.core c.next_owner.new.candidates c.loop-candidates.from c.loop-candidates.on_turn c.in-Some.owner c.in_ok-ends.ends
-    c.loop-candidates.invariant.0 c.loop-candidates.invariant.1 (rw c.in-Some.is at c.in_ok-owner.ensures) c.own_turn.ensures.setup c.in_ok-ends.ensures.ok),
+          (core-rounds g.L.Meaning.meaning c.args.core.now c.loop-candidates.core c.own_turn.new.core c.next_owner.new.candidates c.loop-candidates.from c.loop-candidates.on_turn c.in-Some.owner c.in_ok-ends.ends
+          c.loop-candidates.invariant.0 c.loop-candidates.invariant.1 (rw c.in-Some.is at c.in_ok-owner.ensures) c.own_turn.ensures.setup c.in_ok-ends.ensures.ok),
       subst (Stays (setup_in g.L.Meaning.meaning c.own_turn.new.core) c.own_turn.new.core.entries c.told.new.self (c.in-Some.owner.0 + 1)) (sym turn)
-      (core-stays g.L.Meaning.meaning c.args.core.now c.loop-candidates.core c.own_turn.new.core c.next_owner.new.candidates c.loop-candidates.from c.loop-candidates.on_turn c.in-Some.owner c.in_ok-ends.ends
-    c.loop-candidates.invariant.0 c.loop-candidates.invariant.1 (rw c.in-Some.is at c.in_ok-owner.ensures) c.own_turn.ensures.setup c.in_ok-ends.ensures.ok
-      c.told.new.self c.in_ok-told.ensures.ready c.in_ok-told.ensures.covers),
+          (core-stays g.L.Meaning.meaning c.args.core.now c.loop-candidates.core c.own_turn.new.core c.next_owner.new.candidates c.loop-candidates.from c.loop-candidates.on_turn c.in-Some.owner c.in_ok-ends.ends
+          c.loop-candidates.invariant.0 c.loop-candidates.invariant.1 (rw c.in-Some.is at c.in_ok-owner.ensures) c.own_turn.ensures.setup c.in_ok-ends.ensures.ok
+          c.told.new.self c.in_ok-told.ensures.ready c.in_ok-told.ensures.covers),
     )
 
 pub returns-clause-ok : goal.returns-clause-ok

@@ -1,7 +1,6 @@
-use Rattle.std.proofs.Common.{◌≡◌, ◌<◌, ◌≤◌, ◌∙◌, sym, ap, subst, length, true, false}
+use Rattle.std.proofs.Common.{◌∙◌, sym, ap, subst}
 use Rattle.flow_core.specs.States.{setup_in}
 use Rattle.flow_waits.specs.Waking.{IsEarliest, IsLess}
-use Rattle.flow_waits.specs.Covers.{Covers}
 use Rattle.flow_waits.proofs.Choosing.{chosen, none_left, without_ended, parked}
 use Rattle.flow_waits.proofs.Ending.{live-is}
 use Rattle.flow_waits.proofs.Turning.{ended-over}
@@ -31,8 +30,11 @@ loop-number-preserved g c =
 pub returns-in-None-clause-first : goal.returns-in-None-clause-first
 returns-in-None-clause-first g c =
     chosen (setup_in g.L.Meaning.meaning c.args.core.now) c.args.core.now.entries c.loop-number.self c.args.from c.loop-number.invariant c.in-Some.number (subst (λ pools. IsEarliest pools.ready c.args.from c.in-Some.number) c.self.view_is c.in-Some.ensures)
-    (record { live = live-is (setup_in g.L.Meaning.meaning c.args.core.now) c.args.core.now.entries c.in-Some.number (c.loop-number.invariant.exist c.in-Some.number (let e = subst (λ pools. IsEarliest pools.ready c.args.from c.in-Some.number) c.self.view_is c.in-Some.ensures in e.is))
-    (sym c.is_ended.ensures ∙ c.if-is_ended.false); free = c.in-None.ensures })
+    (record {
+      live = live-is (setup_in g.L.Meaning.meaning c.args.core.now) c.args.core.now.entries c.in-Some.number (c.loop-number.invariant.exist c.in-Some.number (let e = subst (λ pools. IsEarliest pools.ready c.args.from c.in-Some.number) c.self.view_is c.in-Some.ensures in e.is))
+          (sym c.is_ended.ensures ∙ c.if-is_ended.false);
+      free = c.in-None.ensures;
+    })
 
 pub returns-clause-first : goal.returns-clause-first
 returns-clause-first g c =

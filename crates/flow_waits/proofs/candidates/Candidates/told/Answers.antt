@@ -1,4 +1,4 @@
-use Rattle.std.proofs.Common.{◌≡◌, ◌∙◌, sym, ap, subst}
+use Rattle.std.proofs.Common.{◌∙◌, sym}
 use Rattle.std.proofs.lemmas.Result.{on_ok_weaker}
 use Rattle.flow_core.specs.States.{setup_in}
 use Rattle.flow_waits.proofs.Told.{told-take, told-drop, drop-ready, told-other, last-event}

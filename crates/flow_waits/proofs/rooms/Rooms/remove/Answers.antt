@@ -1,4 +1,4 @@
-use Rattle.std.proofs.Common.{◌≡◌, ◌∙◌, sym, ap, subst, refl, IsSome, Some, None}
+use Rattle.std.proofs.Common.{◌≡◌, ◌∙◌, ap, subst, refl, IsSome, Some, None}
 use Rattle.flow_waits.specs.Waking.{IsLessAt, room_at}
 use Rattle.flow_waits.proofs.Keyed.{changed_is, room_is, less_at, none_less}
 use Rattle.flow_waits.proofs.rooms.Rooms.remove.Goals as goal

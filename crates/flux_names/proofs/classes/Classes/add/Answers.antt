@@ -1,4 +1,4 @@
-use Rattle.std.proofs.Common.{◌≡◌, ◌≤◌, ◌∙◌, ℕ, Bool, List, length, map, not, ap, sym, subst}
+use Rattle.std.proofs.Common.{◌≤◌, ◌∙◌, ℕ, Bool, List, length, map, not, ap}
 use Rattle.std.specs.Borrow.{Bor}
 use Rattle.flux_model.specs.declared.programs.Class.{Class}
 use Rattle.flux_syntax.specs.ProgramOfText.{insert_class}

@@ -1,6 +1,5 @@
-use Rattle.std.proofs.Common.{◌∙◌, [], ℕ, List, take, map, replicate, ap, sym, subst}
+use Rattle.std.proofs.Common.{◌∙◌, [], ℕ, replicate, ap, sym, subst}
 use Rattle.std.specs.Str.{bytes_eq}
-use Rattle.flux_syntax.specs.declared.declarations.Decl.{Decl}
 use Rattle.flux_names.specs.steps.Nodes.{subject, with_line}
 use Rattle.flux_names.proofs.Symbols.{AreApart, names_apart}
 use Rattle.flux_names.proofs.Gathered.{no_lines, line_gathered}

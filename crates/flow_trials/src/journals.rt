@@ -1,0 +1,54 @@
+//! A journal's text, printed and read back again and again.
+
+ghost use Rattle.flux_model.specs.Names.{IsNamed};
+ghost use Rattle.flux_model.specs.Numbered.{IsNumbered};
+
+use crate::troubles::Trouble;
+use flux_hoist::Checked;
+use flux_journal::{JournalFault, print_journal, read_journal};
+use flux_model::Journal;
+use flux_values::{Bytes, Memory};
+use std::alloc::Global;
+
+/// The journal's text, printed so many times, and at least once.
+pub fn print_again(
+    alloc: Global,
+    checked: &Checked,
+    journal: &Journal,
+    times: u32,
+) -> Result<Bytes, Memory> {
+    let mut text = print_journal(alloc, &checked.program, journal)?;
+    for _ in 1..times {
+        text = print_journal(alloc, &checked.program, journal)?;
+    }
+    Ok(text)
+}
+
+fn read(alloc: Global, checked: &Checked, text: &[u8]) -> Result<Journal, Trouble>
+    requires numbered { IsNumbered checked.now.program }
+    requires named { IsNamed checked.now.program }
+{
+    match read_journal(alloc, &checked.program, text) {
+        Ok(journal) => Ok(journal),
+        Err(JournalFault::BadLine { .. }) => Err(Trouble::Journal),
+        Err(JournalFault::Memory) => Err(Trouble::Memory),
+    }
+}
+
+/// Reads a journal's text so many times. What was read last has the same text.
+pub fn read_again(alloc: Global, checked: &Checked, text: &[u8], times: u32) -> Result<(), Trouble>
+    requires numbered { IsNumbered checked.now.program }
+    requires named { IsNamed checked.now.program }
+{
+    for _ in 1..times {
+        drop(read(alloc, checked, text)?);
+    }
+    if times > 0 {
+        let journal = read(alloc, checked, text)?;
+        let again = print_journal(alloc, &checked.program, &journal)?;
+        if again.as_bytes() != text {
+            return Err(Trouble::Journal);
+        }
+    }
+    Ok(())
+}

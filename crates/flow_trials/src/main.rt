@@ -1,0 +1,128 @@
+//! The program `flow_trials`: drives a core by its calls, without any runtime, for the benches.
+//!
+//! `core N` drives N flows to their ends, and prints how many flows and events there are. `journal N P R` makes their
+//! journal's text P times and reads it R times, and prints how many events and bytes there are. `text N` prints that text.
+#![tactic(auto)]
+
+mod building;
+mod journals;
+#[cfg(test)]
+mod tests;
+mod troubles;
+mod turns;
+
+use building::{Given, checked_of, core_of};
+use flow_core::Core;
+use flux_values::List;
+use journals::{print_again, read_again};
+use nodes_counter::Counter;
+use std::alloc::Global;
+use std::env;
+use std::io::Write;
+use std::process::ExitCode;
+use troubles::Trouble;
+use turns::drive;
+
+/// Nested flows with cases, readers, writers and sessions: 23 events for a number, and 9 for 0.
+const PROGRAM: &[u8] =
+    b"Tick () => (int n);\nPass (int n) => (int n);\nAdd (int n) => (int n);\nBump (int n) => (int n);\ntypedef zero IsZero;\nsource Tick => Load;\nsession Tick => ByNumber;\nLoad:[zero] = Pass;\nLoad:[_] = Visit -> Add;\nVisit = Bump;\natomic Load:{aisle?};\natomic Visit:{zone?};\natomic Bump:{visits(session)};\natomic Add:{counter};\n";
+
+/// The words behind the program's own name.
+#[derive(Clone, Copy)]
+enum Words {
+    Core { flows: u32 },
+    Journal { flows: u32, prints: u32, reads: u32 },
+    Text { flows: u32 },
+}
+
+fn number(word: &str) -> Result<u32, Trouble> {
+    word.parse::<u32>().map_err(|_| Trouble::Words)
+}
+
+fn read_words(words: &[String]) -> Result<Words, Trouble> {
+    match words {
+        [_, core, flows] if core.as_str() == "core" => Ok(Words::Core {
+            flows: number(flows.as_str())?,
+        }),
+        [_, journal, flows, prints, reads] if journal.as_str() == "journal" => Ok(Words::Journal {
+            flows: number(flows.as_str())?,
+            prints: number(prints.as_str())?,
+            reads: number(reads.as_str())?,
+        }),
+        [_, text, flows] if text.as_str() == "text" => Ok(Words::Text {
+            flows: number(flows.as_str())?,
+        }),
+        _ => Err(Trouble::Words),
+    }
+}
+
+/// The numbers of so many flows: each is seven more than the one before, without its tens.
+fn given(alloc: Global, flows: u32) -> Result<List<Given>, Trouble> {
+    let mut all = List::new(alloc);
+    for flow in 0..flows {
+        all.add(Given {
+            source: 0,
+            number: (3 + 7 * flow as i64) % 10,
+        })?;
+    }
+    Ok(all)
+}
+
+/// The core of so many flows that have ended.
+fn driven(alloc: Global, flows: u32) -> Result<Core<Counter>, Trouble> {
+    let given = given(alloc, flows)?;
+    let mut core = core_of(alloc, PROGRAM, given.as_slice(), Counter)?;
+    drive(alloc, &mut core)?;
+    if core.live() == 0 {
+        Ok(core)
+    } else {
+        Err(Trouble::Text)
+    }
+}
+
+fn answer_core(rt: &HostRuntime, flows: u32) -> Result<(), Trouble> {
+    let core = driven(rt.alloc(), flows)?;
+    println!(rt; "flows {flows} events {}", core.journal().entries.len())?;
+    Ok(())
+}
+
+fn answer_journal(rt: &HostRuntime, flows: u32, prints: u32, reads: u32) -> Result<(), Trouble> {
+    let core = driven(rt.alloc(), flows)?;
+    let checked = checked_of(rt.alloc(), PROGRAM, &Counter)?;
+    let text = print_again(rt.alloc(), &checked, core.journal(), prints)?;
+    read_again(rt.alloc(), &checked, text.as_bytes(), reads)?;
+    println!(rt;
+        "events {} bytes {}",
+        core.journal().entries.len(),
+        text.as_bytes().len()
+    )?;
+    Ok(())
+}
+
+fn answer_text(rt: &HostRuntime, flows: u32) -> Result<(), Trouble> {
+    let core = driven(rt.alloc(), flows)?;
+    let checked = checked_of(rt.alloc(), PROGRAM, &Counter)?;
+    let text = print_again(rt.alloc(), &checked, core.journal(), 1)?;
+    rt.stdout().write_all(text.as_bytes())?;
+    Ok(())
+}
+
+fn answer(rt: &HostRuntime) -> Result<(), Trouble> {
+    let words: Vec<String> = env::args(rt)?.collect(rt.alloc())?;
+    match read_words(words.as_slice())? {
+        Words::Core { flows } => answer_core(rt, flows),
+        Words::Journal {
+            flows,
+            prints,
+            reads,
+        } => answer_journal(rt, flows, prints, reads),
+        Words::Text { flows } => answer_text(rt, flows),
+    }
+}
+
+fn main(rt: HostRuntime) -> ExitCode {
+    match answer(&rt) {
+        Ok(()) => ExitCode::SUCCESS,
+        Err(trouble) => ExitCode::from(trouble.code()),
+    }
+}

@@ -1,0 +1,142 @@
+//! A journal read.
+
+ghost use Rattle.std.specs.Prelude.{◌≡◌, ◌<◌, ◌≤◌, ◌^◌, ◌↔◌, ℕ, IsTrue, IfSome, IfNone, Ok, Err, length};
+ghost use Rattle.flux_model.specs.declared.journals.Journal.{Journal};
+ghost use Rattle.flux_model.specs.Names.{IsNamed};
+ghost use Rattle.flux_model.specs.Texts.{printed_journal};
+ghost use Rattle.flux_model.specs.Numbered.{IsNumbered};
+ghost use Rattle.flux_journal.specs.declared.faults.JournalFault.TheVariants as faults;
+ghost use Rattle.flux_journal.specs.Formats.{printed_journal_2};
+ghost use Rattle.flux_journal.specs.Entries.{AreEntriesOf};
+ghost use Rattle.flux_journal.specs.Journals.{lines_of, is_headed, ReadsAs, IsBadLine, HasCause, IsOrMemory};
+ghost use Rattle.flux_journal.specs.steps.Lines.{IsFirstLine, IsHeadFor, AreEntriesRead};
+
+use crate::cuts::{behind, cut, read_number};
+use crate::faults::{JournalFault, LineFault};
+use crate::lines::Reader;
+use flux_model::{Journal, Program};
+use flux_values::List;
+use std::alloc::Global;
+
+/// The first line of a text, and what stands behind its LF.
+fn split_line(text: &[u8]) -> (&[u8], &[u8])
+    requires { 0 < length text.now }
+    ensures { IsFirstLine text.now result.0.now result.1.now }
+{
+    match cut(b'\n', text) {
+        Some(parts) => parts,
+        None => (text, &[]),
+    }
+}
+
+/// How many lines a text has.
+fn count_lines(text: &[u8]) -> u64
+    ensures { result ≡ length (lines_of text.now) }
+{
+    let mut rest = text;
+    let mut count = 0;
+    'lines: while !rest.is_empty() {
+        let (_, behind) = split_line(rest);
+        count += 1;
+        rest = behind;
+    }
+    count
+}
+
+/// The number of events that a head line tells.
+fn read_head(line: &[u8]) -> Option<u64>
+    ensures found { IfSome result (IsHeadFor line.now) }
+    ensures none { IfNone result ((events : ℕ) → IsHeadFor line.now events → ⊥) }
+{
+    let counts = behind(b"flux journal 2 flows ", line)?;
+    let (flows, rest) = cut(b' ', counts)?;
+    let number = behind(b"events ", rest)?;
+    let _flows = read_number(flows, u64::from(u32::MAX))?;
+    read_number(number, u64::MAX)
+}
+
+/// Whether a line is a head line for so many events.
+fn is_head(line: &[u8], events: u64) -> bool
+    ensures { IsTrue result ↔ IsHeadFor line.now events }
+{
+    match read_head(line) {
+        Some(told) => told == events,
+        None => false,
+    }
+}
+
+/// The entries of lines, the first of which has this number.
+fn read_entries(
+    alloc: Global,
+    program: &Program,
+    text: &[u8],
+    first: u64,
+) -> Result<Journal, JournalFault>
+    requires numbered { IsNumbered program.now }
+    requires named { IsNamed program.now }
+    requires first { first ≤ 2 }
+    ensures { AreEntriesRead program.now (lines_of text.now) first result }
+{
+    let reader = Reader::new(alloc, program)?;
+    let mut entries = List::new(alloc);
+    let mut number = first;
+    let mut rest = text;
+    'lines: while !rest.is_empty() {
+        let (line, behind) = split_line(rest);
+        match reader.entry(line) {
+            Ok(entry) => entries.add(entry)?,
+            Err(LineFault::BadLine) => return Err(JournalFault::BadLine { line: number }),
+            Err(LineFault::Memory) => return Err(JournalFault::Memory),
+        }
+        number += 1;
+        rest = behind;
+    }
+    Ok(Journal { entries })
+}
+
+/// Whether a text is of format 2.
+fn is_headed(text: &[u8]) -> bool
+    ensures { result ≡ is_headed text.now }
+{
+    text.starts_with(b"flux journal".as_slice())
+}
+
+/// The journal that a text reads as, in either format, or its first bad line.
+///
+/// A text that begins with `flux journal` is of format 2. Its first line is the head line, with the number
+/// of the lines after it. Each other line spells an entry; the last may lack its LF.
+pub fn read_journal(alloc: Global, program: &Program, bytes: &[u8]) -> Result<Journal, JournalFault>
+    requires numbered { IsNumbered program.now }
+    requires named { IsNamed program.now }
+    // Each answer has its cause.
+    ensures cause { HasCause program.now bytes.now result }
+    // Each cause has its answer, but for want of memory.
+    ensures journal { (journal : Journal) → ReadsAs program.now bytes.now journal
+        → IsOrMemory (Ok journal) result }
+    ensures bad { (line : ℕ) → IsBadLine program.now bytes.now line
+        → IsOrMemory (Err (faults.BadLine line)) result }
+    // The printed texts of a journal of the program's entries are read as that journal.
+    ensures again { (journal : Journal) → AreEntriesOf program.now journal.entries
+        → bytes.now ≡ printed_journal program.now journal → IsOrMemory (Ok journal) result }
+    ensures again_2 { (journal : Journal) (flows : ℕ) → AreEntriesOf program.now journal.entries
+        → length journal.entries < 2 ^ 64 → flows < 2 ^ 32
+        → bytes.now ≡ printed_journal_2 program.now flows journal → IsOrMemory (Ok journal) result }
+{
+    read_all(alloc, program, bytes)
+}
+
+fn read_all(alloc: Global, program: &Program, bytes: &[u8]) -> Result<Journal, JournalFault>
+    requires numbered { IsNumbered program.now }
+    requires named { IsNamed program.now }
+    ensures { HasCause program.now bytes.now result }
+{
+    if !is_headed(bytes) {
+        return read_entries(alloc, program, bytes, 1);
+    }
+    let (head, rest) = split_line(bytes);
+    if is_head(head, count_lines(rest)) {
+        read_entries(alloc, program, rest, 2)
+    } else {
+        Err(JournalFault::BadLine { line: 1 })
+    }
+}
