@@ -67,7 +67,8 @@ fn open<L: Library>(
 ) -> Result<Core<L>, Memory>
     requires can { CanRun (L.meaning (arc_value library)) (arc_value program) items }
     requires plans { ArePlansOf (arc_value program) plans }
-    ensures { IfOk result (λ core. core ≡ opened (arc_value program) items [] (arc_value library)) }
+    ensures { IfOk result (λ core. core ≡ opened (arc_value program) plans items []
+        (arc_value library)) }
 {
     let plans = Arc::new(alloc, plans)?;
     let setup = Setup {
