@@ -18,7 +18,7 @@ use std::process::Abort;
 use std::test::Fail;
 
 /// Programs with nested flows, handlers, cases, readers, writers and sessions.
-const PROGRAMS: [Flows; 10] = [
+const PROGRAMS: &[Flows] = &[
     Flows {
         lines: "source Tick => A; source Tick_2 => C; A = Pass_b; C = Pass_d; atomic A:{x}; atomic Pass_b:{y}; atomic C:{y}; atomic Pass_d:{x};",
         given: &[(0, 1), (1, 2), (1, 3), (0, 4), (1, 5), (0, 6)],
@@ -67,7 +67,7 @@ const PROGRAMS: [Flows; 10] = [
     },
 ];
 
-const SEEDS: [u64; 3] = [1, 2_027, 88_468];
+const SEEDS: &[u64] = &[1, 2_027, 88_468];
 
 /// The next of a row of numbers.
 fn next_seed(seed: u64) -> u64 {
@@ -143,7 +143,7 @@ fn assert_wanders(rt: &impl Abort, alloc: Global, flows: Flows, seed: u64) -> Re
 fn flows_exclude_each_other_and_end_in_any_order_of_moves(rt: HostRuntime) -> Result<(), Fail> {
     for flows in PROGRAMS {
         for seed in SEEDS {
-            assert_wanders(&rt, rt.alloc(), flows, seed)?;
+            assert_wanders(&rt, rt.alloc(), *flows, *seed)?;
         }
     }
     Ok(())
