@@ -12,9 +12,10 @@ use Rattle.flux_laws.specs.Going.{IsBlocked}
 use Rattle.flux_laws.specs.Growth.{has_ended, sum_below}
 use Rattle.flow_core.specs.States.{CoreState, setup_in}
 
--- the same program, items, opening cells and library, and some entries more, or none
+-- the same program, plans, items, opening cells and library, and some entries more, or none
 pub record GoesOn {L : Type 0} (old new : CoreState L) : Type 0 where
   pub program_ : new.program ≡ old.program
+  pub plans_ : new.plans ≡ old.plans
   pub items_ : new.items ≡ old.items
   pub opening_ : new.opening ≡ old.opening
   pub library_ : new.library ≡ old.library

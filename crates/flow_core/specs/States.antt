@@ -30,6 +30,7 @@ use Rattle.flux_model.specs.Legal.{IsLegal}
 use Rattle.flux_laws.specs.Hoisted.{locks_of}
 use Rattle.flux_laws.specs.Calls.{cells_read}
 use Rattle.flux_plan.specs.declared.plans.Plan.{Plan}
+use Rattle.flux_plan.specs.contracts.plans.Plan as plan
 use Rattle.flux_plan.specs.Runs.{ArePlansOf}
 use Rattle.flux_cells.specs.Kept.{Kept, cells_of}
 use Rattle.flow_core.specs.declared.calls.Inputs.{Inputs}
@@ -40,6 +41,7 @@ use Rattle.flow_core.specs.contracts.calls.Inputs as inputs
 -- a core: what its flows run in, its journal, the call that each flow has begun, and the flag
 pub record CoreState (L : Type 0) : Type 0 where
   pub program : Program
+  pub plans : List Plan
   pub items : List Item
   pub opening : Kept
   pub library : L
@@ -65,20 +67,22 @@ pub record DoneState (L : Type 0) : Type 0 where
 -- their codes, as pairs
 abbrev pub core_code : {L : Type 0} → Coded L → Coded (CoreState L)
 core_code {L} library = code_by
-    (Program × (List Item × (Kept × (L × (List Entry × (List (Option Inputs) × Bool))))))
-    (coded× program.the_row.coded (coded× (coded_list item.the_row.coded)
+    (Program × (List Plan × (List Item × (Kept × (L × (List Entry × (List (Option Inputs) × Bool)))))))
+    (coded× program.the_row.coded (coded× (coded_list plan.the_row.coded)
+    (coded× (coded_list item.the_row.coded)
     (coded× (coded_list (coded× key.the_row.coded cell.the_row.coded)) (coded× library
     (coded× (coded_list entry.the_row.coded)
-    (coded× (coded_list (coded_option inputs.the_row.coded)) coded_bool))))))
-    (λ c. (c.program, (c.items, (c.opening, (c.library, (c.entries, (c.begun, c.halted)))))))
+    (coded× (coded_list (coded_option inputs.the_row.coded)) coded_bool)))))))
+    (λ c. (c.program, (c.plans, (c.items, (c.opening, (c.library, (c.entries, (c.begun, c.halted))))))))
     (λ t. record {
       program = t.0;
-      items = t.1.0;
-      opening = t.1.1.0;
-      library = t.1.1.1.0;
-      entries = t.1.1.1.1.0;
-      begun = t.1.1.1.1.1.0;
-      halted = t.1.1.1.1.1.1;
+      plans = t.1.0;
+      items = t.1.1.0;
+      opening = t.1.1.1.0;
+      library = t.1.1.1.1.0;
+      entries = t.1.1.1.1.1.0;
+      begun = t.1.1.1.1.1.1.0;
+      halted = t.1.1.1.1.1.1.1;
     })
     (λ _. refl)
 
@@ -118,9 +122,10 @@ abbrev pub begun_by : {L : Type 0} → CoreState L → ℕ → Option Inputs
 begun_by core flow = option_flatten (slice_get core.begun flow)
 
 -- a core whose flows have done nothing
-abbrev pub opened : {L : Type 0} → Program → List Item → Kept → L → CoreState L
-opened program items opening library = record {
+abbrev pub opened : {L : Type 0} → Program → List Plan → List Item → Kept → L → CoreState L
+opened program plans items opening library = record {
   program = program;
+  plans = plans;
   items = items;
   opening = opening;
   library = library;
@@ -176,14 +181,15 @@ pub record IsBegun (setup : Setup) (entries : List Entry) (flow : ℕ) (inputs :
   pub next : CallIsNext setup entries flow inputs.node inputs.args
   pub cells_ : inputs.cells ≡ cells_read setup flow inputs.node.0 entries
 
--- at every moment: the program is sound for its lawful library, the items have their sources' kinds, the journal is
--- legal, and each begun call is its flow's next
+-- at every moment: the program is sound for its lawful library and has these plans, the items have their sources'
+-- kinds, the journal is legal, and each begun call is its flow's next
 pub record IsKept {L : Type 0} (meaning : L → LibraryMeaning) (core : CoreState L) : Type 0 where
   pub lawful : IsLawful (meaning core.library)
   pub kinds : ℕ → NodeKinds
   pub sound : IsSound (meaning core.library) core.program kinds
   pub fit : AllByRecursion (IsItemFor core.program kinds) core.items
   pub few : length core.items ≤ 4096
+  pub plans_ : ArePlansOf core.program core.plans
   pub legal : IsLegal (setup_in meaning core) core.entries
   pub each : length core.begun ≡ length core.items
   pub calls : (flow : ℕ) (inputs : Inputs) → begun_by core flow ≡ Some inputs

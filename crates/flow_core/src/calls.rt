@@ -1,10 +1,11 @@
 //! Calls that are begun: what they are given, and what they answer.
 
-ghost use Rattle.std.specs.Prelude.{◌≡◌, IfOk};
-ghost use Rattle.flow_core.specs.States.{IsAnswerOf};
+ghost use Rattle.std.specs.Prelude.{◌≡◌, IfOk, option_map};
+ghost use Rattle.std.specs.Arc.{arc_value};
+ghost use Rattle.flow_core.specs.States.{library_name, IsReady, IsAnswerOf};
 
 use flux_library::Library;
-use flux_model::{FlowNo, NodeNo, Program};
+use flux_model::{Body, FlowNo, NodeNo, Program};
 use flux_values::{Answer, Cell, List, Memory, Value};
 use std::alloc::Global;
 use std::marker::Model;
@@ -34,6 +35,41 @@ impl Model for Begun {
     ghost coded = { inputs.the_row.coded };
 
     ghost view = { λ b. arc_value b.shared };
+}
+
+impl Begun {
+    pub fn new(alloc: Global, inputs: Inputs) -> Result<Begun, Memory>
+        ensures { IfOk result (λ begun. begun ≡ inputs) }
+    {
+        Ok(Begun {
+            shared: Arc::new(alloc, inputs)?,
+        })
+    }
+
+    /// The same call once more.
+    pub fn share(&self) -> Result<Begun, Memory>
+        ensures { IfOk result (λ begun. begun ≡ self.now) }
+    {
+        Ok(Begun {
+            shared: Arc::try_clone(&self.shared)?,
+        })
+    }
+
+    pub fn as_inputs(&self) -> &Inputs
+        ensures { result.now ≡ self.now }
+    {
+        &self.shared
+    }
+}
+
+/// The library name of a concrete node.
+pub fn library_name(p: &Program, node: NodeNo) -> Option<&[u8]>
+    ensures { option_map (λ name. name.now) result ≡ library_name p.now node }
+{
+    match &p.nodes.get(node.0 as usize)?.body {
+        Body::Concrete(name) => Some(name.as_bytes()),
+        Body::Abstract(_) => None,
+    }
 }
 
 /// A begun call, to be run wherever its runtime likes.
@@ -89,7 +125,32 @@ impl<L: Library> Model for CallDone<L> {
       library = arc_value d.library;
     } };
 
-    ghost invariant = { λ d. IsAnswerOf (L.meaning (arc_value d.library)) (arc_value d.program) d.begun d.answer };
+    ghost invariant = { λ d.
+        IsAnswerOf (L.meaning (arc_value d.library)) (arc_value d.program) d.begun d.answer };
+}
+
+impl<L: Library> Job<L> {
+    pub(crate) fn new(
+        flow: FlowNo,
+        begun: &Begun,
+        program: &Arc<Program>,
+        library: &Arc<L>,
+    ) -> Result<Job<L>, Memory>
+        requires { IsReady (L.meaning (arc_value library.now)) (arc_value program.now) begun.now }
+        ensures { IfOk result (λ job. job ≡ record {
+          flow = flow;
+          inputs = begun.now;
+          program = arc_value program.now;
+          library = arc_value library.now;
+        }) }
+    {
+        Ok(Job {
+            flow,
+            begun: begun.share()?,
+            program: Arc::try_clone(program)?,
+            library: Arc::try_clone(library)?,
+        })
+    }
 }
 
 impl<L: Library> Job<L> {
@@ -118,13 +179,43 @@ impl<L: Library> Job<L> {
     }
 
     /// Makes the call.
-    pub fn run(&self, _alloc: Global) -> Result<CallDone<L>, Memory>
+    pub fn run(&self, alloc: Global) -> Result<CallDone<L>, Memory>
         ensures flow { IfOk result (λ done. done.flow ≡ self.now.flow) }
         ensures inputs { IfOk result (λ done. done.inputs ≡ self.now.inputs) }
         ensures program { IfOk result (λ done. done.program ≡ self.now.program) }
         ensures library { IfOk result (λ done. done.library ≡ self.now.library) }
     {
-        Err(Memory)
+        let inputs = self.begun.as_inputs();
+        let Some(name) = library_name(&self.program, inputs.node) else {
+            unreachable!()
+        };
+        let answer = self.library.call(
+            alloc,
+            name,
+            inputs.args.as_slice(),
+            inputs.cells.as_slice(),
+        )?;
+        Ok(CallDone {
+            flow: self.flow,
+            begun: self.begun.share()?,
+            answer,
+            program: Arc::try_clone(&self.program)?,
+            library: Arc::try_clone(&self.library)?,
+        })
+    }
+}
+
+impl<L: Library> CallDone<L> {
+    pub(crate) fn flow(&self) -> FlowNo
+        ensures { result ≡ self.now.flow }
+    {
+        self.flow
+    }
+
+    pub(crate) fn inputs(&self) -> &Inputs
+        ensures { result.now ≡ self.now.inputs }
+    {
+        self.begun.as_inputs()
     }
 }
 

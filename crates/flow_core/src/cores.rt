@@ -65,14 +65,15 @@ impl<L: Library> Model for Core<L> {
 
 impl<L: Library> Core<L> {
     /// Flows that have done nothing.
-    pub fn new(_alloc: Global, setup: Setup<L>) -> Result<Core<L>, Memory>
+    pub fn new(alloc: Global, setup: Setup<L>) -> Result<Core<L>, Memory>
         requires { MayRun (L.meaning (arc_value setup.library)) (arc_value setup.program)
             (arc_value setup.plans) setup.items }
-        ensures { IfOk result (λ core. core ≡ opened (arc_value setup.program) setup.items setup.opening
-            (arc_value setup.library)) }
+        ensures { IfOk result (λ core. core ≡ opened (arc_value setup.program) (arc_value setup.plans)
+            setup.items setup.opening (arc_value setup.library)) }
     {
-        drop(setup);
-        Err(Memory)
+        Ok(Core {
+            running: Running::new(alloc, setup)?,
+        })
     }
 
     /// Lets a flow do what comes next.
@@ -82,8 +83,7 @@ impl<L: Library> Core<L> {
         ensures each { IfOk result (ComesWherever L.meaning self.old flow) }
         ensures err { OnErr result (self.new ≡ self.old) }
     {
-        let _ = flow;
-        Err(Memory)
+        self.running.step(flow)
     }
 
     /// Takes the answer of a begun call, which may have been made anywhere.
@@ -95,8 +95,13 @@ impl<L: Library> Core<L> {
             done.now.answer) }
         ensures err { OnErr result (self.new ≡ self.old) }
     {
-        let _ = done;
-        Err(Memory)
+        let flow = done.flow();
+        let inputs = done.inputs();
+        if !self.running.has_begun(flow, inputs)? {
+            return Ok(Finish::Late);
+        }
+        self.running.answer(flow, inputs, done.answer())?;
+        Ok(Finish::Went)
     }
 
     /// The call that a flow has begun, once more.
@@ -105,8 +110,7 @@ impl<L: Library> Core<L> {
         ensures { IfOk result (λ job. job
             ≡ option_map (job_of L.meaning self.now self.now flow) (begun_by self.now flow.0)) }
     {
-        let _ = flow;
-        Err(Memory)
+        self.running.recall(flow)
     }
 }
 
@@ -129,9 +133,7 @@ impl<L: Library> Core<L> {
         requires { flow.0 < length self.now.items }
         ensures { result ≡ has_ended self.now.entries flow.0 }
     {
-        let _ = &self.running.live;
-        let _ = flow;
-        unreachable!()
+        self.running.is_ended(flow)
     }
 
     pub fn blocked(&self, flow: FlowNo) -> bool
@@ -147,9 +149,7 @@ impl<L: Library> Core<L> {
         ensures { MatchOption result (IsBlocked (setup_in L.meaning self.now) self.now.entries flow.0 → ⊥)
             (IsBlockedAt (setup_in L.meaning self.now) self.now.entries flow.0) }
     {
-        let _ = &self.running.live;
-        let _ = flow;
-        unreachable!()
+        self.running.waits_at(flow)
     }
 
     /// Whether a flow's next event is a call, begun or not.
@@ -157,9 +157,7 @@ impl<L: Library> Core<L> {
         requires { flow.0 < length self.now.items }
         ensures { IsTrue result ↔ IsAtCall (setup_in L.meaning self.now) self.now.entries flow.0 }
     {
-        let _ = &self.running.live;
-        let _ = flow;
-        unreachable!()
+        self.running.at_call(flow)
     }
 }
 

@@ -5,14 +5,24 @@
 //! is seen as and what it keeps at every moment, and `specs/Moves` what each call does.
 #![tactic(auto)]
 
+mod adding;
+mod calling;
 mod calls;
+mod copies;
 mod cores;
+mod keys;
+mod laws;
+mod moving;
+mod opening;
 mod places;
 mod running;
 mod runtimes;
+mod sameness;
 mod setups;
+mod stepping;
 
 pub use calls::{CallDone, Inputs, Job};
 pub use cores::{Core, Finish, Step};
+pub use laws::{calls_are_moves, runs_are_legal};
 pub use runtimes::{Runtime, Stopped};
 pub use setups::Setup;

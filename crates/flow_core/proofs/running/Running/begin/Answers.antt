@@ -1,0 +1,18 @@
+use Rattle.std.proofs.Common.{sym, subst}
+use Rattle.flow_core.specs.States.{setup_in, IsBegun}
+use Rattle.flow_core.specs.steps.Running.{core_of}
+use Rattle.flow_core.proofs.OnFields.{read-there}
+use Rattle.flow_core.proofs.Called.{begun-running, has-begun}
+use Rattle.flow_core.proofs.running.Running.begin.Goals as goal
+
+pub returns-clause-running : goal.returns-clause-running
+returns-clause-running g c =
+    begun-running g.L.Meaning.meaning c.args.self.now c.requires.running c.args.flow c.index_mut-place.result.now
+    (read-there g.L.Meaning.meaning c.args.self.now c.requires.running c.args.flow c.index_mut-place.result.now c.requires.flow c.index_mut-place.ensures.value)
+    c.in_ok-begun.begun (rw c.in_ok-begun.ensures c.in_ok-inputs.ensures.begun)
+
+pub returns-clause-ok : goal.returns-clause-ok
+returns-clause-ok g c =
+    has-begun g.L.Meaning.meaning c.args.self.now c.requires.running c.args.flow c.index_mut-place.result.now
+    (read-there g.L.Meaning.meaning c.args.self.now c.requires.running c.args.flow c.index_mut-place.result.now c.requires.flow c.index_mut-place.ensures.value)
+    c.in_ok-begun.begun (rw c.in_ok-begun.ensures c.in_ok-inputs.ensures.begun) c.in_ok-job.job c.in_ok-job.ensures c.requires.idle

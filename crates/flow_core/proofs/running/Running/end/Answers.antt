@@ -1,0 +1,34 @@
+use Rattle.std.proofs.Common.{◌-◌, refl}
+use Rattle.flux_model.specs.declared.journals.Event.TheVariants as events
+use Rattle.flow_core.specs.declared.places.Place.{Place}
+use Rattle.flow_core.proofs.OnFields.{may-advance, quiet-moved, no-call, moved-makes, end-running, some-live}
+use Rattle.flow_core.proofs.running.Running.end.Goals as goal
+
+pub make-requires-after_bounds : goal.make-requires-after_bounds
+make-requires-after_bounds g c κs within =
+    may-advance g.L.Meaning.meaning c.args.self.now c.requires.running c.args.flow (events.End c.args.outcome) c.requires.coming c.index_mut-place.result.now c.index_mut-place.ensures.value
+
+pub overflow_sub-self : goal.overflow_sub-self
+overflow_sub-self g c =
+    some-live g.L.Meaning.meaning c.args.self.now c.requires.running c.args.flow (events.End c.args.outcome) c.requires.coming c.index_mut-place.result.now c.index_mut-place.ensures.value
+
+pub returns-clause-running : goal.returns-clause-running
+returns-clause-running g c =
+    let r = c.args.self.now in
+    let place = c.index_mut-place.result.now in
+    let read = c.index_mut-place.ensures.value in
+    let new : Place = record { local = c.make.new.local; session = place.session; begun = place.begun; stands = place.stands } in
+    end-running g.L.Meaning.meaning r c.requires.running c.args.flow (events.End c.args.outcome) c.requires.coming place read new c.make.new.journal c.in_ok-make.ensures.added refl
+    (quiet-moved g.L.Meaning.meaning r c.requires.running c.args.flow (events.End c.args.outcome) c.requires.coming place read new c.in_ok-make.ensures.made refl refl refl tt
+    (no-call g.L.Meaning.meaning r c.requires.running c.args.flow (events.End c.args.outcome) c.requires.coming place read))
+    refl
+
+pub returns-clause-ok : goal.returns-clause-ok
+returns-clause-ok g c =
+    let r = c.args.self.now in
+    let place = c.index_mut-place.result.now in
+    let read = c.index_mut-place.ensures.value in
+    let new : Place = record { local = c.make.new.local; session = place.session; begun = place.begun; stands = place.stands } in
+    moved-makes g.L.Meaning.meaning r c.requires.running c.args.flow (events.End c.args.outcome) c.requires.coming place read new r.table c.make.new.journal (r.live - 1) c.in_ok-make.ensures.added refl
+    (quiet-moved g.L.Meaning.meaning r c.requires.running c.args.flow (events.End c.args.outcome) c.requires.coming place read new c.in_ok-make.ensures.made refl refl refl tt
+    (no-call g.L.Meaning.meaning r c.requires.running c.args.flow (events.End c.args.outcome) c.requires.coming place read))

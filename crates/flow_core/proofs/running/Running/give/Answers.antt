@@ -1,0 +1,32 @@
+use Rattle.std.proofs.Common.{refl}
+use Rattle.flux_model.specs.declared.journals.Event.TheVariants as events
+use Rattle.flow_core.specs.declared.places.Place.{Place}
+use Rattle.flow_core.proofs.OnFields.{may-advance, drop-moved, may-release-it, moved-makes, moved-goes_on}
+use Rattle.flow_core.proofs.running.Running.give.Goals as goal
+
+pub make-requires-after_bounds : goal.make-requires-after_bounds
+make-requires-after_bounds g c κs within =
+    may-advance g.L.Meaning.meaning c.args.self.now c.requires.running c.args.flow (events.Drop c.args.key) c.requires.coming c.index_mut-place.result.now c.index_mut-place.ensures.value
+
+pub release-requires : goal.release-requires
+release-requires g c =
+    may-release-it g.L.Meaning.meaning c.args.self.now c.requires.running c.args.flow c.args.key c.requires.coming c.index_mut-place.result.now c.index_mut-place.ensures.value
+
+pub returns-clause-running : goal.returns-clause-running
+returns-clause-running g c =
+    let r = c.args.self.now in
+    let place = c.index_mut-place.result.now in
+    let read = c.index_mut-place.ensures.value in
+    let new : Place = record { local = c.make.new.local; session = place.session; begun = place.begun; stands = place.stands } in
+    moved-goes_on g.L.Meaning.meaning r c.requires.running c.args.flow (events.Drop c.args.key) c.requires.coming place read new c.release.new.self c.make.new.journal r.live c.in_ok-make.ensures.added refl
+    (drop-moved g.L.Meaning.meaning r c.requires.running c.args.flow c.args.key c.requires.coming place read new c.in_ok-make.ensures.made refl refl refl c.release.new.self c.release.ensures)
+    refl refl
+
+pub returns-clause-ok : goal.returns-clause-ok
+returns-clause-ok g c =
+    let r = c.args.self.now in
+    let place = c.index_mut-place.result.now in
+    let read = c.index_mut-place.ensures.value in
+    let new : Place = record { local = c.make.new.local; session = place.session; begun = place.begun; stands = place.stands } in
+    moved-makes g.L.Meaning.meaning r c.requires.running c.args.flow (events.Drop c.args.key) c.requires.coming place read new c.release.new.self c.make.new.journal r.live c.in_ok-make.ensures.added refl
+    (drop-moved g.L.Meaning.meaning r c.requires.running c.args.flow c.args.key c.requires.coming place read new c.in_ok-make.ensures.made refl refl refl c.release.new.self c.release.ensures)

@@ -1,0 +1,17 @@
+//! What comes of every run of moves, and that a core's calls are such moves.
+
+ghost use Rattle.flow_core.specs.Laws.{RunsAreLegal, StepsAreMoves, FinishesAreMoves};
+
+use flux_library::Library;
+
+/// After every run of moves the journal is legal, and each begun call is its flow's next, on the cells of that moment
+/// and with the answer that they give.
+pub fn runs_are_legal<L: Library>()
+    ensures { RunsAreLegal L.meaning }
+{}
+
+/// What `step` and `finish` do is one such move, or none.
+pub fn calls_are_moves<L: Library>()
+    ensures steps { StepsAreMoves L.meaning }
+    ensures finishes { FinishesAreMoves L.meaning }
+{}
