@@ -9,9 +9,12 @@ use flux_values::{Bytes, List, Memory, append_number};
 use std::alloc::Global;
 use std::fs::OpenOptions;
 use std::io::{ErrorKind, Write};
+use std::marker::Sync;
 use std::os::fd::AsRawFd;
 use std::process::{Abort, ExitCode};
+use std::sync::Wait;
 use std::test::Fail;
+use std::thread::Threads;
 use std::{fs, io};
 
 const PROGRAM: &str = "Tick () => (int n);\nShow (int n) => ();\nsource Tick => Show;\n";
@@ -42,7 +45,11 @@ struct Ended {
 }
 
 /// Runs the words over the real files, with two files as the streams.
-fn run(rt: &HostRuntime, words: &[&str]) -> Result<Ended, Fail> {
+fn run<Rt: Threads + Wait + Sync>(
+    rt: &HostRuntime,
+    threads: &Rt,
+    words: &[&str],
+) -> Result<Ended, Fail> {
     let alloc = rt.alloc();
     let mut world = World {
         store: RealStore::new(rt),
@@ -51,7 +58,7 @@ fn run(rt: &HostRuntime, words: &[&str]) -> Result<Ended, Fail> {
         err: RealSink::new(fs::create(rt, "err.txt")?),
     };
     let list = list_of(alloc, words)?;
-    let status = answer(rt, alloc, Ok(list), &mut world, &OpenGate);
+    let status = answer(threads, alloc, Ok(list), &mut world, &OpenGate);
     let ended = Ended {
         status,
         out: fs::read_to_string(rt, "out.txt")?,
@@ -92,7 +99,13 @@ fn a_program_file_is_read_up_to_its_limit(rt: HostRuntime) -> Result<(), Fail> {
         ),
     ] {
         fs::write(&rt, "program", padded(rt.alloc(), size)?.as_slice())?;
-        assert_ended(&rt, &run(&rt, &["check", "program"])?, status, out, err);
+        assert_ended(
+            &rt,
+            &run(&rt, &rt, &["check", "program"])?,
+            status,
+            out,
+            err,
+        );
     }
     fs::remove_file(&rt, "program")?;
     Ok(())
@@ -103,21 +116,21 @@ fn what_is_no_file_is_missing_or_fails(rt: HostRuntime) -> Result<(), Fail> {
     fs::create_dir(&rt, "folder")?;
     assert_ended(
         &rt,
-        &run(&rt, &["check", "folder"])?,
+        &run(&rt, &rt, &["check", "folder"])?,
         Status::Read,
         "",
         READ_FAILED,
     );
     assert_ended(
         &rt,
-        &run(&rt, &["format", "folder/none"])?,
+        &run(&rt, &rt, &["format", "folder/none"])?,
         Status::Missing,
         "",
         "flux: missing or too long: folder/none\n",
     );
     assert_ended(
         &rt,
-        &run(&rt, &["check", "/dev/zero"])?,
+        &run(&rt, &rt, &["check", "/dev/zero"])?,
         Status::Missing,
         "",
         "flux: missing or too long: /dev/zero\n",
@@ -138,7 +151,7 @@ fn a_pipe_is_a_file(rt: HostRuntime) -> Result<(), Fail> {
     let items = str::from_utf8(name.as_bytes())?;
     assert_ended(
         &rt,
-        &run(&rt, &["run", "program", items])?,
+        &run(&rt, &rt, &["run", "program", items])?,
         Status::Done,
         JOURNAL,
         "",
