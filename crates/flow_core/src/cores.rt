@@ -12,8 +12,6 @@ ghost use Rattle.flow_core.specs.Runs.{live_count, IsBlockedAt};
 
 mod waiting;
 
-pub use waiting::Stop;
-
 use crate::calls::{CallDone, Job};
 use crate::running::Running;
 use crate::setups::Setup;
@@ -23,6 +21,7 @@ use flux_model::{FlowNo, Journal, Key};
 use flux_values::Memory;
 use std::alloc::Global;
 use std::marker::Model;
+pub use waiting::Stop;
 
 /// What a step did.
 #[derive(Drop)]

@@ -2,7 +2,7 @@
 
 use flux_values::Memory;
 use std::alloc::{AllocError, AllocFailed};
-use std::io;
+use std::io::{self, ErrorKind};
 
 #[derive(Clone, Copy, Debug, PartialEq, Eq)]
 pub enum Trouble {
@@ -48,7 +48,10 @@ impl<T: Drop> From<AllocFailed<T>> for Trouble {
 }
 
 impl From<io::Error> for Trouble {
-    fn from(_e: io::Error) -> Trouble {
-        Trouble::System
+    fn from(e: io::Error) -> Trouble {
+        match e.kind() {
+            ErrorKind::OutOfMemory => Trouble::Memory,
+            _ => Trouble::System,
+        }
     }
 }
