@@ -4,11 +4,23 @@ ghost use Rattle.flux_model.specs.Names.{IsNamed};
 ghost use Rattle.flux_model.specs.Numbered.{IsNumbered};
 
 use crate::troubles::Trouble;
+use flow_core::Core;
 use flux_hoist::Checked;
 use flux_journal::{JournalFault, print_journal, read_journal};
+use flux_library::Library;
 use flux_model::Journal;
 use flux_values::{Bytes, Memory};
 use std::alloc::Global;
+
+/// A core's journal, of which nothing else is told here: what a core keeps would only burden the proofs of its callers.
+pub fn journal_of<L: Library>(core: &Core<L>) -> &Journal {
+    core.journal()
+}
+
+/// How many entries it has.
+pub fn count<L: Library>(core: &Core<L>) -> usize {
+    core.journal().entries.len()
+}
 
 /// The journal's text, printed so many times, and at least once.
 pub fn print_again(

@@ -6,13 +6,15 @@
 
 mod building;
 mod journals;
+#[cfg(test)]
+mod tests;
 mod troubles;
 mod turns;
 
 use building::{Given, checked_of, core_of};
 use flow_core::Core;
-use flux_values::List;
-use journals::{print_again, read_again};
+use flux_values::{Bytes, List};
+use journals::{count, journal_of, print_again, read_again};
 use nodes_counter::Counter;
 use std::alloc::Global;
 use std::env;
@@ -80,27 +82,38 @@ fn driven(alloc: Global, flows: u32) -> Result<Core<Counter>, Trouble> {
 
 fn answer_core(rt: &HostRuntime, flows: u32) -> Result<(), Trouble> {
     let core = driven(rt.alloc(), flows)?;
-    println!(rt; "flows {flows} events {}", core.journal().entries.len())?;
+    println!(rt; "flows {flows} events {}", count(&core))?;
     Ok(())
+}
+
+/// Prints and reads a core's journal so many times, and gives how many bytes its text has.
+fn print_and_read(
+    alloc: Global,
+    core: &Core<Counter>,
+    prints: u32,
+    reads: u32,
+) -> Result<usize, Trouble> {
+    let checked = checked_of(alloc, PROGRAM, &Counter)?;
+    let text = print_again(alloc, &checked, journal_of(core), prints)?;
+    read_again(alloc, &checked, text.as_bytes(), reads)?;
+    Ok(text.as_bytes().len())
 }
 
 fn answer_journal(rt: &HostRuntime, flows: u32, prints: u32, reads: u32) -> Result<(), Trouble> {
     let core = driven(rt.alloc(), flows)?;
-    let checked = checked_of(rt.alloc(), PROGRAM, &Counter)?;
-    let text = print_again(rt.alloc(), &checked, core.journal(), prints)?;
-    read_again(rt.alloc(), &checked, text.as_bytes(), reads)?;
-    println!(rt;
-        "events {} bytes {}",
-        core.journal().entries.len(),
-        text.as_bytes().len()
-    )?;
+    let bytes = print_and_read(rt.alloc(), &core, prints, reads)?;
+    println!(rt; "events {} bytes {bytes}", count(&core))?;
     Ok(())
+}
+
+fn print_once(alloc: Global, core: &Core<Counter>) -> Result<Bytes, Trouble> {
+    let checked = checked_of(alloc, PROGRAM, &Counter)?;
+    Ok(print_again(alloc, &checked, journal_of(core), 1)?)
 }
 
 fn answer_text(rt: &HostRuntime, flows: u32) -> Result<(), Trouble> {
     let core = driven(rt.alloc(), flows)?;
-    let checked = checked_of(rt.alloc(), PROGRAM, &Counter)?;
-    let text = print_again(rt.alloc(), &checked, core.journal(), 1)?;
+    let text = print_once(rt.alloc(), &core)?;
     rt.stdout().write_all(text.as_bytes())?;
     Ok(())
 }
