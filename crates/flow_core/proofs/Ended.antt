@@ -18,20 +18,11 @@ use Rattle.flux_model.specs.Events.{events_by, own_events, own_answers, IsNext, 
 use Rattle.flux_model.specs.Legal.{IsLegal}
 use Rattle.flux_laws.specs.Growth.{is_end, has_ended, sum_below}
 use Rattle.flux_laws.proofs.Members.{In, contains-from_in, in-right}
+use Rattle.flux_laws.proofs.FlowSums.{sum-same, sum-one}
+use Rattle.flux_laws.proofs.Growing.{ended-in}
 use Rattle.flux_laws.proofs.OwnEvents.{in-from_own}
 use Rattle.flux_laws.proofs.Ends.{whole-ended}
 use Rattle.flow_core.proofs.Entries.{events-own, events-other}
-
-ended-in : (list : List Event) → list_any is_end list ≡ true → (outcome : Outcome) × In (End outcome) list
-ended-in [] is = absurd cc
-ended-in (End outcome ∷ list) is = (outcome, inl refl)
-ended-in (Take key mode ∷ list) is = let (o, there) = ended-in list is in (o, inr there)
-ended-in (Wait key mode ∷ list) is = let (o, there) = ended-in list is in (o, inr there)
-ended-in (Enter node ∷ list) is = let (o, there) = ended-in list is in (o, inr there)
-ended-in (Choose place ∷ list) is = let (o, there) = ended-in list is in (o, inr there)
-ended-in (Call made ∷ list) is = let (o, there) = ended-in list is in (o, inr there)
-ended-in (Exit node outcome ∷ list) is = let (o, there) = ended-in list is in (o, inr there)
-ended-in (Drop key ∷ list) is = let (o, there) = ended-in list is in (o, inr there)
 
 in-ended : (list : List Event) (outcome : Outcome) → In (End outcome) list → list_any is_end list ≡ true
 in-ended [] outcome is = absurd is
@@ -98,32 +89,6 @@ ended-own entries flow event = ap (list_any is_end) (events-own entries flow.0 e
 
 -- ---- how many have not ended
 
-sum-same : (s t : ℕ → ℕ) (count : ℕ) → ((flow : ℕ) → s flow ≡ t flow) → sum_below s count ≡ sum_below t count
-sum-same s t zero same = refl
-sum-same s t (suc count) same = let one = sum-same s t count same in let two = same count in omega (arith, one, two)
-
-sum-past : (s t : ℕ → ℕ) (count flow : ℕ) → ((other : ℕ) → (flow ≡ other → ⊥) → s other ≡ t other) → count ≤ flow → sum_below s count ≡ sum_below t count
-sum-past s t zero flow same past = refl
-sum-past s t (suc count) flow same past =
-    let one = sum-past s t count flow same (omega (arith, past)) in
-    let two = same count (λ e. omega (arith, past, e)) in
-    omega (arith, one, two)
-
-sum-one : (s t : ℕ → ℕ) (count flow : ℕ) → flow < count → ((other : ℕ) → (flow ≡ other → ⊥) → s other ≡ t other) → s flow ≡ t flow + 1 → sum_below s count ≡ sum_below t count + 1
-sum-one s t zero flow lt same one = absurd (omega (arith, lt))
-sum-one s t (suc count) flow lt same one = by (cases_eq flow count) (λ less. sum-one s t count flow less same one)
-  where
-    by : (flow ≡ count) ⊎ (flow ≡ count → ⊥) → (flow < count → sum_below s count ≡ sum_below t count + 1) → sum_below s count + s count ≡ sum_below t count + t count + 1
-    by (inl e) more =
-        let before = sum-past s t count flow same (omega (arith, e)) in
-        let here : s count ≡ t count + 1 = subst (λ (f : ℕ). s f ≡ t f + 1) e one in
-        omega (arith, before, here)
-    by (inr apart) more =
-        let ne : flow ≢ count = apart in
-        let before = more (omega (arith, lt, ne)) in
-        let here = same count apart in
-        omega (arith, before, here)
-
 abbrev pub one_live : List Entry → ℕ → ℕ
 one_live entries flow = cond (has_ended entries flow) 0 1
 
@@ -133,7 +98,7 @@ live_in entries count = sum_below (one_live entries) count
 module _ (entries : List Entry) (flow : FlowNo) (event : Event) (count : ℕ) where
   -- an event that is no end leaves as many
   pub live-still : is_end event ≡ false → live_in (entries ++ record { flow = flow; event = event } ∷ []) count ≡ live_in entries count
-  live-still no_end = sum-same (one_live (entries ++ record { flow = flow; event = event } ∷ [])) (one_live entries) count (λ other. ap (λ (b : Bool). cond b 0 1) (by other (cases_eq flow.0 other)))
+  live-still no_end = sum-same (one_live entries) (one_live (entries ++ record { flow = flow; event = event } ∷ [])) count (λ other lt. ap (λ (b : Bool). cond b 0 1) (by other (cases_eq flow.0 other)))
     where
       or-false : (b : Bool) → (b || false) ≡ b
       or-false true = refl
@@ -147,9 +112,9 @@ module _ (entries : List Entry) (flow : FlowNo) (event : Event) (count : ℕ) wh
   -- an end of a flow that goes on leaves one less
   pub live-less : is_end event ≡ true → flow.0 < count → has_ended entries flow.0 ≡ false → live_in entries count ≡ live_in (entries ++ record { flow = flow; event = event } ∷ []) count + 1
   live-less is lt goes_on =
-      sum-one (one_live entries) (one_live (entries ++ record { flow = flow; event = event } ∷ [])) count flow.0 lt
-      (λ other apart. ap (λ (b : Bool). cond b 0 1) (sym (ended-other entries flow event other apart)))
+      sum-one (one_live (entries ++ record { flow = flow; event = event } ∷ [])) (one_live entries) flow.0 count lt
       (ap (λ (b : Bool). cond b 0 1) goes_on ∙ sym (ap (λ (b : Bool). cond b 0 1 + 1) (ended-own entries flow event ∙ ap (λ (b : Bool). has_ended entries flow.0 || b) is ∙ or-true (has_ended entries flow.0))))
+      (λ other apart. ap (λ (b : Bool). cond b 0 1) (sym (ended-other entries flow event other apart)))
     where
       or-true : (b : Bool) → (b || true) ≡ true
       or-true true = refl

@@ -5,11 +5,10 @@ ghost use Rattle.flux_items.specs.Rules.{AreRules, GivesKinds};
 ghost use Rattle.flux_items.specs.steps.Reading.{IsLineRead, HasName, IsItemRead, IsUnknownRead};
 
 use crate::blanks::{behind, is_passed_over, skip_blanks};
-use crate::names::Names;
 use crate::rules::ItemRules;
 use crate::spellings::{ValuesRead, read_values};
 use crate::words::{is_identifier, word_length};
-use flux_model::{Item, SourceNo};
+use flux_model::{Item, Names, SourceNo};
 use flux_values::{Kind, Memory};
 use std::alloc::Global;
 

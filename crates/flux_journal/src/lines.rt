@@ -18,9 +18,9 @@ use crate::calls::read_call;
 use crate::cuts::{cut, read_number};
 use crate::faults::LineFault;
 use crate::keys::{read_hold, read_key};
-use crate::names::{Names, find_node, names_of};
+use crate::names::{find_node, names_of};
 use crate::outcomes::{read_end, read_exit};
-use flux_model::{CallMade, Entry, Event, FlowNo, NodeNo, Outcome, Program};
+use flux_model::{CallMade, Entry, Event, FlowNo, Names, NodeNo, Outcome, Program};
 use flux_values::Memory;
 use std::alloc::Global;
 

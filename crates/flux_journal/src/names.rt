@@ -8,56 +8,9 @@ ghost use Rattle.flux_model.specs.Names.{AreNamedApart};
 ghost use Rattle.flux_journal.specs.Entries.{IsCellOf};
 ghost use Rattle.flux_journal.specs.steps.Named.{names_in, IsNodeNamed, IsClassNamed};
 
-use flux_model::{Class, ClassNo, Node, NodeNo, Program};
+use flux_model::{Class, ClassNo, Names, Node, NodeNo, Program};
 use flux_values::{Memory, TextBytes};
-use indexmap::IndexSet;
 use std::alloc::Global;
-use std::marker::Model;
-
-/// Distinct names, each at its source's place.
-#[derive(Drop)]
-pub struct Names<'a> {
-    set: IndexSet<&'a [u8]>,
-}
-
-impl<'a> Model for Names<'a> {
-    ghost use Rattle.std.specs.Prelude.{List, ℕ, map};
-
-    ghost Value = { List (List ℕ) };
-
-    ghost view = { λ n. map (λ k. k.now) n.set.keys };
-}
-
-impl<'a> Names<'a> {
-    ghost use Rattle.std.specs.Prelude.{◌≡◌, ℕ, Some, false, ◌++◌, ◌∷◌, [], IfSome, IfNone, OnOk};
-    ghost use Rattle.std.specs.List.{slice_get, list_any};
-    ghost use Rattle.std.specs.Str.{bytes_eq};
-
-    fn new(alloc: Global) -> Names<'a>
-        ensures { result ≡ [] }
-    {
-        Names {
-            set: IndexSet::new(alloc),
-        }
-    }
-
-    /// Adds a name at the end, if it isn't there yet.
-    fn add(&mut self, name: &'a [u8]) -> Result<(), Memory>
-        ensures { list_any (bytes_eq name.now) self.old ≡ false
-            → OnOk result (self.new ≡ self.old ++ name.now ∷ []) }
-    {
-        self.set.insert(name)?;
-        Ok(())
-    }
-
-    /// The place of a name.
-    pub fn place(&self, name: &[u8]) -> Option<usize>
-        ensures found { IfSome result (λ place. slice_get self.now place ≡ Some name.now) }
-        ensures none { IfNone result ((place : ℕ) → slice_get self.now place ≡ Some name.now → ⊥) }
-    {
-        self.set.get_index_of(name)
-    }
-}
 
 /// The names of nodes.
 pub fn names_of<'a>(alloc: Global, nodes: &'a [Node]) -> Result<Names<'a>, Memory>

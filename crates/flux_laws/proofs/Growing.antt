@@ -18,6 +18,7 @@ use Rattle.flux_model.specs.Flows.{given_for, target_walk, item_walk, ending, wi
 use Rattle.flux_model.specs.Events.{unless_wait, events_by, own_events, own_answers, FollowsWalk}
 use Rattle.flux_model.specs.Legal.{IsLegal}
 use Rattle.flux_laws.specs.Growth.{line_size, item_size, flow_size, is_end, has_ended, room_of, sum_below, IsNoWait, NodesAreBounded, WalksAreBounded, OwnEventsAreBounded, GrowthIsBounded}
+use Rattle.flux_laws.proofs.FlowSums.{sum-le, count-by, count-all}
 use Rattle.flux_laws.proofs.Members.{all-behind, In}
 use Rattle.flux_laws.proofs.Stacks.{Runs, runs-front, runs-rest}
 use Rattle.flux_laws.proofs.FlowRuns.{keys_of, at_start}
@@ -57,56 +58,6 @@ own_events_are_bounded setup entries flow follows =
     let split = ap length follows.prefix ∙ length-append (own_events entries flow) follows.rest in
     omega (arith, all, split)
 
--- ---- sums over flows
-
-sum-same : (g h : ℕ → ℕ) (count : ℕ) → ((flow : ℕ) → flow < count → h flow ≡ g flow) → sum_below h count ≡ sum_below g count
-sum-same g h zero same = refl
-sum-same g h (suc count) same =
-    let more = sum-same g h count (λ flow lt. same flow (omega (arith, lt))) in
-    let own = same count (omega arith) in
-    omega (arith, more, own)
-
-sum-le : (g h : ℕ → ℕ) (count : ℕ) → ((flow : ℕ) → flow < count → g flow ≤ h flow) → sum_below g count ≤ sum_below h count
-sum-le g h zero le = omega arith
-sum-le g h (suc count) le =
-    let more = sum-le g h count (λ flow lt. le flow (omega (arith, lt))) in
-    let own = le count (omega arith) in
-    omega (arith, more, own)
-
--- one flow has one more
-sum-one : (g h : ℕ → ℕ) (own count : ℕ) → own < count → h own ≡ g own + 1 → ((flow : ℕ) → (own ≡ flow → ⊥) → h flow ≡ g flow) → sum_below h count ≡ sum_below g count + 1
-sum-one g h own zero lt more others = absurd (omega (arith, lt))
-sum-one g h own (suc count) lt more others = by (cases_eq own count) (λ less. sum-one g h own count less more others)
-  where
-    by : (own ≡ count) ⊎ (own ≡ count → ⊥) → (own < count → sum_below h count ≡ sum_below g count + 1) → sum_below h (suc count) ≡ sum_below g (suc count) + 1
-    by (inl same) further =
-        let rest = sum-same g h count (λ flow below. others flow (λ (e : own ≡ flow). omega (arith, e, same, below))) in
-        let here : h count ≡ g count + 1 = rw (← same) more in
-        omega (arith, rest, here)
-    by (inr apart) further =
-        let ne : own ≢ count = apart in
-        let rest = further (omega (arith, lt, ne)) in
-        let here = others count apart in
-        omega (arith, rest, here)
-
-count-by : List Entry → ℕ → ℕ
-count-by entries flow = length (events_by flow entries)
-
--- entries are those of all flows together
-count-all : (count : ℕ) (entries : List Entry) → AllByRecursion (λ entry. entry.flow.0 < count) entries → length entries ≡ sum_below (count-by entries) count
-unfolding count-by
-count-all count [] all = none count
-  where
-    none : (n : ℕ) → 0 ≡ sum_below (λ flow. 0) n
-    none zero = refl
-    none (suc n) = let e = none n in omega (arith, e)
-count-all count (entry ∷ entries) (lt, all) =
-    let more = count-all count entries all in
-    let one = sum-one (count-by entries) (count-by (entry ∷ entries)) entry.flow.0 count lt
-    (ap (λ (b : Bool). length (cond b (entry.event ∷ events_by entry.flow.0 entries) (events_by entry.flow.0 entries))) (eq-eqb entry.flow.0 entry.flow.0 refl) ∙ omega arith)
-    (λ flow apart. ap (λ (b : Bool). length (cond b (entry.event ∷ events_by flow entries) (events_by flow entries))) (ne_eqb entry.flow.0 flow apart)) in
-    omega (arith, more, one)
-
 -- ---- entries without waits
 
 own-event : (event : Event) → ((key : Key) (mode : Mode) → event ≡ Wait key mode → ⊥) → unless_wait event ≡ event ∷ []
@@ -130,7 +81,8 @@ own-all flow (entry ∷ entries) (no_wait, all) = by (eqb entry.flow.0 flow) (ow
 
 -- ---- flows that have ended
 
-ended-in : (list : List Event) → list_any is_end list ≡ true → (outcome : Outcome) × In (End outcome) list
+-- an end is there
+pub ended-in : (list : List Event) → list_any is_end list ≡ true → (outcome : Outcome) × In (End outcome) list
 ended-in [] any = absurd cc
 ended-in (End outcome ∷ list) any = (outcome, inl refl)
 ended-in (Take key mode ∷ list) any = let more = ended-in list any in (more.0, inr more.1)
@@ -171,7 +123,6 @@ module _ (setup : Setup) (entries more : List Entry) (legal : IsLegal setup (ent
             omega (arith, all, split, same)
 
 pub growth_is_bounded : GrowthIsBounded
-unfolding count-by
 growth_is_bounded setup entries more legal no_waits =
     let all = count-all (length setup.items) more (all-behind (λ entry. entry.flow.0 < length setup.items) entries more legal.flows) in
     let le = sum-le (count-by more) (room_of setup entries) (length setup.items) (λ flow lt. own-growth setup entries more legal no_waits flow lt) in

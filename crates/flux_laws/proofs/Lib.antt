@@ -23,6 +23,7 @@ pub mod Living
 pub mod Reaching
 pub mod Ends
 pub mod Bounds
+pub mod FlowSums
 pub mod Growing
 pub mod Fronts
 pub mod LastMoves

@@ -5,3 +5,4 @@ pub mod RisingHolds
 pub mod LeadingLemmas
 pub mod BelowLemmas
 pub mod Visiting
+pub mod NamedKeys

@@ -8,6 +8,7 @@ mod journals;
 mod laws;
 mod modes;
 mod named;
+mod names;
 mod programs;
 mod signatures;
 #[cfg(test)]
@@ -19,6 +20,7 @@ pub use journals::{CallMade, Entry, Event, FlowNo, Item, Journal, Key, Outcome};
 pub use laws::{hoisting_law, worked_examples};
 pub use modes::{at_least, class_order, conflict};
 pub use named::{Named, Sites};
+pub use names::Names;
 pub use programs::{
     Body, COUNT_LIMIT, Case, Class, ClassNo, HandleArm, Hold, Node, NodeNo, Program, SourceLine,
     SourceNo,

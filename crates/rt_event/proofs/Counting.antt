@@ -14,6 +14,7 @@ use Rattle.flux_model.specs.Events.{unless_wait, events_by, own_events}
 use Rattle.flux_model.specs.Waits.{IsLast, IsNoWaitLast}
 use Rattle.flux_model.specs.Legal.{IsLegal}
 use Rattle.flux_laws.specs.Growth.{flow_size, sum_below}
+use Rattle.flux_laws.proofs.FlowSums.{count-all}
 use Rattle.flux_laws.proofs.OwnEvents.{events_by-append, own_events-append}
 use Rattle.flux_laws.proofs.Fronts.{fronts_are_legal}
 use Rattle.flux_laws.proofs.LastMoves.{entries_are_moves}
@@ -119,43 +120,6 @@ module _ (setup : Setup) (flow : ℕ) where
   counted entries legal = counted-all [] entries legal (record { most = omega arith; no_wait = λ none. omega arith })
 
 -- ---- all flows
-
-sum-same : (g h : ℕ → ℕ) (count : ℕ) → ((flow : ℕ) → flow < count → h flow ≡ g flow) → sum_below h count ≡ sum_below g count
-sum-same g h zero same = refl
-sum-same g h (suc count) same =
-    let more = sum-same g h count (λ flow lt. same flow (omega (arith, lt))) in
-    let own = same count (omega arith) in
-    omega (arith, more, own)
-
--- one flow has one more
-sum-one : (g h : ℕ → ℕ) (own count : ℕ) → own < count → h own ≡ g own + 1 → ((flow : ℕ) → (own ≡ flow → ⊥) → h flow ≡ g flow) → sum_below h count ≡ sum_below g count + 1
-sum-one g h own zero lt more others = absurd (omega (arith, lt))
-sum-one g h own (suc count) lt more others = by (cases_eq own count) (λ less. sum-one g h own count less more others)
-  where
-    by : (own ≡ count) ⊎ (own ≡ count → ⊥) → (own < count → sum_below h count ≡ sum_below g count + 1) → sum_below h (suc count) ≡ sum_below g (suc count) + 1
-    by (inl same) further =
-        let rest = sum-same g h count (λ flow below. others flow (λ (e : own ≡ flow). omega (arith, e, same, below))) in
-        let here : h count ≡ g count + 1 = rw (← same) more in
-        omega (arith, rest, here)
-    by (inr apart) further =
-        let ne : own ≢ count = apart in
-        let rest = further (omega (arith, lt, ne)) in
-        let here = others count apart in
-        omega (arith, rest, here)
-
--- entries are those of all flows together
-count-all : (count : ℕ) (entries : List Entry) → AllByRecursion (λ entry. entry.flow.0 < count) entries → length entries ≡ sum_below (λ flow. length (events_by flow entries)) count
-count-all count [] all = none count
-  where
-    none : (n : ℕ) → 0 ≡ sum_below (λ flow. 0) n
-    none zero = refl
-    none (suc n) = let e = none n in omega (arith, e)
-count-all count (entry ∷ entries) (lt, all) =
-    let more = count-all count entries all in
-    let one = sum-one (λ flow. length (events_by flow entries)) (λ flow. length (events_by flow (entry ∷ entries))) entry.flow.0 count lt
-    (ap (λ (b : Bool). length (cond b (entry.event ∷ events_by entry.flow.0 entries) (events_by entry.flow.0 entries))) (eq-eqb entry.flow.0 entry.flow.0 refl) ∙ omega arith)
-    (λ flow apart. ap (λ (b : Bool). length (cond b (entry.event ∷ events_by flow entries) (events_by flow entries))) (ne_eqb entry.flow.0 flow apart)) in
-    omega (arith, more, one)
 
 -- twice the sizes, and one for each flow
 sum-twice : (g h : ℕ → ℕ) (count : ℕ) → ((flow : ℕ) → flow < count → g flow ≤ 2 * h flow + 1) → sum_below g count ≤ 2 * sum_below h count + count
