@@ -1,7 +1,6 @@
 -- How many events a flow has, and a journal gains.
-use Rattle.std.proofs.Common.{◌≡◌, ◌≢◌, ◌<◌, ◌≤◌, ◌+◌, ◌⊎◌, inl, inr, ℕ, zero, suc, Bool, true, false, cond, eqb, List, [], ◌∷◌, ◌++◌, length, Option, Some, None, refl, sym, ap, ◌∙◌, arith}
+use Rattle.std.proofs.Common.{◌≡◌, ◌<◌, ◌≤◌, inl, inr, ℕ, Bool, true, false, cond, eqb, List, [], ◌∷◌, ◌++◌, length, Option, Some, None, refl, sym, ap, ◌∙◌, arith}
 use Rattle.std.specs.List.{slice_get, flat_map, list_any, AllByRecursion}
-use Rattle.std.proofs.lemmas.Bool.{cases_eq, eq-eqb, ne_eqb}
 use Rattle.std.proofs.lemmas.List.{length-append}
 use Rattle.flux_values.specs.declared.answers.Mode.{Mode}
 use Rattle.flux_model.specs.declared.programs.SourceLine.{SourceLine}
@@ -17,7 +16,7 @@ use Rattle.flux_model.specs.Walk.{Stop, finished, before_call, nowhere, Walked}
 use Rattle.flux_model.specs.Flows.{given_for, target_walk, item_walk, ending, with_end}
 use Rattle.flux_model.specs.Events.{unless_wait, events_by, own_events, own_answers, FollowsWalk}
 use Rattle.flux_model.specs.Legal.{IsLegal}
-use Rattle.flux_laws.specs.Growth.{line_size, item_size, flow_size, is_end, has_ended, room_of, sum_below, IsNoWait, NodesAreBounded, WalksAreBounded, OwnEventsAreBounded, GrowthIsBounded}
+use Rattle.flux_laws.specs.Growth.{line_size, item_size, flow_size, is_end, has_ended, room_of, IsNoWait, NodesAreBounded, WalksAreBounded, OwnEventsAreBounded, GrowthIsBounded}
 use Rattle.flux_laws.proofs.FlowSums.{sum-le, count-by, count-all}
 use Rattle.flux_laws.proofs.Members.{all-behind, In}
 use Rattle.flux_laws.proofs.Stacks.{Runs, runs-front, runs-rest}
