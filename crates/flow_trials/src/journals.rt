@@ -17,8 +17,8 @@ pub fn journal_of<L: Library>(core: &Core<L>) -> &Journal {
     core.journal()
 }
 
-/// How many entries it has.
-pub fn count<L: Library>(core: &Core<L>) -> usize {
+/// How many entries a core's journal has.
+pub fn entry_count<L: Library>(core: &Core<L>) -> usize {
     core.journal().entries.len()
 }
 

@@ -14,7 +14,7 @@ mod turns;
 use building::{Given, checked_of, core_of};
 use flow_core::Core;
 use flux_values::{Bytes, List};
-use journals::{count, journal_of, print_again, read_again};
+use journals::{entry_count, journal_of, print_again, read_again};
 use nodes_counter::Counter;
 use std::alloc::Global;
 use std::env;
@@ -82,7 +82,7 @@ fn driven(alloc: Global, flows: u32) -> Result<Core<Counter>, Trouble> {
 
 fn answer_core(rt: &HostRuntime, flows: u32) -> Result<(), Trouble> {
     let core = driven(rt.alloc(), flows)?;
-    println!(rt; "flows {flows} events {}", count(&core))?;
+    println!(rt; "flows {flows} events {}", entry_count(&core))?;
     Ok(())
 }
 
@@ -102,7 +102,7 @@ fn print_and_read(
 fn answer_journal(rt: &HostRuntime, flows: u32, prints: u32, reads: u32) -> Result<(), Trouble> {
     let core = driven(rt.alloc(), flows)?;
     let bytes = print_and_read(rt.alloc(), &core, prints, reads)?;
-    println!(rt; "events {} bytes {bytes}", count(&core))?;
+    println!(rt; "events {} bytes {bytes}", entry_count(&core))?;
     Ok(())
 }
 

@@ -19,6 +19,22 @@ use std::alloc::Global;
 const NODES: &str =
     "Tick () => (int n); Tick_2 () => (int n); Pass (int n) => (int n); Pass_b (int n) => (int n); Pass_d (int n) => (int n); Pass_r (int n) => (int n); Pass_w (int n) => (int n); Fail (int n) => (int n); Fail_h (int n) => (int n); Show (int n) => ();\n";
 
+/// Two flows that take the same two keys, each within a node that has the other one.
+const CROSSED_KEYS: &str =
+    "source Tick => A; source Tick_2 => C; A = Pass_b; C = Pass_d; atomic A:{x}; atomic Pass_b:{y}; atomic C:{y}; atomic Pass_d:{x};";
+
+/// Flows that read, and flows that write.
+const READERS_AND_WRITERS: &str =
+    "source Tick => Pass_r; source Tick_2 => Pass_w; atomic Pass_r:{k?}; atomic Pass_w:{k};";
+
+/// Flows of one number keep each other out.
+const ONE_SESSION_EACH: &str =
+    "source Tick => Pass; session Tick => ByNumber; atomic Pass:{s(session)};";
+
+/// A flow that reads takes its key again, which flows that write wait for.
+const READER_WITHIN_READER: &str =
+    "source Tick => A; source Tick_2 => Pass_w; A = Pass_r; atomic A:{k?}; atomic Pass_r:{k?}; atomic Pass_w:{k};";
+
 /// A program's lines behind the signatures, and for each flow its source and the number that it gives.
 #[derive(Clone, Copy)]
 struct Flows {

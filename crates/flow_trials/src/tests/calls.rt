@@ -1,11 +1,13 @@
 //! Calls of a core, one after another, and what each answers: calls of nodes are finished late, twice, with another
-//! node's answer and with one for other cells; and a core that is halted does the same.
+//! node's answer, and with one for other cells or another number; and a core that is halted does the same. What adds an
+//! entry to the journal is told by the answer.
 
 ghost use Rattle.std.specs.Prelude.{◌≡◌, All};
 
-use super::{Flows, core_in};
+use super::{Flows, READERS_AND_WRITERS, core_in};
+use crate::journals::entry_count;
 use flow_core::{CallDone, Core, Finish, Job, Step};
-use flux_model::FlowNo;
+use flux_model::{ClassNo, FlowNo, Key};
 use flux_values::{Memory, Value};
 use nodes_counter::Counter;
 use std::alloc::Global;
@@ -23,17 +25,36 @@ enum Call {
 /// What it answers.
 #[derive(Clone, Copy, Debug, PartialEq, Eq)]
 enum Told {
+    /// An entry is added.
     Went,
     /// A job on this number.
     Job(i64),
     /// No job.
     None,
     Calling,
-    /// The flow waits for this one.
-    Waits(u32),
+    /// The flow waits for this one at this key, and its `wait` is added.
+    Waits(Key, u32),
+    /// The same where its `wait` was added before.
+    Stands(Key, u32),
     Late,
     Ended,
 }
+
+impl Told {
+    /// How many entries are added.
+    fn entries(self) -> usize {
+        match self {
+            Told::Went | Told::Waits(..) => 1,
+            _ => 0,
+        }
+    }
+}
+
+/// The only key of a program with one class.
+const KEY: Key = Key {
+    class: ClassNo(0),
+    id: None,
+};
 
 /// Flows, and calls with what they answer.
 #[derive(Clone, Copy)]
@@ -88,6 +109,7 @@ const SCRIPTS: &[Script] = &[
             (Call::Step(0), Told::Went),
             (Call::Step(0), Told::Went),
             (Call::Step(0), Told::Job(4)),
+            // The answer of `Pass_b` doesn't finish `Pass_d`,
             (Call::Finish(0), Told::Late),
             (Call::Finish(2), Told::Went),
             (Call::Step(0), Told::Went),
@@ -100,6 +122,7 @@ const SCRIPTS: &[Script] = &[
             (Call::Step(0), Told::Went),
             (Call::Step(0), Told::Went),
             (Call::Step(0), Told::Job(4)),
+            // that for a cell without visits doesn't finish the second visit,
             (Call::Finish(3), Told::Late),
             (Call::Finish(4), Told::Went),
             (Call::Step(0), Told::Went),
@@ -113,6 +136,7 @@ const SCRIPTS: &[Script] = &[
             (Call::Step(0), Told::Went),
             (Call::Step(0), Told::Went),
             (Call::Step(0), Told::Job(0)),
+            // and that for 4 doesn't finish the call on 0.
             (Call::Finish(5), Told::Late),
             (Call::Finish(6), Told::Went),
             (Call::Step(0), Told::Went),
@@ -125,23 +149,47 @@ const SCRIPTS: &[Script] = &[
     // A writer waits for the lowest of two readers, and then for the other one.
     Script {
         flows: Flows {
-            lines: "source Tick => Pass_r; source Tick_2 => Pass_w; atomic Pass_r:{k?}; atomic Pass_w:{k};",
+            lines: READERS_AND_WRITERS,
             given: &[(0, 1), (0, 2), (1, 3)],
         },
         calls: &[
             (Call::Step(1), Told::Went),
             (Call::Step(0), Told::Went),
-            (Call::Step(2), Told::Waits(0)),
-            (Call::Step(2), Told::Waits(0)),
+            (Call::Step(2), Told::Waits(KEY, 0)),
+            (Call::Step(2), Told::Stands(KEY, 0)),
             (Call::Step(0), Told::Went),
             (Call::Step(0), Told::Job(1)),
             (Call::Finish(0), Told::Went),
             (Call::Step(0), Told::Went),
-            (Call::Step(2), Told::Waits(0)),
+            (Call::Step(2), Told::Stands(KEY, 0)),
             (Call::Step(0), Told::Went),
-            (Call::Step(2), Told::Waits(1)),
+            (Call::Step(2), Told::Stands(KEY, 1)),
             (Call::Step(0), Told::Went),
             (Call::Step(0), Told::Ended),
+        ],
+    },
+    // A reader waits for a writer that only waits.
+    Script {
+        flows: Flows {
+            lines: READERS_AND_WRITERS,
+            given: &[(0, 1), (1, 2), (0, 3)],
+        },
+        calls: &[
+            (Call::Step(0), Told::Went),
+            (Call::Step(1), Told::Waits(KEY, 0)),
+            (Call::Step(2), Told::Waits(KEY, 1)),
+        ],
+    },
+    // Of one that holds and one that waits the lowest is named.
+    Script {
+        flows: Flows {
+            lines: READERS_AND_WRITERS,
+            given: &[(1, 1), (1, 2), (1, 3)],
+        },
+        calls: &[
+            (Call::Step(2), Told::Went),
+            (Call::Step(0), Told::Waits(KEY, 2)),
+            (Call::Step(1), Told::Waits(KEY, 0)),
         ],
     },
 ];
@@ -171,11 +219,15 @@ fn step(
     if flow >= core.flows() {
         return Ok(Told::None);
     }
+    let before = entry_count(core);
     match core.step(FlowNo(flow))? {
         Step::Went => Ok(Told::Went),
         Step::Calling => Ok(Told::Calling),
         Step::Ended => Ok(Told::Ended),
-        Step::Waits { holder, .. } => Ok(Told::Waits(holder.0)),
+        Step::Waits { key, holder } if entry_count(core) == before => Ok(Told::Stands(
+            key, holder.0,
+        )),
+        Step::Waits { key, holder } => Ok(Told::Waits(key, holder.0)),
         Step::Job(job) => run(alloc, &job, done),
     }
 }
@@ -239,10 +291,18 @@ fn assert_script(rt: &impl Abort, alloc: Global, script: Script, halted: bool) -
     }
     let mut done = Vec::new(alloc);
     for (place, (call, told)) in script.calls.iter().enumerate() {
+        let before = entry_count(&core);
         let answered = answer(alloc, &mut core, *call, &mut done)?;
-        assert_eq!(rt; answered, *told, "{call:?} at {place}, halted {halted}");
+        let added = entry_count(&core).saturating_sub(before);
+        assert_eq!(rt;
+            (answered, added),
+            (*told, told.entries()),
+            "{call:?} at {place}, halted {halted}"
+        );
     }
     assert_eq!(rt; core.is_halted(), halted);
+    core.resume();
+    assert!(rt; !core.is_halted());
     Ok(())
 }
 

@@ -5,7 +5,10 @@ ghost use Rattle.flux_model.specs.Names.{IsNamed};
 ghost use Rattle.flux_model.specs.Numbered.{IsNumbered};
 
 use super::plain::assert_right;
-use super::{Flows, core_in, given_of, printed_in, text_of};
+use super::{
+    CROSSED_KEYS, Flows, ONE_SESSION_EACH, READER_WITHIN_READER, READERS_AND_WRITERS, core_in,
+    given_of, printed_in, text_of,
+};
 use crate::building::checked_of;
 use flow_core::{Core, Step};
 use flux_hoist::Checked;
@@ -21,11 +24,11 @@ use std::test::Fail;
 /// Programs with nested flows, handlers, cases, readers, writers and sessions.
 const PROGRAMS: &[Flows] = &[
     Flows {
-        lines: "source Tick => A; source Tick_2 => C; A = Pass_b; C = Pass_d; atomic A:{x}; atomic Pass_b:{y}; atomic C:{y}; atomic Pass_d:{x};",
+        lines: CROSSED_KEYS,
         given: &[(0, 1), (1, 2), (1, 3), (0, 4), (1, 5), (0, 6)],
     },
     Flows {
-        lines: "source Tick => Pass_r; source Tick_2 => Pass_w; atomic Pass_r:{k?}; atomic Pass_w:{k};",
+        lines: READERS_AND_WRITERS,
         given: &[(0, 1), (0, 2), (1, 3), (0, 4), (1, 5), (0, 6), (0, 7)],
     },
     Flows {
@@ -33,7 +36,7 @@ const PROGRAMS: &[Flows] = &[
         given: &[(0, 7), (0, 0), (0, 3), (0, 300), (0, 9)],
     },
     Flows {
-        lines: "source Tick => Pass; session Tick => ByNumber; atomic Pass:{s(session)};",
+        lines: ONE_SESSION_EACH,
         given: &[(0, 4), (0, 4), (0, 5), (0, -1), (0, 5), (0, 4)],
     },
     Flows {
@@ -55,7 +58,7 @@ const PROGRAMS: &[Flows] = &[
         given: &[(0, 7), (0, 0), (0, 2), (0, 9)],
     },
     Flows {
-        lines: "source Tick => A; source Tick_2 => Pass_w; A = Pass_r; atomic A:{k?}; atomic Pass_r:{k?}; atomic Pass_w:{k};",
+        lines: READER_WITHIN_READER,
         given: &[(0, 1), (1, 2), (0, 3), (1, 4), (0, 5)],
     },
     Flows {
@@ -65,6 +68,12 @@ const PROGRAMS: &[Flows] = &[
     Flows {
         lines: "typedef zero IsZero; source Tick => Select; Select:[zero] = Pass -> Fail; handle error Select:(256) => Show; atomic Select:{k?}; atomic Pass:{k}; atomic Show:{k};",
         given: &[(0, 0), (0, 1), (0, 0), (0, 2), (0, 0)],
+    },
+    // A member behind one that fails or is handled, an outcome over that passes a node with a handler, an empty case,
+    // and a lock for a handler's constraint.
+    Flows {
+        lines: "typedef zero IsZero; source Tick => Outer; source Tick_2 => Pass_w; Outer = Inner -> Last; Inner = Fail -> Pass; Last:[zero] = ; Last:[_] = Pass_b; handle error Fail:(7) => Pass_d; handle error Fail => Fail_h; handle error Inner => Show; atomic Outer:{m?}; atomic Fail_h:{k?}; atomic Pass_w:{k};",
+        given: &[(0, 7), (0, 3), (1, 5), (0, 0), (0, 300), (1, 8), (0, 7)],
     },
 ];
 
@@ -157,12 +166,17 @@ fn assert_wanders(rt: &impl Abort, alloc: Global, flows: Flows, seed: u64) -> Re
     assert_printed(rt, alloc, flows, printed.as_bytes())
 }
 
+fn assert_seeds(rt: &impl Abort, alloc: Global, flows: Flows) -> Result<(), Fail> {
+    for seed in SEEDS {
+        assert_wanders(rt, alloc, flows, *seed)?;
+    }
+    Ok(())
+}
+
 #[test]
 fn journals_are_whole_and_legal_in_any_order_of_moves(rt: HostRuntime) -> Result<(), Fail> {
     for flows in PROGRAMS {
-        for seed in SEEDS {
-            assert_wanders(&rt, rt.alloc(), *flows, *seed)?;
-        }
+        assert_seeds(&rt, rt.alloc(), *flows)?;
     }
     Ok(())
 }

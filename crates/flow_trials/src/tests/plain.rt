@@ -1,4 +1,4 @@
-//! What a journal must be, told by plain lists and by none of the code that made it.
+//! What a journal must be, told by plain lists: of the code that made it they use the checked program and nothing else.
 
 pub mod answers;
 pub mod keys;
@@ -6,7 +6,7 @@ pub mod locks;
 pub mod walks;
 
 use crate::building::Given;
-use flux_model::{Entry, Hold, Program};
+use flux_model::{Class, Entry, Hold, Program};
 use flux_values::Memory;
 use std::alloc::Global;
 use std::process::Abort;
@@ -17,6 +17,14 @@ pub struct Plain<'a> {
     pub program: &'a Program,
     pub locks: &'a [Vec<Hold>],
     pub given: &'a [Given],
+}
+
+/// Whether classes stand by name, and of one name the program-wide one first.
+fn is_rising(classes: &[Class]) -> bool {
+    classes.windows(2).all(|pair| match pair {
+        [a, b] => (a.name.as_bytes(), a.session) < (b.name.as_bytes(), b.session),
+        _ => false,
+    })
 }
 
 /// The entries are a whole and legal journal of the program's flows.
@@ -33,7 +41,8 @@ pub fn assert_right(
         locks: locks.as_slice(),
         given,
     };
+    assert!(rt; is_rising(program.classes.as_slice()));
     keys::assert_exclude(rt, alloc, plain, entries)?;
-    answers::assert_right(rt, alloc, plain, entries)?;
-    walks::assert_whole(rt, alloc, plain, entries)
+    answers::assert_answers(rt, alloc, plain, entries)?;
+    walks::assert_walks(rt, alloc, plain, entries)
 }

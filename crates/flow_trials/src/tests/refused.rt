@@ -74,17 +74,22 @@ const FLOWS: Flows = Flows {
     given: &[(0, 3), (1, 7), (0, 3)],
 };
 
-/// Moves of one flow after the other. Refused ones add nothing and are made once more; it gives how many there are.
-fn run_all<L: Library>(rt: &impl Abort, alloc: Global, core: &mut Core<L>) -> u32 {
+/// Moves of one flow until it has ended, and more; it gives how many were refused.
+fn run_flow<L: Library>(alloc: Global, core: &mut Core<L>, flow: u32) -> u32 {
+    let mut refused: u32 = 0;
+    for _ in 0..40 {
+        if flow < core.flows() && move_on(alloc, core, FlowNo(flow)).is_err() {
+            refused = refused.saturating_add(1);
+        }
+    }
+    refused
+}
+
+/// Moves of one flow after the other; it gives how many were refused.
+fn run_all<L: Library>(alloc: Global, core: &mut Core<L>) -> u32 {
     let mut refused: u32 = 0;
     for flow in 0..core.flows() {
-        for _ in 0..40 {
-            let before = core.journal().entries.len();
-            if flow < core.flows() && move_on(alloc, core, FlowNo(flow)).is_err() {
-                refused = refused.saturating_add(1);
-                assert_eq!(rt; core.journal().entries.len(), before);
-            }
-        }
+        refused = refused.saturating_add(run_flow(alloc, core, flow));
     }
     refused
 }
@@ -96,16 +101,18 @@ fn run_refusing(rt: &impl Abort, alloc: Global, refused: u64) -> Result<Bytes, F
         refused,
     };
     let mut core = core_in(alloc, FLOWS, library)?;
-    assert_eq!(rt; run_all(rt, alloc, &mut core), 1, "at {refused}");
+    assert_eq!(rt; run_all(alloc, &mut core), 1, "at {refused}");
     assert_eq!(rt; core.live(), 0, "at {refused}");
     Ok(printed_in(alloc, FLOWS, &core)?)
 }
 
 #[test]
-fn a_refused_call_changes_nothing(rt: HostRuntime) -> Result<(), Fail> {
+fn a_call_that_the_library_refuses_is_run_again_and_the_journal_is_the_same(
+    rt: HostRuntime,
+) -> Result<(), Fail> {
     let alloc = rt.alloc();
     let mut ample = core_in(alloc, FLOWS, Counter)?;
-    assert_eq!(&rt; run_all(&rt, alloc, &mut ample), 0);
+    assert_eq!(&rt; run_all(alloc, &mut ample), 0);
     let wanted = printed_in(alloc, FLOWS, &ample)?;
     for refused in 0..8 {
         let printed = run_refusing(&rt, alloc, refused)?;

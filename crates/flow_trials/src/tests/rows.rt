@@ -2,7 +2,10 @@
 
 ghost use Rattle.std.specs.Prelude.{◌<◌, length, IfSome};
 
-use super::{Flows, core_in, printed_in};
+use super::{
+    CROSSED_KEYS, Flows, ONE_SESSION_EACH, READER_WITHIN_READER, READERS_AND_WRITERS, core_in,
+    printed_in,
+};
 use crate::turns::take_turn;
 use flow_core::Core;
 use flux_model::FlowNo;
@@ -23,7 +26,7 @@ const ROWS: &[Row] = &[
     // Two flows that take the same keys, each in the order of the classes.
     Row {
         flows: Flows {
-            lines: "source Tick => A; source Tick_2 => C; A = Pass_b; C = Pass_d; atomic A:{x}; atomic Pass_b:{y}; atomic C:{y}; atomic Pass_d:{x};",
+            lines: CROSSED_KEYS,
             given: &[(0, 1), (1, 2)],
         },
         steps: &[0, 1, 1, 0],
@@ -32,7 +35,7 @@ const ROWS: &[Row] = &[
     // A writer waits for two readers.
     Row {
         flows: Flows {
-            lines: "source Tick => Pass_r; source Tick_2 => Pass_w; atomic Pass_r:{k?}; atomic Pass_w:{k};",
+            lines: READERS_AND_WRITERS,
             given: &[(0, 1), (0, 2), (1, 3)],
         },
         steps: &[0, 1, 2, 0, 0, 0, 0, 2],
@@ -50,7 +53,7 @@ const ROWS: &[Row] = &[
     // Flows of one session wait for each other.
     Row {
         flows: Flows {
-            lines: "source Tick => Pass; session Tick => ByNumber; atomic Pass:{s(session)};",
+            lines: ONE_SESSION_EACH,
             given: &[(0, 4), (0, 4), (0, 5)],
         },
         steps: &[0, 1, 2],
@@ -68,7 +71,7 @@ const ROWS: &[Row] = &[
     // A reader doesn't overtake a writer that waits.
     Row {
         flows: Flows {
-            lines: "source Tick => Pass_r; source Tick_2 => Pass_w; atomic Pass_r:{k?}; atomic Pass_w:{k};",
+            lines: READERS_AND_WRITERS,
             given: &[(0, 1), (1, 2), (0, 3)],
         },
         steps: &[0, 1, 2],
@@ -77,7 +80,7 @@ const ROWS: &[Row] = &[
     // But one that holds the key passes it.
     Row {
         flows: Flows {
-            lines: "source Tick => A; source Tick_2 => Pass_w; A = Pass_r; atomic A:{k?}; atomic Pass_r:{k?}; atomic Pass_w:{k};",
+            lines: READER_WITHIN_READER,
             given: &[(0, 1), (1, 2)],
         },
         steps: &[0, 1],

@@ -7,54 +7,50 @@ use flux_values::{Answer, CallResult, Memory, Put, Value};
 use std::alloc::Global;
 use std::process::Abort;
 
-/// What a call comes to: a number or nothing, or a code.
+/// What a call comes to: a number, nothing or more, or a code.
 #[derive(Clone, Copy, Debug, PartialEq, Eq)]
 enum Comes {
-    To(i64),
-    ToNothing,
-    ToCode(u16),
-    ToMore,
+    Number(i64),
+    Nothing,
+    More,
+    Code(u16),
 }
 
 /// What a call comes to, and the number that it puts.
 #[derive(Clone, Copy, Debug, PartialEq, Eq)]
-struct Told {
+struct Answered {
     comes: Comes,
     put: Option<i64>,
 }
 
-/// What a library node comes to on a number, where its cell has another.
-fn expected(name: &[u8], given: i64, kept: i64) -> Told {
+/// What a library node comes to on a number, where its cell has another; none for a node that isn't known here.
+fn expected(name: &[u8], given: i64, kept: i64) -> Option<Answered> {
     if name == b"Add".as_slice() {
         let sum = kept.checked_add(given);
-        Told {
-            comes: sum.map_or(Comes::ToCode(1), Comes::To),
-            put: sum,
-        }
+        let comes = sum.map_or(Comes::Code(1), Comes::Number);
+        Some(Answered { comes, put: sum })
     } else if name == b"Bump".as_slice() {
         let more = kept.checked_add(1);
-        Told {
-            comes: more.map_or(Comes::ToCode(1), |_| Comes::To(given)),
-            put: more,
-        }
+        let comes = more.map_or(Comes::Code(1), |_| Comes::Number(given));
+        Some(Answered { comes, put: more })
     } else {
-        Told {
-            comes: expected_alone(name, given, kept),
-            put: None,
-        }
+        let comes = expected_alone(name, given, kept)?;
+        Some(Answered { comes, put: None })
     }
 }
 
 /// The same of a node that puts nothing.
-fn expected_alone(name: &[u8], given: i64, kept: i64) -> Comes {
+fn expected_alone(name: &[u8], given: i64, kept: i64) -> Option<Comes> {
     if name == b"Read".as_slice() {
-        Comes::To(kept)
+        Some(Comes::Number(kept))
     } else if name == b"Show".as_slice() {
-        Comes::ToNothing
+        Some(Comes::Nothing)
     } else if name == b"Fail".as_slice() && 1 <= given && given <= 255 {
-        Comes::ToCode(given as u16)
+        Some(Comes::Code(given as u16))
+    } else if name == b"Fail".as_slice() || name == b"Pass".as_slice() {
+        Some(Comes::Number(given))
     } else {
-        Comes::To(given)
+        None
     }
 }
 
@@ -71,11 +67,11 @@ fn kept_by(name: &[u8]) -> Option<(&'static [u8], &'static [u8])> {
 
 fn read_result(found: &CallResult) -> Comes {
     match found {
-        CallResult::Bad(code) => Comes::ToCode(*code),
+        CallResult::Bad(code) => Comes::Code(*code),
         CallResult::Good(values) => match values.as_slice() {
-            [] => Comes::ToNothing,
-            [Value::Int(number)] => Comes::To(*number),
-            _ => Comes::ToMore,
+            [] => Comes::Nothing,
+            [Value::Int(number)] => Comes::Number(*number),
+            _ => Comes::More,
         },
     }
 }
@@ -94,7 +90,10 @@ fn put_by(rt: &impl Abort, name: &[u8], puts: &[Put]) -> Option<i64> {
     assert_eq!(rt; kept_by(name), wanted);
     match &put.value {
         Some(Value::Int(number)) => Some(*number),
-        _ => None,
+        _ => {
+            assert!(rt; false, "{put:?}");
+            None
+        }
     }
 }
 
@@ -124,12 +123,12 @@ impl Kept {
             assert!(rt; false, "{:?}", call.args);
             return Ok(());
         };
-        let told = Told {
+        let answered = Answered {
             comes: read_result(&call.answer.result),
             put: put_by(rt, name, call.answer.puts.as_slice()),
         };
-        assert_eq!(rt; told, expected(name, *given, self.at(key)));
-        if let (Some(key), Some(number)) = (key, told.put) {
+        assert_eq!(rt; Some(answered), expected(name, *given, self.at(key)));
+        if let (Some(key), Some(number)) = (key, answered.put) {
             self.numbers.push((key, number))?;
         }
         Ok(())
@@ -167,7 +166,7 @@ fn assert_emits(
 }
 
 /// Each call of the entries has its node's answer, on what the calls before it put.
-pub fn assert_right(
+pub fn assert_answers(
     rt: &impl Abort,
     alloc: Global,
     plain: Plain,

@@ -62,15 +62,23 @@ impl Seen {
             .any(|held| held.flow == claim.flow && held.key == claim.key)
     }
 
-    /// Whether another flow keeps a claim from being taken: it holds the key, or waits for it and came first.
-    fn is_barred(&self, claim: &Claim) -> bool {
-        let is_held = self.held.iter().any(|held| held.bars(claim));
-        let is_late = self
+    /// Whether another flow's hold keeps a claim from being taken.
+    fn is_held_against(&self, claim: &Claim) -> bool {
+        self.held.iter().any(|held| held.bars(claim))
+    }
+
+    /// Whether another flow waits for the key and came first; whoever holds the key needn't care.
+    fn is_late(&self, claim: &Claim) -> bool {
+        let is_behind = self
             .waiting
             .iter()
             .take_while(|waiting| waiting.flow != claim.flow)
             .any(|waiting| waiting.bars(claim));
-        !self.holds(claim) && (is_held || is_late)
+        is_behind && !self.holds(claim)
+    }
+
+    fn is_blocked(&self, claim: &Claim) -> bool {
+        !self.holds(claim) && (self.is_held_against(claim) || self.is_late(claim))
     }
 
     fn place_in_line(&self, flow: FlowNo) -> Option<usize> {
@@ -78,7 +86,8 @@ impl Seen {
     }
 
     fn take(&mut self, rt: &impl Abort, claim: Claim) -> Result<(), Memory> {
-        assert!(rt; !self.is_barred(&claim), "{claim:?} is taken");
+        let is_free = !self.is_held_against(&claim) && !self.is_late(&claim);
+        assert!(rt; is_free, "{claim:?} is taken");
         if let Some(place) = self.place_in_line(claim.flow)
             && place < self.waiting.len()
         {
@@ -89,7 +98,7 @@ impl Seen {
     }
 
     fn wait(&mut self, rt: &impl Abort, claim: Claim) -> Result<(), Memory> {
-        assert!(rt; self.is_barred(&claim), "{claim:?} waits");
+        assert!(rt; self.is_blocked(&claim), "{claim:?} waits");
         assert!(rt;
             self.place_in_line(claim.flow).is_none(),
             "{claim:?} waits twice"

@@ -40,12 +40,18 @@ fn mark_more(marks: &mut [bool], nodes: &[Node]) {
     }
 }
 
-/// Which nodes are below a node.
-fn below(alloc: Global, nodes: &[Node], node: &Node) -> Result<Vec<bool>, Memory> {
+/// No marks.
+fn no_marks(alloc: Global, nodes: &[Node]) -> Result<Vec<bool>, Memory> {
     let mut marks = Vec::new(alloc);
     for _ in nodes {
         marks.push(false)?;
     }
+    Ok(marks)
+}
+
+/// Which nodes are below a node.
+fn below(alloc: Global, nodes: &[Node], node: &Node) -> Result<Vec<bool>, Memory> {
+    let mut marks = no_marks(alloc, nodes)?;
     mark_members(marks.as_mut_slice(), node);
     for _ in nodes {
         mark_more(marks.as_mut_slice(), nodes);

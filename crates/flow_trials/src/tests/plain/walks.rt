@@ -105,6 +105,18 @@ impl<'a> Walker<'a> {
         );
     }
 
+    fn assert_takes(&mut self, rt: &impl Abort, locks: &[Hold]) {
+        for hold in locks {
+            self.assert_take(rt, hold);
+        }
+    }
+
+    fn assert_drops(&mut self, rt: &impl Abort, locks: &[Hold]) {
+        for hold in locks.iter().rev() {
+            self.assert_drop(rt, hold);
+        }
+    }
+
     fn call(&mut self, rt: &impl Abort, wanted: NodeNo, given: i64) -> Way {
         let event = self.next();
         if let Some(Event::Call(call)) = event
@@ -202,9 +214,7 @@ impl<'a> Walker<'a> {
     fn walk(&mut self, rt: &impl Abort, depth: u32, node: NodeNo, given: i64) -> Way {
         assert!(rt; depth > 0);
         let locks = self.locks(node);
-        for hold in locks {
-            self.assert_take(rt, hold);
-        }
+        self.assert_takes(rt, locks);
         let event = self.next();
         assert!(rt;
             matches!(event, Some(Event::Enter(entered)) if *entered == node),
@@ -216,9 +226,7 @@ impl<'a> Walker<'a> {
             matches!(event, Some(Event::Exit(left, outcome)) if *left == node && *outcome == way.outcome),
             "{event:?} and not the exit of {node:?} with {way:?}"
         );
-        for hold in locks.iter().rev() {
-            self.assert_drop(rt, hold);
-        }
+        self.assert_drops(rt, locks);
         self.handle(rt, depth - 1, node, given, way)
     }
 }
@@ -231,10 +239,10 @@ fn assert_walk(
     entries: &[Entry],
     flow: FlowNo,
 ) -> Result<(), Memory> {
-    let Some(given) = plain.given.get(flow.0 as usize) else {
-        return Ok(());
-    };
-    let Some(line) = plain.program.sources.get(given.source as usize) else {
+    let given = plain.given.get(flow.0 as usize);
+    let line = given.and_then(|given| plain.program.sources.get(given.source as usize));
+    let (Some(given), Some(line)) = (given, line) else {
+        assert!(rt; false, "{flow:?} has no source");
         return Ok(());
     };
     let mut walker = Walker {
@@ -254,18 +262,17 @@ fn assert_walk(
 }
 
 /// Each flow's own events are one whole walk, and there are no other flows.
-pub fn assert_whole(
+pub fn assert_walks(
     rt: &impl Abort,
     alloc: Global,
     plain: Plain,
     entries: &[Entry],
 ) -> Result<(), Memory> {
     let flows = plain.given.len();
+    assert!(rt; flows <= 4_096);
     assert!(rt; entries.iter().all(|entry| (entry.flow.0 as usize) < flows));
-    for flow in 0..4_096 {
-        if (flow as usize) < flows {
-            assert_walk(rt, alloc, plain, entries, FlowNo(flow))?;
-        }
+    for flow in 0..flows as u32 {
+        assert_walk(rt, alloc, plain, entries, FlowNo(flow))?;
     }
     Ok(())
 }
