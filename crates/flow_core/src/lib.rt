@@ -21,8 +21,6 @@ mod runtimes;
 mod sameness;
 mod setups;
 mod stepping;
-#[cfg(test)]
-mod tests;
 
 pub use calls::{CallDone, Inputs, Job};
 pub use cores::{Core, Finish, Step, Stop};

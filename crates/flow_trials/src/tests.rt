@@ -5,6 +5,7 @@ mod moves;
 mod plain;
 mod refused;
 mod rows;
+mod sent;
 
 use crate::building::{Given, checked_of, core_of};
 use crate::troubles::Trouble;
