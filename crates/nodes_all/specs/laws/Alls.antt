@@ -9,11 +9,11 @@ use Rattle.flux_values.specs.Meanings.{LibraryMeaning}
 use Rattle.flux_values.specs.declared.meanings.Sig.{Sig}
 use Rattle.flux_library.specs.Libraries.{IsLawfulNode, IsLawful}
 use Rattle.flux_library.specs.Documents.{DocMap}
-use Rattle.nodes_counter.specs.CounterLaws.{counter_lawful}
+use Rattle.nodes_counter.specs.laws.Counters.{counter_lawful}
 use Rattle.nodes_counter.specs.Counters.{counter_meaning}
-use Rattle.nodes_web.specs.WebLaws.{web_lawful}
+use Rattle.nodes_web.specs.laws.Webs.{web_lawful}
 use Rattle.nodes_web.specs.Webs.{web_meaning}
-use Rattle.nodes_cache.specs.CachingLaws.{caching_lawful}
+use Rattle.nodes_cache.specs.laws.Cachings.{caching_lawful}
 use Rattle.nodes_cache.specs.Cachings.{caching_meaning}
 use Rattle.nodes_all.specs.Joined.{joined}
 use Rattle.nodes_all.specs.Alls.{all_meaning}

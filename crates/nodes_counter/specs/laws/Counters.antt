@@ -12,16 +12,16 @@ use Rattle.flux_values.specs.declared.answers.Mode.TheVariants.{Writer}
 use Rattle.flux_values.specs.Reading.{IsValue}
 use Rattle.flux_values.specs.Cells.{CellMap}
 use Rattle.flux_library.specs.Libraries.{IsLawfulNode, IsAnswerOf, IsLawful}
-use Rattle.flux_library.specs.TypeLaws.{types_short}
+use Rattle.flux_library.specs.laws.Types.{types_short}
 use Rattle.flux_library.specs.Answers.{the_text}
-use Rattle.flux_library.specs.AnswerLaws.{text_valid}
+use Rattle.flux_library.specs.laws.Answers.{text_valid}
 use Rattle.nodes_counter.specs.declared.nodes.Node.{Node}
 use Rattle.nodes_counter.specs.declared.nodes.Node.TheVariants as nodes
 use Rattle.nodes_counter.specs.Numbers.{fits, int_spelled}
 use Rattle.nodes_counter.specs.Nodes.{node_named, sig_of, sig_named}
 use Rattle.nodes_counter.specs.Calls.{number_or_zero, number_under, the_number, the_amount, fail_call, added, add_command, command_call, add_call, bump_call, answer_named}
 use Rattle.nodes_counter.specs.Counters.{counter_meaning}
-use Rattle.nodes_counter.specs.SpellingLaws.{fits_sound, int_sound}
+use Rattle.nodes_counter.specs.laws.Spellings.{fits_sound, int_sound}
 
 -- ---- what nodes read is a value
 

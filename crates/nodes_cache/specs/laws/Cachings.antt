@@ -12,9 +12,9 @@ use Rattle.flux_values.specs.declared.answers.Put.{Put}
 use Rattle.flux_values.specs.Reading.{IsValue}
 use Rattle.flux_values.specs.Cells.{CellMap}
 use Rattle.flux_library.specs.Libraries.{Fits, IsWrite, IsLawfulNode, IsAnswerOf, IsLawful}
-use Rattle.flux_library.specs.TypeLaws.{types_short}
+use Rattle.flux_library.specs.laws.Types.{types_short}
 use Rattle.flux_library.specs.Answers.{the_text}
-use Rattle.flux_library.specs.AnswerLaws.{text_valid}
+use Rattle.flux_library.specs.laws.Answers.{text_valid}
 use Rattle.flux_library.specs.Documents.{IsBody, DocMap}
 use Rattle.nodes_cache.specs.declared.nodes.Node.{Node}
 use Rattle.nodes_cache.specs.declared.nodes.Node.TheVariants as nodes

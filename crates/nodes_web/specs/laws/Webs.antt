@@ -10,8 +10,8 @@ use Rattle.flux_values.specs.declared.values.Value.TheVariants as values
 use Rattle.flux_values.specs.Reading.{IsValue}
 use Rattle.flux_library.specs.Libraries.{IsLawfulNode, IsAnswerOf, IsLawful}
 use Rattle.flux_library.specs.Answers.{the_text}
-use Rattle.flux_library.specs.AnswerLaws.{text_valid}
-use Rattle.flux_library.specs.TypeLaws.{types_short}
+use Rattle.flux_library.specs.laws.Answers.{text_valid}
+use Rattle.flux_library.specs.laws.Types.{types_short}
 use Rattle.flux_library.specs.Documents.{DocMap, IsBody}
 use Rattle.nodes_web.specs.declared.nodes.Node.{Node}
 use Rattle.nodes_web.specs.declared.nodes.Node.TheVariants as nodes
@@ -21,8 +21,8 @@ use Rattle.nodes_web.specs.Requests.{is_path, is_served}
 use Rattle.nodes_web.specs.Names.{is_folder, name_of, type_of, ending}
 use Rattle.nodes_web.specs.Nodes.{node_named, sig_of, sig_named}
 use Rattle.nodes_web.specs.Calls.{first_text, read_front, look_up_call, sent, refused, gets_body, begins_otherwise, answer_named}
-use Rattle.nodes_web.specs.HeadLaws.{cut_fits, head_fits, head_parts}
-use Rattle.nodes_web.specs.ReplyLaws.{length-type_of_ending, length-reply, length-error_reply, length-status_text-200, length-status_text-400, length-status_text-404, length-status_text-405}
+use Rattle.nodes_web.specs.laws.Heads.{cut_fits, head_fits, head_parts}
+use Rattle.nodes_web.specs.laws.Replies.{length-type_of_ending, length-reply, length-error_reply, length-status_text-200, length-status_text-400, length-status_text-404, length-status_text-405}
 use Rattle.nodes_web.specs.Webs.{web_meaning}
 use Rattle.nodes_web.specs.steps.Deciding.{front_of}
 
