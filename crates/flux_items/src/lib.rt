@@ -11,8 +11,6 @@ mod lines;
 mod names;
 mod rules;
 mod spellings;
-#[cfg(test)]
-mod tests;
 mod words;
 
 pub use items::read_items;
