@@ -7,6 +7,7 @@
 
 mod blanks;
 mod items;
+mod laws;
 mod lines;
 mod names;
 mod rules;
@@ -14,4 +15,5 @@ mod spellings;
 mod words;
 
 pub use items::read_items;
+pub use laws::items_have_no_fault;
 pub use rules::{ITEM_LIMIT, ItemFault, ItemRules, SIZE_LIMIT};
