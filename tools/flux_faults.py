@@ -217,13 +217,15 @@ def predicate_type(it, at):
                 row = it.library.get(it.function(pattern.text))
                 found = it.types(flow.name)
                 there = found[0][place] if found and place < len(found[0]) else "another type"
-                return f"`{pattern.text}` is {row.name} of the type `{row.takes}`, and input {place + 1} of `{flow.name}` is `{there}`."
+                whose = f"input {place + 1} of `{flow.name}`"
+                return f"`{pattern.text}` is {row.name} of the type `{row.takes}`, and {whose} is `{there}`."
     return "The predicate takes another kind than the input in its place."
 
 
 def handler_types(it, at):
     line = next(one for one in it.of(Handler) if one.handler.at == at)
-    return f"`{line.handler.text}` takes {it.takes(line.handler.text)}, and must take what `{line.name}` takes, {it.takes(line.name)}."
+    takes, wanted = it.takes(line.handler.text), it.takes(line.name)
+    return f"`{line.handler.text}` takes {takes}, and must take what `{line.name}` takes, {wanted}."
 
 
 def source_types(it, at):
