@@ -171,7 +171,9 @@ def source_misused(it, at):
 
 
 def too_many(it, at):
-    return f"There are at most 4,096 nodes and 256 classes of constraints; this text has {len(it.order):,} nodes."
+    classes = {(one.name, one.session) for line in it.of(Atomic) for one in line.constraints}
+    return (f"There are at most 4,096 nodes and 256 classes of constraints; this text has {len(it.order):,} nodes and"
+            f" {len(classes):,} classes.")
 
 
 def cycle(it, at, path=""):

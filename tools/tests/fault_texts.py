@@ -51,6 +51,8 @@ FAULTS = [
     (13, TICK + b"A = Tick -> Show;\n", "3:5: fault 13 SourceMisused", "`Tick` is a source"),
     (14, b"".join(b"Pass_%d (int n) => (int n);\n" % it for it in range(4097)),
      "4097:1: fault 14 TooMany", "at most 4,096 nodes", "4,097 nodes"),
+    (14, TICK + b"atomic Show:{" + b", ".join(b"c%d" % it for it in range(257)) + b"};\n", "3:1440: fault 14 TooMany",
+     "3 | ...", "^^^^", "2 nodes and 257 classes"),
     (15, TICK + b"A = B;\nB = A;\n", "3:1: fault 15 Cycle A -> B -> A", "A, which leads to B, which leads to A"),
     (16, TICK + b"A = ;\n", "3:1: fault 16 NoSignature", "All cases of `A` are empty"),
     (17, TICK + b"Echo (int n, text t) => ();\nPass (int n) => (int n);\nA = Pass -> Echo;\n",
