@@ -7,20 +7,20 @@ use Rattle.flux_values.specs.declared.answers.Answer.{Answer}
 use Rattle.flux_model.specs.declared.programs.ClassNo.{ClassNo}
 use Rattle.flux_model.specs.declared.programs.NodeNo.{NodeNo}
 use Rattle.flux_model.specs.declared.programs.SourceLine.{SourceLine}
-use Rattle.flux_model.specs.declared.journals.FlowNo.{FlowNo}
-use Rattle.flux_model.specs.declared.journals.Key.{Key}
-use Rattle.flux_model.specs.declared.journals.Item.{Item}
-use Rattle.flux_model.specs.declared.journals.Entry.{Entry}
-use Rattle.flux_model.specs.declared.journals.Event.{Event}
-use Rattle.flux_model.specs.declared.journals.Event.TheVariants as events
-use Rattle.flux_model.specs.Setup.{Setup, item_of}
-use Rattle.flux_model.specs.Keys.{class_key, session_number}
-use Rattle.flux_model.specs.CellsAfter.{key_on, key_for}
-use Rattle.flux_model.specs.Walk.{Given}
-use Rattle.flux_model.specs.Flows.{given_for}
+use Rattle.flux_model.specs.declared.items.FlowNo.{FlowNo}
+use Rattle.flow_model.specs.declared.journals.Key.{Key}
+use Rattle.flux_model.specs.declared.items.Item.{Item}
+use Rattle.flow_model.specs.declared.journals.Entry.{Entry}
+use Rattle.flow_model.specs.declared.journals.Event.{Event}
+use Rattle.flow_model.specs.declared.journals.Event.TheVariants as events
+use Rattle.flow_model.specs.Setup.{Setup, item_of}
+use Rattle.flow_model.specs.Keys.{class_key, session_number}
+use Rattle.flow_model.specs.CellsAfter.{key_on, key_for}
+use Rattle.flow_model.specs.Walk.{Given}
+use Rattle.flow_model.specs.Flows.{given_for}
 use Rattle.flux_model.specs.Items.{IsItemOf, IsItemFor}
-use Rattle.flux_model.specs.Events.{answer_in, unless_wait, events_by, own_events, own_answers, IsNext, CallIsNext}
-use Rattle.flux_model.specs.Legal.{IsLegal}
+use Rattle.flow_model.specs.Events.{answer_in, unless_wait, events_by, own_events, own_answers, IsNext, CallIsNext}
+use Rattle.flow_model.specs.Legal.{IsLegal}
 use Rattle.flux_laws.specs.Growth.{has_ended}
 use Rattle.flux_laws.proofs.Members.{all-get, get-within}
 use Rattle.flux_laws.proofs.NextEvents.{own_events-more, own_answers-more, next-plain}
@@ -42,7 +42,7 @@ use Rattle.flow_core.specs.steps.Running.{IsGiven}
 use Rattle.flow_core.proofs.Entries.{events-own, events-other, waiting-last, waiting-stands, StandsAnywhere}
 use Rattle.flow_core.proofs.Sets.{length-replaced, replaced-cases}
 use Rattle.flow_core.proofs.Ended.{whole-has_ended}
-use Rattle.flux_model.specs.Waits.{StandsAt}
+use Rattle.flow_model.specs.Waits.{StandsAt}
 
 -- ---- items and plans
 

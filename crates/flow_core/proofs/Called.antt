@@ -22,20 +22,20 @@ use Rattle.flux_model.specs.declared.programs.NodeNo.{NodeNo}
 use Rattle.flux_model.specs.declared.programs.Program.{Program}
 use Rattle.flux_model.specs.declared.programs.Body.{Body}
 use Rattle.flux_model.specs.declared.programs.Body.TheVariants.{Concrete, Abstract}
-use Rattle.flux_model.specs.declared.journals.FlowNo.{FlowNo}
-use Rattle.flux_model.specs.declared.journals.Key.{Key}
-use Rattle.flux_model.specs.declared.journals.Entry.{Entry}
-use Rattle.flux_model.specs.declared.journals.Journal.{Journal}
-use Rattle.flux_model.specs.declared.journals.CallMade.{CallMade}
-use Rattle.flux_model.specs.declared.journals.Event.TheVariants.{Call}
-use Rattle.flux_model.specs.Setup.{Setup}
-use Rattle.flux_model.specs.Keys.{Cells}
+use Rattle.flux_model.specs.declared.items.FlowNo.{FlowNo}
+use Rattle.flow_model.specs.declared.journals.Key.{Key}
+use Rattle.flow_model.specs.declared.journals.Entry.{Entry}
+use Rattle.flow_model.specs.declared.journals.Journal.{Journal}
+use Rattle.flow_model.specs.declared.journals.CallMade.{CallMade}
+use Rattle.flow_model.specs.declared.journals.Event.TheVariants.{Call}
+use Rattle.flow_model.specs.Setup.{Setup}
+use Rattle.flow_model.specs.Keys.{Cells}
 use Rattle.flux_model.specs.Locks.{declared}
-use Rattle.flux_model.specs.Walk.{before_call}
-use Rattle.flux_model.specs.CellsAfter.{class_named, key_of, cell_key, after_puts, after_event, cells_after}
-use Rattle.flux_model.specs.Answers.{cell_at, cells_for, IsBodyAnswer, IsNodeAnswer}
-use Rattle.flux_model.specs.Events.{CallIsNext}
-use Rattle.flux_model.specs.Legal.{IsLegal}
+use Rattle.flow_model.specs.Walk.{before_call}
+use Rattle.flow_model.specs.CellsAfter.{class_named, key_of, cell_key, after_puts, after_event, cells_after}
+use Rattle.flow_model.specs.Answers.{cell_at, cells_for, IsBodyAnswer, IsNodeAnswer}
+use Rattle.flow_model.specs.Events.{CallIsNext}
+use Rattle.flow_model.specs.Legal.{IsLegal}
 use Rattle.flux_laws.specs.Moves.{MayCall}
 use Rattle.flux_laws.specs.Calls.{FitsSig, FitsFound, FitsBody, FitsNode, cells_of_body, cells_of_node, cells_read}
 use Rattle.flux_laws.proofs.FittingCalls.{next_calls_fit}

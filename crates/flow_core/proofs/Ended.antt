@@ -6,16 +6,16 @@ use Rattle.std.proofs.lemmas.List.{append-nil, append_cancel_left}
 use Rattle.std.proofs.lemmas.List.Folds.{list_any-append}
 use Rattle.flux_values.specs.declared.values.Value.{Value}
 use Rattle.flux_model.specs.declared.programs.NodeNo.{NodeNo}
-use Rattle.flux_model.specs.declared.journals.FlowNo.{FlowNo}
-use Rattle.flux_model.specs.declared.journals.Outcome.{Outcome}
-use Rattle.flux_model.specs.declared.journals.Entry.{Entry}
-use Rattle.flux_model.specs.declared.journals.Event.{Event}
-use Rattle.flux_model.specs.declared.journals.Event.TheVariants.{Take, Wait, Enter, Choose, Call, Exit, Drop, End}
-use Rattle.flux_model.specs.Setup.{Setup}
-use Rattle.flux_model.specs.Walk.{Stop, finished, before_call, nowhere, Walked}
-use Rattle.flux_model.specs.Flows.{flow_walk, ending, HasEnded}
-use Rattle.flux_model.specs.Events.{events_by, own_events, own_answers, IsNext, CallIsNext, IsWholePath}
-use Rattle.flux_model.specs.Legal.{IsLegal}
+use Rattle.flux_model.specs.declared.items.FlowNo.{FlowNo}
+use Rattle.flow_model.specs.declared.journals.Outcome.{Outcome}
+use Rattle.flow_model.specs.declared.journals.Entry.{Entry}
+use Rattle.flow_model.specs.declared.journals.Event.{Event}
+use Rattle.flow_model.specs.declared.journals.Event.TheVariants.{Take, Wait, Enter, Choose, Call, Exit, Drop, End}
+use Rattle.flow_model.specs.Setup.{Setup}
+use Rattle.flow_model.specs.Walk.{Stop, finished, before_call, nowhere, Walked}
+use Rattle.flow_model.specs.Flows.{flow_walk, ending, HasEnded}
+use Rattle.flow_model.specs.Events.{events_by, own_events, own_answers, IsNext, CallIsNext, IsWholePath}
+use Rattle.flow_model.specs.Legal.{IsLegal}
 use Rattle.flux_laws.specs.Growth.{is_end, has_ended, sum_below}
 use Rattle.flux_laws.proofs.Members.{In, contains-from_in, in-right}
 use Rattle.flux_laws.proofs.FlowSums.{sum-same, sum-one}

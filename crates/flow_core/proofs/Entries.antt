@@ -3,13 +3,13 @@ use Rattle.std.proofs.Common.{◌≡◌, ◌⊎◌, inl, inr, ℕ, zero, suc, Bo
 use Rattle.std.proofs.lemmas.Bool.{false≢true, eqb-true}
 use Rattle.std.proofs.lemmas.List.{append-nil}
 use Rattle.flux_values.specs.declared.answers.Mode.{Mode}
-use Rattle.flux_model.specs.declared.journals.FlowNo.{FlowNo}
-use Rattle.flux_model.specs.declared.journals.Key.{Key}
-use Rattle.flux_model.specs.declared.journals.Entry.{Entry}
-use Rattle.flux_model.specs.declared.journals.Event.{Event}
-use Rattle.flux_model.specs.declared.journals.Event.TheVariants.{Take, Wait, Enter, Choose, Call, Exit, Drop, End}
-use Rattle.flux_model.specs.Events.{events_by}
-use Rattle.flux_model.specs.Waits.{IsLast, StandsAt, IsNoWaitLast}
+use Rattle.flux_model.specs.declared.items.FlowNo.{FlowNo}
+use Rattle.flow_model.specs.declared.journals.Key.{Key}
+use Rattle.flow_model.specs.declared.journals.Entry.{Entry}
+use Rattle.flow_model.specs.declared.journals.Event.{Event}
+use Rattle.flow_model.specs.declared.journals.Event.TheVariants.{Take, Wait, Enter, Choose, Call, Exit, Drop, End}
+use Rattle.flow_model.specs.Events.{events_by}
+use Rattle.flow_model.specs.Waits.{IsLast, StandsAt, IsNoWaitLast}
 use Rattle.flux_laws.proofs.Members.{IsEnd, InFront, end_or_front}
 use Rattle.flux_laws.proofs.OwnEvents.{events_by-append, by_itself, by_another}
 use Rattle.flux_laws.proofs.Apart.{stands-front}

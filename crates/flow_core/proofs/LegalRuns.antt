@@ -12,19 +12,19 @@ use Rattle.flux_model.specs.declared.programs.Body.{Body}
 use Rattle.flux_model.specs.declared.programs.Body.TheVariants.{Concrete, Abstract}
 use Rattle.flux_model.specs.declared.programs.Node.{Node}
 use Rattle.flux_model.specs.declared.programs.Program.{Program}
-use Rattle.flux_model.specs.declared.journals.CallMade.{CallMade}
-use Rattle.flux_model.specs.declared.journals.Entry.{Entry}
-use Rattle.flux_model.specs.declared.journals.Event.{Event}
-use Rattle.flux_model.specs.declared.journals.Event.TheVariants.{Take, Wait, Call}
-use Rattle.flux_model.specs.declared.journals.FlowNo.{FlowNo}
-use Rattle.flux_model.specs.declared.journals.Item.{Item}
-use Rattle.flux_model.specs.declared.journals.Key.{Key}
-use Rattle.flux_model.specs.Setup.{Setup}
-use Rattle.flux_model.specs.CellsAfter.{cells_after}
-use Rattle.flux_model.specs.Answers.{IsBodyAnswer, IsNodeAnswer}
-use Rattle.flux_model.specs.Events.{IsNext}
-use Rattle.flux_model.specs.Waits.{StandsAt}
-use Rattle.flux_model.specs.Legal.{IsLegal}
+use Rattle.flow_model.specs.declared.journals.CallMade.{CallMade}
+use Rattle.flow_model.specs.declared.journals.Entry.{Entry}
+use Rattle.flow_model.specs.declared.journals.Event.{Event}
+use Rattle.flow_model.specs.declared.journals.Event.TheVariants.{Take, Wait, Call}
+use Rattle.flux_model.specs.declared.items.FlowNo.{FlowNo}
+use Rattle.flux_model.specs.declared.items.Item.{Item}
+use Rattle.flow_model.specs.declared.journals.Key.{Key}
+use Rattle.flow_model.specs.Setup.{Setup}
+use Rattle.flow_model.specs.CellsAfter.{cells_after}
+use Rattle.flow_model.specs.Answers.{IsBodyAnswer, IsNodeAnswer}
+use Rattle.flow_model.specs.Events.{IsNext}
+use Rattle.flow_model.specs.Waits.{StandsAt}
+use Rattle.flow_model.specs.Legal.{IsLegal}
 use Rattle.flux_laws.specs.Calls.{cells_of_body, cells_of_node}
 use Rattle.flux_laws.proofs.OwnEvents.{by_another}
 use Rattle.flux_laws.proofs.Added.{nothing_is_legal, event_is_legal, wait_is_legal, call_is_legal}

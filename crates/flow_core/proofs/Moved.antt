@@ -5,18 +5,18 @@ use Rattle.flux_values.specs.declared.values.Value.{Value}
 use Rattle.flux_values.specs.declared.answers.Mode.{Mode}
 use Rattle.flux_values.specs.declared.answers.Answer.{Answer}
 use Rattle.flux_model.specs.declared.programs.NodeNo.{NodeNo}
-use Rattle.flux_model.specs.declared.journals.FlowNo.{FlowNo}
-use Rattle.flux_model.specs.declared.journals.Key.{Key}
-use Rattle.flux_model.specs.declared.journals.Entry.{Entry}
-use Rattle.flux_model.specs.declared.journals.CallMade.{CallMade}
-use Rattle.flux_model.specs.declared.journals.Event.{Event}
-use Rattle.flux_model.specs.declared.journals.Event.TheVariants.{Take, Wait, Enter, Choose, Call, Exit, Drop, End}
-use Rattle.flux_model.specs.Setup.{Setup, item_of}
-use Rattle.flux_model.specs.Keys.{Cells}
-use Rattle.flux_model.specs.CellsAfter.{after_event, after_entries, cells_after}
-use Rattle.flux_model.specs.Events.{events_by, own_events, own_answers, IsNext, CallIsNext}
-use Rattle.flux_model.specs.Waits.{Blocks}
-use Rattle.flux_model.specs.Legal.{IsLegal}
+use Rattle.flux_model.specs.declared.items.FlowNo.{FlowNo}
+use Rattle.flow_model.specs.declared.journals.Key.{Key}
+use Rattle.flow_model.specs.declared.journals.Entry.{Entry}
+use Rattle.flow_model.specs.declared.journals.CallMade.{CallMade}
+use Rattle.flow_model.specs.declared.journals.Event.{Event}
+use Rattle.flow_model.specs.declared.journals.Event.TheVariants.{Take, Wait, Enter, Choose, Call, Exit, Drop, End}
+use Rattle.flow_model.specs.Setup.{Setup, item_of}
+use Rattle.flow_model.specs.Keys.{Cells}
+use Rattle.flow_model.specs.CellsAfter.{after_event, after_entries, cells_after}
+use Rattle.flow_model.specs.Events.{events_by, own_events, own_answers, IsNext, CallIsNext}
+use Rattle.flow_model.specs.Waits.{Blocks}
+use Rattle.flow_model.specs.Legal.{IsLegal}
 use Rattle.flux_table.specs.Tables.{Locks}
 use Rattle.flux_table.specs.Changes.{Takes, Waits, Releases}
 use Rattle.flux_laws.specs.Going.{IsBlocked}

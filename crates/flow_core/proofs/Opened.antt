@@ -5,14 +5,14 @@ use Rattle.flux_values.specs.Meanings.{LibraryMeaning}
 use Rattle.flux_library.specs.Libraries.{IsLawful}
 use Rattle.flux_model.specs.declared.programs.Program.{Program}
 use Rattle.flux_model.specs.declared.programs.SourceLine.{SourceLine}
-use Rattle.flux_model.specs.declared.journals.Item.{Item}
-use Rattle.flux_model.specs.declared.journals.Key.{Key}
-use Rattle.flux_model.specs.declared.journals.Entry.{Entry}
-use Rattle.flux_model.specs.declared.journals.Event.TheVariants.{Wait}
+use Rattle.flux_model.specs.declared.items.Item.{Item}
+use Rattle.flow_model.specs.declared.journals.Key.{Key}
+use Rattle.flow_model.specs.declared.journals.Entry.{Entry}
+use Rattle.flow_model.specs.declared.journals.Event.TheVariants.{Wait}
 use Rattle.flux_values.specs.declared.answers.Mode.{Mode}
-use Rattle.flux_model.specs.Setup.{Setup, item_of}
-use Rattle.flux_model.specs.Flows.{given_for}
-use Rattle.flux_model.specs.Waits.{StandsAt}
+use Rattle.flow_model.specs.Setup.{Setup, item_of}
+use Rattle.flow_model.specs.Flows.{given_for}
+use Rattle.flow_model.specs.Waits.{StandsAt}
 use Rattle.std.specs.Prelude.{IsSome}
 use Rattle.flux_model.specs.Items.{IsItemOf, IsItemFor}
 use Rattle.flux_laws.proofs.Members.{all-get}

@@ -4,17 +4,17 @@ use Rattle.std.specs.List.{slice_get, Contains}
 use Rattle.flux_values.specs.declared.answers.Mode.{Mode}
 use Rattle.flux_values.specs.Meanings.{LibraryMeaning}
 use Rattle.flux_model.specs.declared.programs.ClassNo.{ClassNo}
-use Rattle.flux_model.specs.declared.journals.FlowNo.{FlowNo}
-use Rattle.flux_model.specs.declared.journals.Key.{Key}
-use Rattle.flux_model.specs.declared.journals.Entry.{Entry}
-use Rattle.flux_model.specs.declared.journals.Event.{Event}
-use Rattle.flux_model.specs.declared.journals.Event.TheVariants.{Take}
-use Rattle.flux_model.specs.Setup.{Setup, item_of}
-use Rattle.flux_model.specs.CellsAfter.{key_for}
-use Rattle.flux_model.specs.Events.{events_by, IsNext}
+use Rattle.flux_model.specs.declared.items.FlowNo.{FlowNo}
+use Rattle.flow_model.specs.declared.journals.Key.{Key}
+use Rattle.flow_model.specs.declared.journals.Entry.{Entry}
+use Rattle.flow_model.specs.declared.journals.Event.{Event}
+use Rattle.flow_model.specs.declared.journals.Event.TheVariants.{Take}
+use Rattle.flow_model.specs.Setup.{Setup, item_of}
+use Rattle.flow_model.specs.CellsAfter.{key_for}
+use Rattle.flow_model.specs.Events.{events_by, IsNext}
 use Rattle.flux_cells.specs.Kept.{cells_of}
-use Rattle.flux_model.specs.Waits.{Blocks, StandsAt}
-use Rattle.flux_model.specs.Legal.{IsLegal}
+use Rattle.flow_model.specs.Waits.{Blocks, StandsAt}
+use Rattle.flow_model.specs.Legal.{IsLegal}
 use Rattle.flux_plan.specs.declared.locals.Next.{Next}
 use Rattle.flux_plan.specs.declared.locals.Next.TheVariants as nexts
 use Rattle.flux_table.specs.declared.locks.Waiter.{Waiter}

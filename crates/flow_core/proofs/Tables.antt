@@ -8,19 +8,19 @@ use Rattle.std.proofs.lemmas.List.{append-nil, append_cancel_left}
 use Rattle.flux_values.specs.declared.values.Value.{Value}
 use Rattle.flux_values.specs.declared.answers.Mode.{Mode}
 use Rattle.flux_model.specs.declared.programs.NodeNo.{NodeNo}
-use Rattle.flux_model.specs.declared.journals.FlowNo.{FlowNo}
-use Rattle.flux_model.specs.declared.journals.Key.{Key}
-use Rattle.flux_model.specs.declared.journals.Entry.{Entry}
-use Rattle.flux_model.specs.declared.journals.Event.{Event}
-use Rattle.flux_model.specs.declared.journals.Event.TheVariants.{Take, Wait, Enter, Choose, Call, Exit, Drop, End}
-use Rattle.flux_model.specs.Setup.{Setup}
+use Rattle.flux_model.specs.declared.items.FlowNo.{FlowNo}
+use Rattle.flow_model.specs.declared.journals.Key.{Key}
+use Rattle.flow_model.specs.declared.journals.Entry.{Entry}
+use Rattle.flow_model.specs.declared.journals.Event.{Event}
+use Rattle.flow_model.specs.declared.journals.Event.TheVariants.{Take, Wait, Enter, Choose, Call, Exit, Drop, End}
+use Rattle.flow_model.specs.Setup.{Setup}
 use Rattle.flux_model.specs.Modes.{conflict, at_least}
-use Rattle.flux_model.specs.Keys.{same_key}
-use Rattle.flux_model.specs.Events.{own_events, IsNext, CallIsNext}
-use Rattle.flux_model.specs.Exclusion.{modes_held, held_after, without_first, holds_against}
-use Rattle.flux_model.specs.Waits.{StandsAt, StandsBefore, Blocks}
-use Rattle.flux_model.specs.Legal.{IsLegal}
-use Rattle.flux_model.proofs.Keys.{key_cases, same_key_itself}
+use Rattle.flow_model.specs.Keys.{same_key}
+use Rattle.flow_model.specs.Events.{own_events, IsNext, CallIsNext}
+use Rattle.flow_model.specs.Exclusion.{modes_held, held_after, without_first, holds_against}
+use Rattle.flow_model.specs.Waits.{StandsAt, StandsBefore, Blocks}
+use Rattle.flow_model.specs.Legal.{IsLegal}
+use Rattle.flow_model.proofs.Keys.{key_cases, same_key_itself}
 use Rattle.flux_table.specs.declared.locks.Held.{Held}
 use Rattle.flux_table.specs.Tables.{Locks, Holders, Lines, holders_of, lines_of}
 use Rattle.flux_table.specs.Blockers as table

@@ -4,13 +4,13 @@ use Rattle.std.specs.List.{slice_set}
 use Rattle.flux_values.specs.declared.answers.Answer.{Answer}
 use Rattle.flux_values.specs.declared.answers.Mode.{Mode}
 use Rattle.flux_values.specs.Meanings.{LibraryMeaning}
-use Rattle.flux_model.specs.declared.journals.CallMade.{CallMade}
-use Rattle.flux_model.specs.declared.journals.Event.{Event}
-use Rattle.flux_model.specs.declared.journals.Event.TheVariants as events
-use Rattle.flux_model.specs.declared.journals.FlowNo.{FlowNo}
-use Rattle.flux_model.specs.declared.journals.Key.{Key}
-use Rattle.flux_model.specs.Events.{IsNext}
-use Rattle.flux_model.specs.Waits.{Blocks, StandsAt}
+use Rattle.flow_model.specs.declared.journals.CallMade.{CallMade}
+use Rattle.flow_model.specs.declared.journals.Event.{Event}
+use Rattle.flow_model.specs.declared.journals.Event.TheVariants as events
+use Rattle.flux_model.specs.declared.items.FlowNo.{FlowNo}
+use Rattle.flow_model.specs.declared.journals.Key.{Key}
+use Rattle.flow_model.specs.Events.{IsNext}
+use Rattle.flow_model.specs.Waits.{Blocks, StandsAt}
 use Rattle.flux_laws.specs.Growth.{has_ended}
 use Rattle.flux_laws.specs.Going.{IsBlocked, IsAtCall}
 use Rattle.flux_laws.specs.Moves.{MayStep, MayStand, MayCall}

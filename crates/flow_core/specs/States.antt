@@ -14,19 +14,19 @@ use Rattle.flux_model.specs.declared.programs.Node.{Node}
 use Rattle.flux_model.specs.declared.programs.NodeNo.{NodeNo}
 use Rattle.flux_model.specs.declared.programs.Body.{Body}
 use Rattle.flux_model.specs.declared.programs.Body.TheVariants.{Concrete, Abstract}
-use Rattle.flux_model.specs.declared.journals.FlowNo.{FlowNo}
-use Rattle.flux_model.specs.contracts.journals.FlowNo as flow_no
-use Rattle.flux_model.specs.declared.journals.Item.{Item}
-use Rattle.flux_model.specs.contracts.journals.Item as item
-use Rattle.flux_model.specs.declared.journals.Entry.{Entry}
-use Rattle.flux_model.specs.contracts.journals.Entry as entry
-use Rattle.flux_model.specs.contracts.journals.Key as key
-use Rattle.flux_model.specs.Setup.{Setup}
+use Rattle.flux_model.specs.declared.items.FlowNo.{FlowNo}
+use Rattle.flux_model.specs.contracts.items.FlowNo as flow_no
+use Rattle.flux_model.specs.declared.items.Item.{Item}
+use Rattle.flux_model.specs.contracts.items.Item as item
+use Rattle.flow_model.specs.declared.journals.Entry.{Entry}
+use Rattle.flow_model.specs.contracts.journals.Entry as entry
+use Rattle.flow_model.specs.contracts.journals.Key as key
+use Rattle.flow_model.specs.Setup.{Setup}
 use Rattle.flux_model.specs.Kinds.{NodeKinds}
 use Rattle.flux_model.specs.Items.{IsItemFor}
 use Rattle.flux_model.specs.Soundness.{IsSound}
-use Rattle.flux_model.specs.Events.{CallIsNext}
-use Rattle.flux_model.specs.Legal.{IsLegal}
+use Rattle.flow_model.specs.Events.{CallIsNext}
+use Rattle.flow_model.specs.Legal.{IsLegal}
 use Rattle.flux_laws.specs.Hoisted.{locks_of}
 use Rattle.flux_laws.specs.Calls.{cells_read}
 use Rattle.flux_plan.specs.declared.plans.Plan.{Plan}

@@ -2,8 +2,8 @@
 
 ghost use Rattle.std.specs.Prelude.{◌≡◌, ◌++◌, ◌∷◌, [], List, None, OnOk, OnErr};
 ghost use Rattle.std.specs.Arc.{arc_value};
-ghost use Rattle.flux_model.specs.declared.journals.Entry.{Entry};
-ghost use Rattle.flux_model.specs.declared.journals.Event.TheVariants as events;
+ghost use Rattle.flow_model.specs.declared.journals.Entry.{Entry};
+ghost use Rattle.flow_model.specs.declared.journals.Event.TheVariants as events;
 ghost use Rattle.flux_plan.specs.Moves.{Advances, IsAnswered};
 ghost use Rattle.flux_table.specs.Tables.{holders_of, lines_of};
 ghost use Rattle.flux_table.specs.Blockers.{Blocks, IsLowestOf, MayTake, MayWait};
@@ -16,7 +16,8 @@ ghost use Rattle.flow_core.specs.steps.Table.{IsUndone};
 use crate::setups::Setup;
 use flux_cells::Cells;
 use flux_library::Library;
-use flux_model::{Entry, Event, FlowNo, Journal, Key, Mode, Program, Put};
+use flux_model::{FlowNo, Mode, Program, Put};
+use flow_model::{Entry, Event, Journal, Key};
 use flux_plan::Local;
 use flux_table::{Table, Taken};
 use flux_values::{Answer, List, Memory};

@@ -9,7 +9,8 @@ ghost use Rattle.flow_core.specs.steps.Running.{core_of, IsRunning};
 use crate::cores::Stop;
 use crate::running::Running;
 use flux_library::Library;
-use flux_model::{FlowNo, Key};
+use flux_model::FlowNo;
+use flow_model::Key;
 use flux_plan::Next;
 use flux_table::Waiter;
 

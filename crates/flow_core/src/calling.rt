@@ -2,7 +2,7 @@
 
 ghost use Rattle.std.specs.Prelude.{◌≡◌, ◌<◌, [], ◌↔◌, Some, None, IsSome, length, slice_get, IsTrue, IfOk, OnOk, OnErr, map as mapped, option_map};
 ghost use Rattle.std.specs.Arc.{arc_value};
-ghost use Rattle.flux_model.specs.declared.journals.Event.TheVariants as events;
+ghost use Rattle.flow_model.specs.declared.journals.Event.TheVariants as events;
 ghost use Rattle.flux_model.specs.Locks.{declared};
 ghost use Rattle.flux_plan.specs.declared.locals.Next.TheVariants as nexts;
 ghost use Rattle.flux_plan.specs.Machine.{values_at};
@@ -22,7 +22,8 @@ use crate::running::Running;
 use crate::sameness::same_inputs;
 use flux_library::Library;
 use flux_library::answers::copies;
-use flux_model::{Body, Entry, FlowNo, Hold, Key, NodeNo, Program};
+use flux_model::{Body, FlowNo, Hold, NodeNo, Program};
+use flow_model::{Entry, Key};
 use flux_plan::Next;
 use flux_values::{Answer, Cell, List, Memory, Sig};
 use std::alloc::Global;

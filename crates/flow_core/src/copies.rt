@@ -1,10 +1,11 @@
 //! Copies of answers.
 
 ghost use Rattle.std.specs.Prelude.{◌≡◌, IfOk};
-ghost use Rattle.flux_model.specs.declared.journals.Event.TheVariants as events;
+ghost use Rattle.flow_model.specs.declared.journals.Event.TheVariants as events;
 
 use flux_library::answers::copies;
-use flux_model::{CallMade, Entry, Event, FlowNo, NodeNo};
+use flux_model::{FlowNo, NodeNo};
+use flow_model::{CallMade, Entry, Event};
 use flux_values::{Answer, Bytes, CallResult, List, Memory, Put, Value};
 use std::alloc::Global;
 

@@ -2,7 +2,7 @@
 
 ghost use Rattle.std.specs.Prelude.{◌≡◌, ◌<◌, ◌↔◌, length, IsTrue, true, false, IfOk, OnErr, MatchOption, option_map};
 ghost use Rattle.std.specs.Arc.{arc_value};
-ghost use Rattle.flux_model.specs.CellsAfter.{cells_after};
+ghost use Rattle.flow_model.specs.CellsAfter.{cells_after};
 ghost use Rattle.flux_laws.specs.Going.{IsBlocked, IsAtCall};
 ghost use Rattle.flux_laws.specs.Growth.{has_ended};
 ghost use Rattle.flux_cells.specs.Kept.{cells_of};
@@ -17,7 +17,8 @@ use crate::running::Running;
 use crate::setups::Setup;
 use flux_cells::Cells;
 use flux_library::Library;
-use flux_model::{FlowNo, Journal, Key};
+use flux_model::FlowNo;
+use flow_model::{Journal, Key};
 use flux_values::Memory;
 use std::alloc::Global;
 use std::marker::Model;

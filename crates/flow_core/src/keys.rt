@@ -3,14 +3,15 @@
 ghost use Rattle.std.specs.Prelude.{◌≡◌, map as mapped, IfOk};
 ghost use Rattle.std.specs.List.{find};
 ghost use Rattle.std.specs.Option.{option_map};
-ghost use Rattle.flux_model.specs.CellsAfter.{is_named};
-ghost use Rattle.flux_model.specs.Answers.{cell_at};
+ghost use Rattle.flow_model.specs.CellsAfter.{is_named};
+ghost use Rattle.flow_model.specs.Answers.{cell_at};
 ghost use Rattle.flux_cells.specs.Kept.{cells_of};
 ghost use Rattle.flow_core.specs.steps.Places.{key_in};
 ghost use Rattle.flow_core.specs.steps.Cells.{declares_named, class_in, cells_by};
 
 use flux_cells::Cells;
-use flux_model::{Class, ClassNo, Hold, Key, Program};
+use flux_model::{Class, ClassNo, Hold, Program};
+use flow_model::Key;
 use flux_values::{Cell, CellUse, List, Memory};
 use std::alloc::Global;
 

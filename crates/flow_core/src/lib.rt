@@ -11,6 +11,7 @@ mod calling;
 mod calls;
 mod copies;
 mod cores;
+mod gates;
 mod keys;
 mod laws;
 mod moving;
@@ -24,6 +25,7 @@ mod stepping;
 
 pub use calls::{CallDone, Inputs, Job};
 pub use cores::{Core, Finish, Step, Stop};
+pub use gates::{Gate, OpenGate};
 pub use laws::{calls_are_moves, runs_are_legal};
 pub use runtimes::{Runtime, Stopped};
 pub use setups::Setup;

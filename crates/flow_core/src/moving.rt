@@ -1,8 +1,8 @@
 //! The moves of a core, on its fields.
 
 ghost use Rattle.std.specs.Prelude.{◌≡◌, ◌≤◌, ◌<◌, ℕ, false, Some, None, length, slice_get, IfOk, OnOk, OnErr};
-ghost use Rattle.flux_model.specs.declared.journals.Event.TheVariants as events;
-ghost use Rattle.flux_model.specs.Waits.{Blocks};
+ghost use Rattle.flow_model.specs.declared.journals.Event.TheVariants as events;
+ghost use Rattle.flow_model.specs.Waits.{Blocks};
 ghost use Rattle.flux_laws.specs.Growth.{is_end};
 ghost use Rattle.flux_table.specs.Blockers.{IsLowestOf};
 ghost use Rattle.flow_core.specs.declared.places.Place.{Place};
@@ -14,7 +14,8 @@ ghost use Rattle.flow_core.specs.steps.Running.{core_of, plans_of, IsRunning};
 use crate::adding::{make, stand, take, take_on};
 use crate::running::Running;
 use flux_library::Library;
-use flux_model::{Event, FlowNo, Key, Mode, Outcome};
+use flux_model::{FlowNo, Mode};
+use flow_model::{Event, Key, Outcome};
 use flux_values::Memory;
 
 impl<L: Library> Running<L> {

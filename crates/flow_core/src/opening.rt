@@ -2,8 +2,8 @@
 
 ghost use Rattle.std.specs.Prelude.{◌≡◌, ◌<◌, ℕ, Some, length, slice_get, option_copied, IfOk, IsSome};
 ghost use Rattle.std.specs.Arc.{arc_value};
-ghost use Rattle.flux_model.specs.declared.journals.Item.{Item};
-ghost use Rattle.flux_model.specs.Keys.{session_number};
+ghost use Rattle.flux_model.specs.declared.items.Item.{Item};
+ghost use Rattle.flow_model.specs.Keys.{session_number};
 ghost use Rattle.flow_core.specs.States.{opened, MayRun};
 ghost use Rattle.flow_core.specs.steps.Opening.{IsFreshPlace, AreFreshPlaces};
 ghost use Rattle.flow_core.specs.steps.Running.{core_of, IsRunning};
@@ -13,7 +13,8 @@ use crate::running::Running;
 use crate::setups::Setup;
 use flux_library::Library;
 use flux_library::answers::copies;
-use flux_model::{Item, Journal, SourceLine};
+use flux_model::{Item, SourceLine};
+use flow_model::Journal;
 use flux_plan::Local;
 use flux_table::Table;
 use flux_values::{List, Memory, Value};

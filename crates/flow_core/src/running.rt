@@ -1,8 +1,8 @@
 //! The fields of a core, and how moves change them.
 
 ghost use Rattle.std.specs.Prelude.{◌≡◌, ◌<◌, ◌↔◌, length, IsTrue, IfOk, OnErr, MatchOption, Some};
-ghost use Rattle.flux_model.specs.Setup.{item_of};
-ghost use Rattle.flux_model.specs.CellsAfter.{key_for};
+ghost use Rattle.flow_model.specs.Setup.{item_of};
+ghost use Rattle.flow_model.specs.CellsAfter.{key_for};
 ghost use Rattle.flux_laws.specs.Going.{IsBlocked, IsAtCall};
 ghost use Rattle.flux_laws.specs.Growth.{has_ended};
 ghost use Rattle.flow_core.specs.States.{setup_in};
@@ -15,7 +15,8 @@ use crate::places::Place;
 use crate::setups::Setup;
 use flux_cells::Cells;
 use flux_library::Library;
-use flux_model::{ClassNo, FlowNo, Journal, Key};
+use flux_model::{ClassNo, FlowNo};
+use flow_model::{Journal, Key};
 use flux_plan::Next;
 use flux_table::Table;
 use std::alloc::Global;

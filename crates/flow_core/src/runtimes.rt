@@ -5,7 +5,7 @@ ghost use Rattle.flow_core.specs.Runs.{GoesOnLegally, GoesToEnd};
 
 use crate::cores::Core;
 use flux_library::Library;
-use flux_outside::Gate;
+use crate::gates::Gate;
 use std::marker::Sync;
 use std::sync::Wait;
 use std::thread::Threads;

@@ -10,7 +10,8 @@ ghost use Rattle.flow_core.specs.steps.Running.{core_of, plans_of, IsRunning};
 use crate::cores::Step;
 use crate::running::Running;
 use flux_library::Library;
-use flux_model::{ClassNo, Event, FlowNo, Mode};
+use flux_model::{ClassNo, FlowNo, Mode};
+use flow_model::Event;
 use flux_plan::Next;
 use flux_values::Memory;
 

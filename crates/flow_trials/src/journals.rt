@@ -8,7 +8,7 @@ use flow_core::Core;
 use flux_hoist::Checked;
 use flux_journal::{JournalFault, print_journal, read_journal};
 use flux_library::Library;
-use flux_model::Journal;
+use flow_model::Journal;
 use flux_values::{Bytes, Memory};
 use std::alloc::Global;
 

@@ -5,19 +5,19 @@ use Rattle.std.proofs.lemmas.Bool.{cases_eq}
 use Rattle.std.proofs.lemmas.List.{append_cancel_left, append-nil}
 use Rattle.flux_values.specs.declared.answers.Mode.{Mode}
 use Rattle.flux_values.specs.declared.answers.Mode.TheVariants.{Writer}
-use Rattle.flux_model.specs.declared.journals.FlowNo.{FlowNo}
-use Rattle.flux_model.specs.declared.journals.Key.{Key}
-use Rattle.flux_model.specs.declared.journals.Entry.{Entry}
-use Rattle.flux_model.specs.declared.journals.Event.{Event}
-use Rattle.flux_model.specs.declared.journals.Event.TheVariants.{Take, Wait, Enter, Choose, Call, Exit, Drop, End}
-use Rattle.flux_model.specs.Setup.{Setup}
-use Rattle.flux_model.specs.Keys.{same_key}
+use Rattle.flux_model.specs.declared.items.FlowNo.{FlowNo}
+use Rattle.flow_model.specs.declared.journals.Key.{Key}
+use Rattle.flow_model.specs.declared.journals.Entry.{Entry}
+use Rattle.flow_model.specs.declared.journals.Event.{Event}
+use Rattle.flow_model.specs.declared.journals.Event.TheVariants.{Take, Wait, Enter, Choose, Call, Exit, Drop, End}
+use Rattle.flow_model.specs.Setup.{Setup}
+use Rattle.flow_model.specs.Keys.{same_key}
 use Rattle.flux_model.specs.Modes.{conflict}
-use Rattle.flux_model.specs.Events.{events_by, own_events, IsNext}
-use Rattle.flux_model.specs.Exclusion.{without_first, held_after, modes_held, HoldsKey, holds_against}
-use Rattle.flux_model.specs.Waits.{StandsAt, StandsBefore, Blocks}
-use Rattle.flux_model.specs.Legal.{IsLegal}
-use Rattle.flux_model.proofs.Keys.{key_cases, same_key_itself}
+use Rattle.flow_model.specs.Events.{events_by, own_events, IsNext}
+use Rattle.flow_model.specs.Exclusion.{without_first, held_after, modes_held, HoldsKey, holds_against}
+use Rattle.flow_model.specs.Waits.{StandsAt, StandsBefore, Blocks}
+use Rattle.flow_model.specs.Legal.{IsLegal}
+use Rattle.flow_model.proofs.Keys.{key_cases, same_key_itself}
 use Rattle.flux_laws.specs.Moves.{IsMove}
 use Rattle.flux_laws.proofs.OwnEvents.{events_by-append, by_itself, modes_held-own}
 use Rattle.flux_laws.proofs.Standing.{next-unique, standing-next}

@@ -3,9 +3,9 @@ use Rattle.std.proofs.Common.{◌≡◌, Bool, true, false, cond, not, eqb, ◌&
 use Rattle.std.specs.Ordering.{is_eq}
 use Rattle.std.specs.Map.{lookup, set_value}
 use Rattle.std.proofs.lemmas.Map.Steps.{set_value_same}
-use Rattle.flux_model.specs.declared.journals.Key.{Key}
-use Rattle.flux_model.specs.Keys.{same_key}
-use Rattle.flux_model.proofs.Keys.{key_cmp, key_cmp_same, same_key_itself}
+use Rattle.flow_model.specs.declared.journals.Key.{Key}
+use Rattle.flow_model.specs.Keys.{same_key}
+use Rattle.flow_model.proofs.Keys.{key_cmp, key_cmp_same, same_key_itself}
 use Rattle.flow_waits.specs.Waking.{Rooms, room_at, in_room, OthersStay, IsMore, IsLess, IsMoreAt, IsLessAt}
 
 abbrev pub found : Rooms → Key → Option (List ℕ)

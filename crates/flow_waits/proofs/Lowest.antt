@@ -1,10 +1,10 @@
 -- The lowest flow that can go on.
 use Rattle.std.proofs.Common.{◌≡◌, ◌<◌, ◌≤◌, ◌⊎◌, inl, inr, ℕ, List, length, ◌+◌, sym, subst, arith}
 use Rattle.std.proofs.lemmas.Bool.{cases_lt}
-use Rattle.flux_model.specs.declared.journals.Entry.{Entry}
-use Rattle.flux_model.specs.Setup.{Setup}
-use Rattle.flux_model.specs.Events.{IsLive}
-use Rattle.flux_model.specs.Legal.{IsLegal}
+use Rattle.flow_model.specs.declared.journals.Entry.{Entry}
+use Rattle.flow_model.specs.Setup.{Setup}
+use Rattle.flow_model.specs.Events.{IsLive}
+use Rattle.flow_model.specs.Legal.{IsLegal}
 use Rattle.flux_laws.specs.Going.{IsBlocked, CanGoOn, IsLowest}
 use Rattle.flux_laws.proofs.Living.{not_all_blocked}
 

@@ -1,8 +1,8 @@
 -- Members of sets and of rooms that change.
 use Rattle.std.proofs.Common.{◌≡◌, ◌≢◌, ◌⊎◌, inl, inr, ℕ, Bool, true, false, not, ◌||◌, ◌&&◌, eqb, List, [], refl, sym, ap, ◌∙◌}
 use Rattle.std.proofs.lemmas.Bool.{eqb-true, eq-eqb, ne_eqb, false≢true}
-use Rattle.flux_model.specs.declared.journals.Key.{Key}
-use Rattle.flux_model.proofs.Keys.{key_cases}
+use Rattle.flow_model.specs.declared.journals.Key.{Key}
+use Rattle.flow_model.proofs.Keys.{key_cases}
 use Rattle.flow_waits.specs.Waking.{has, IsMore, IsLess, Rooms, room_at, IsMoreAt, IsLessAt}
 
 -- nothing is in an empty set

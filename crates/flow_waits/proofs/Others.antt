@@ -3,15 +3,15 @@ use Rattle.std.proofs.Common.{◌≡◌, ◌⊎◌, inl, inr, ℕ, List, [], ◌
 use Rattle.std.specs.List.{flat_map}
 use Rattle.std.proofs.lemmas.List.{append-nil}
 use Rattle.flux_values.specs.declared.answers.Mode.{Mode}
-use Rattle.flux_model.specs.declared.journals.FlowNo.{FlowNo}
-use Rattle.flux_model.specs.declared.journals.Key.{Key}
-use Rattle.flux_model.specs.declared.journals.Entry.{Entry}
-use Rattle.flux_model.specs.declared.journals.Event.{Event}
-use Rattle.flux_model.specs.declared.journals.Event.TheVariants.{Take, Wait}
-use Rattle.flux_model.specs.Setup.{Setup}
-use Rattle.flux_model.specs.Events.{unless_wait, answer_in, events_by, own_events, own_answers, IsNext, IsLive}
-use Rattle.flux_model.specs.Exclusion.{modes_held, HoldsKey}
-use Rattle.flux_model.specs.Waits.{IsLast}
+use Rattle.flux_model.specs.declared.items.FlowNo.{FlowNo}
+use Rattle.flow_model.specs.declared.journals.Key.{Key}
+use Rattle.flow_model.specs.declared.journals.Entry.{Entry}
+use Rattle.flow_model.specs.declared.journals.Event.{Event}
+use Rattle.flow_model.specs.declared.journals.Event.TheVariants.{Take, Wait}
+use Rattle.flow_model.specs.Setup.{Setup}
+use Rattle.flow_model.specs.Events.{unless_wait, answer_in, events_by, own_events, own_answers, IsNext, IsLive}
+use Rattle.flow_model.specs.Exclusion.{modes_held, HoldsKey}
+use Rattle.flow_model.specs.Waits.{IsLast}
 use Rattle.flux_laws.proofs.Members.{end_or_front, IsEnd, InFront}
 use Rattle.flux_laws.proofs.OwnEvents.{events_by-append, by_another, modes_held-other}
 use Rattle.flow_waits.specs.Staying.{IsFresh}

@@ -3,15 +3,15 @@ use Rattle.std.proofs.Common.{◌≡◌, ◌-◌, ◌⊎◌, inl, inr, ℕ, suc,
 use Rattle.std.specs.List.{slice_get}
 use Rattle.flux_values.specs.declared.answers.Mode.{Mode}
 use Rattle.flux_values.specs.declared.answers.Mode.TheVariants.{Reader, Writer}
-use Rattle.flux_model.specs.declared.journals.FlowNo.{FlowNo}
-use Rattle.flux_model.specs.declared.journals.Key.{Key}
-use Rattle.flux_model.specs.declared.journals.Entry.{Entry}
-use Rattle.flux_model.specs.declared.journals.Event.{Event}
-use Rattle.flux_model.specs.declared.journals.Event.TheVariants.{Take, Drop}
-use Rattle.flux_model.specs.Setup.{Setup}
-use Rattle.flux_model.specs.Events.{IsLive}
-use Rattle.flux_model.specs.Waits.{StandsAt}
-use Rattle.flux_model.specs.Legal.{IsLegal}
+use Rattle.flux_model.specs.declared.items.FlowNo.{FlowNo}
+use Rattle.flow_model.specs.declared.journals.Key.{Key}
+use Rattle.flow_model.specs.declared.journals.Entry.{Entry}
+use Rattle.flow_model.specs.declared.journals.Event.{Event}
+use Rattle.flow_model.specs.declared.journals.Event.TheVariants.{Take, Drop}
+use Rattle.flow_model.specs.Setup.{Setup}
+use Rattle.flow_model.specs.Events.{IsLive}
+use Rattle.flow_model.specs.Waits.{StandsAt}
+use Rattle.flow_model.specs.Legal.{IsLegal}
 use Rattle.flux_table.specs.declared.locks.Waiter.{Waiter}
 use Rattle.flow_core.specs.Lines.{IsLineAt}
 use Rattle.flow_waits.specs.Staying.{IsFresh}

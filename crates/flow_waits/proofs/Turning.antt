@@ -3,16 +3,16 @@ use Rattle.std.proofs.Common.{◌≡◌, ◌⊎◌, inl, inr, ℕ, true, List, [
 use Rattle.std.specs.List.{list_any}
 use Rattle.std.proofs.lemmas.List.{length-append}
 use Rattle.flux_values.specs.Meanings.{LibraryMeaning}
-use Rattle.flux_model.specs.declared.journals.FlowNo.{FlowNo}
-use Rattle.flux_model.specs.declared.journals.Key.{Key}
-use Rattle.flux_model.specs.declared.journals.Entry.{Entry}
-use Rattle.flux_model.specs.declared.journals.Event.{Event}
-use Rattle.flux_model.specs.declared.journals.Event.TheVariants as events
-use Rattle.flux_model.specs.declared.journals.Outcome.{Outcome}
-use Rattle.flux_model.specs.Setup.{Setup}
+use Rattle.flux_model.specs.declared.items.FlowNo.{FlowNo}
+use Rattle.flow_model.specs.declared.journals.Key.{Key}
+use Rattle.flow_model.specs.declared.journals.Entry.{Entry}
+use Rattle.flow_model.specs.declared.journals.Event.{Event}
+use Rattle.flow_model.specs.declared.journals.Event.TheVariants as events
+use Rattle.flow_model.specs.declared.journals.Outcome.{Outcome}
+use Rattle.flow_model.specs.Setup.{Setup}
 use Rattle.flux_model.specs.Locks.{AreLocks}
-use Rattle.flux_model.specs.Events.{events_by, IsLive}
-use Rattle.flux_model.specs.Waits.{StandsAt}
+use Rattle.flow_model.specs.Events.{events_by, IsLive}
+use Rattle.flow_model.specs.Waits.{StandsAt}
 use Rattle.flux_laws.specs.Growth.{is_end, has_ended}
 use Rattle.flux_laws.specs.Moves.{MayStep, IsMove}
 use Rattle.flux_laws.proofs.Members.{In, contains-from_in}

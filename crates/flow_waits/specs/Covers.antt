@@ -2,12 +2,12 @@
 use Rattle.std.specs.Prelude.{◌≡◌, ◌≢◌, ℕ, ◌<◌, ◌||◌, ◌⊎◌, Bool, true, false, length, if◌then◌else◌, List, [], ◌∷◌, ◌++◌}
 use Rattle.flux_values.specs.declared.answers.Mode.{Mode}
 use Rattle.flux_values.specs.declared.answers.Mode.TheVariants.{Reader, Writer}
-use Rattle.flux_model.specs.declared.journals.Entry.{Entry}
-use Rattle.flux_model.specs.declared.journals.Event.{Event}
-use Rattle.flux_model.specs.declared.journals.FlowNo.{FlowNo}
-use Rattle.flux_model.specs.declared.journals.Key.{Key}
-use Rattle.flux_model.specs.Setup.{Setup}
-use Rattle.flux_model.specs.Events.{IsLive}
+use Rattle.flow_model.specs.declared.journals.Entry.{Entry}
+use Rattle.flow_model.specs.declared.journals.Event.{Event}
+use Rattle.flux_model.specs.declared.items.FlowNo.{FlowNo}
+use Rattle.flow_model.specs.declared.journals.Key.{Key}
+use Rattle.flow_model.specs.Setup.{Setup}
+use Rattle.flow_model.specs.Events.{IsLive}
 use Rattle.flux_laws.specs.Going.{IsBlocked}
 use Rattle.flux_laws.specs.Hoisted.{is_writer}
 use Rattle.flux_table.specs.declared.locks.Waiter.{Waiter}

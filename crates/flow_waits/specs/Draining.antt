@@ -1,12 +1,12 @@
 -- The lowest flow that can go on makes its next event, again and again, until none is live.
 use Rattle.std.specs.Prelude.{◌≡◌, ℕ, ◌≤◌, List, ◌++◌, length}
 use Rattle.std.specs.List.{AllByRecursion}
-use Rattle.flux_model.specs.declared.journals.Entry.{Entry}
-use Rattle.flux_model.specs.declared.journals.Event.{Event}
-use Rattle.flux_model.specs.declared.journals.FlowNo.{FlowNo}
-use Rattle.flux_model.specs.Setup.{Setup}
-use Rattle.flux_model.specs.Events.{IsLive}
-use Rattle.flux_model.specs.Legal.{IsWhole}
+use Rattle.flow_model.specs.declared.journals.Entry.{Entry}
+use Rattle.flow_model.specs.declared.journals.Event.{Event}
+use Rattle.flux_model.specs.declared.items.FlowNo.{FlowNo}
+use Rattle.flow_model.specs.Setup.{Setup}
+use Rattle.flow_model.specs.Events.{IsLive}
+use Rattle.flow_model.specs.Legal.{IsWhole}
 use Rattle.flux_laws.specs.Growth.{room_of, sum_below, IsNoWait}
 use Rattle.flux_laws.specs.Going.{IsLowest}
 use Rattle.flux_laws.specs.Moves.{IsMove}

@@ -1,10 +1,10 @@
 -- A core that is driven.
 use Rattle.std.specs.Prelude.{◌≡◌, List, Some}
-use Rattle.flux_model.specs.declared.journals.CallMade.{CallMade}
-use Rattle.flux_model.specs.declared.journals.Entry.{Entry}
-use Rattle.flux_model.specs.declared.journals.Event.TheVariants.{Call}
-use Rattle.flux_model.specs.declared.journals.FlowNo.{FlowNo}
-use Rattle.flux_model.specs.Setup.{Setup}
+use Rattle.flow_model.specs.declared.journals.CallMade.{CallMade}
+use Rattle.flow_model.specs.declared.journals.Entry.{Entry}
+use Rattle.flow_model.specs.declared.journals.Event.TheVariants.{Call}
+use Rattle.flux_model.specs.declared.items.FlowNo.{FlowNo}
+use Rattle.flow_model.specs.Setup.{Setup}
 use Rattle.flow_core.specs.States.{CoreState, JobState, begun_by}
 use Rattle.flow_waits.specs.Turns.{MakesMove}
 

@@ -5,7 +5,7 @@
 //! So what is done behind each entry doesn't grow with the number of flows.
 
 ghost use Rattle.std.specs.Prelude.{◌≡◌, ℕ, ◌||◌, IfOk, OnOk, MatchOption};
-ghost use Rattle.flux_model.specs.Events.{IsLive};
+ghost use Rattle.flow_model.specs.Events.{IsLive};
 ghost use Rattle.flow_core.specs.States.{setup_in};
 ghost use Rattle.flow_waits.specs.Waking.{has};
 ghost use Rattle.flow_waits.specs.Covers.{Covers, IsChosen, Lags, StayReady, Parks, WakesFirst, Wakes, served_of, WakesLine};
@@ -14,7 +14,8 @@ use crate::numbers::Numbers;
 use crate::rooms::Rooms;
 use flow_core::{Core, Stop};
 use flux_library::Library;
-use flux_model::{Event, FlowNo, Key, Mode};
+use flux_model::{FlowNo, Mode};
+use flow_model::{Event, Key};
 use flux_table::Waiter;
 use flux_values::Memory;
 use std::alloc::Global;

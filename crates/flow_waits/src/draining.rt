@@ -1,7 +1,7 @@
 //! The lowest flow that can go on, and how all flows come to their ends by it.
 
 ghost use Rattle.std.specs.Prelude.{ℕ, MatchOption, OnOk};
-ghost use Rattle.flux_model.specs.Events.{IsLive};
+ghost use Rattle.flow_model.specs.Events.{IsLive};
 ghost use Rattle.flux_laws.specs.Going.{IsLowest};
 ghost use Rattle.flow_core.specs.States.{setup_in};
 ghost use Rattle.flow_core.specs.Runs.{GoesOnLegally};
@@ -13,7 +13,7 @@ use crate::turns::take_turn;
 use flow_core::Core;
 use flux_library::Library;
 use flux_model::FlowNo;
-use flux_outside::{Gate, OpenGate};
+use flow_core::{Gate, OpenGate};
 use flux_values::Memory;
 
 /// The lowest-numbered flow that has not ended and isn't blocked. There is one wherever a flow is live.

@@ -4,7 +4,7 @@ ghost use Rattle.std.specs.Prelude.{◌≡◌, [], OnOk, OnErr, MatchOption};
 ghost use Rattle.flow_waits.specs.Waking.{room_at, IsMoreAt, IsLessAt, IsEarliest};
 
 use crate::numbers::Numbers;
-use flux_model::Key;
+use flow_model::Key;
 use flux_values::Memory;
 use std::alloc::Global;
 use std::collections::BTreeMap;

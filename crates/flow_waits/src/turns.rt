@@ -8,7 +8,7 @@ ghost use Rattle.flow_waits.specs.Driven.{SameSetup, IsJobOf, MakesCall};
 use flow_core::{Core, Job, Step};
 use flux_library::Library;
 use flux_model::FlowNo;
-use flux_outside::Gate;
+use flow_core::Gate;
 use flux_values::Memory;
 
 /// What a flow made of its turn.

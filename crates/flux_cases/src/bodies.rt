@@ -4,7 +4,8 @@ use crate::entries::{Entry, Line};
 use crate::spellings::{number_of, text_of, word_of};
 use crate::troubles::LineFault;
 use flux_outside::FileBytes;
-use flux_values::{Bytes, List, Memory, append_number};
+use flux_spelling::append_number;
+use flux_values::{Bytes, List, Memory};
 use std::alloc::Global;
 
 /// Documents of one body. `{n}` in the name stands for each number in turn.

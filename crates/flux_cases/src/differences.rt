@@ -1,7 +1,8 @@
 //! What came of a command line, beside what a case wants.
 
 use crate::entries::{Entry, Line, Stream};
-use flux_values::{Bytes, List, Memory, append_number, append_text};
+use flux_spelling::{append_number, append_text};
+use flux_values::{Bytes, List, Memory};
 use std::alloc::Global;
 
 /// How many bytes of a text are shown.

@@ -1,6 +1,7 @@
 //! What is told of cases.
 
-use flux_values::{Bytes, Memory, append_number};
+use flux_spelling::append_number;
+use flux_values::{Bytes, Memory};
 use std::alloc::Global;
 
 /// The lines about wrong cases, and how many cases there were and how many were wrong.

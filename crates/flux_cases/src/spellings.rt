@@ -1,7 +1,8 @@
 //! Words, texts and numbers as the lines of a case file spell them.
 
 use crate::troubles::LineFault;
-use flux_values::{Bytes, List, Value, read_value};
+use flux_spelling::read_value;
+use flux_values::{Bytes, List, Value};
 use std::alloc::Global;
 
 /// The text that is all of a spelling between quotes.

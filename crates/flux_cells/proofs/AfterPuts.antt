@@ -7,12 +7,12 @@ use Rattle.flux_model.specs.declared.programs.Class.{Class}
 use Rattle.flux_model.specs.declared.programs.ClassNo.{ClassNo}
 use Rattle.flux_model.specs.declared.programs.Hold.{Hold}
 use Rattle.flux_model.specs.declared.programs.SourceLine.{SourceLine}
-use Rattle.flux_model.specs.declared.journals.Item.{Item}
-use Rattle.flux_model.specs.declared.journals.Key.{Key}
-use Rattle.flux_model.specs.Setup.{Setup, item_of}
+use Rattle.flux_model.specs.declared.items.Item.{Item}
+use Rattle.flow_model.specs.declared.journals.Key.{Key}
+use Rattle.flow_model.specs.Setup.{Setup, item_of}
 use Rattle.flux_model.specs.Locks.{declared}
-use Rattle.flux_model.specs.Keys.{Cells, class_key, flow_key, session_number}
-use Rattle.flux_model.specs.CellsAfter.{is_named, key_on, key_for, key_of, cell_key, put_under, after_puts}
+use Rattle.flow_model.specs.Keys.{Cells, class_key, flow_key, session_number}
+use Rattle.flow_model.specs.CellsAfter.{is_named, key_on, key_for, key_of, cell_key, put_under, after_puts}
 use Rattle.flux_cells.specs.Applied.{key_named, applied}
 
 pub applied-after_puts : (setup : Setup) (flow node : ℕ) (keys : List Key) (cells : Cells) (puts : List Put)

@@ -5,9 +5,9 @@ use Rattle.std.specs.List.{IsDistinct, AllByRecursion}
 use Rattle.std.specs.Ordering.{eq_by_cmp}
 use Rattle.std.proofs.lemmas.Map.Keys.{IsDistinct-head, IsDistinct-tail}
 use Rattle.flux_values.specs.Cells.{CellMap, no_cell}
-use Rattle.flux_model.specs.declared.journals.Key.{Key}
+use Rattle.flow_model.specs.declared.journals.Key.{Key}
 use Rattle.flux_cells.specs.Kept.{Kept, kept_at, cells_of, NoneIsEmpty}
-use Rattle.flux_model.proofs.Keys.{key_cmp, key_cmp_same, key_cases, same_key_turned}
+use Rattle.flow_model.proofs.Keys.{key_cmp, key_cmp_same, key_cases, same_key_turned}
 use Rattle.flux_cells.proofs.Keys.{IsChanged, kept_there, kept_else}
 
 -- each key is kept once

@@ -3,9 +3,9 @@ use Rattle.std.proofs.Common.{◌≡◌, Bool, true, false, cond, Option, refl, 
 use Rattle.std.specs.Ordering.{is_eq}
 use Rattle.std.specs.Map.{lookup}
 use Rattle.flux_values.specs.Cells.{CellMap, no_cell}
-use Rattle.flux_model.specs.declared.journals.Key.{Key}
-use Rattle.flux_model.specs.Keys.{same_key}
-use Rattle.flux_model.proofs.Keys.{key_cmp, key_cmp_same, key_cases}
+use Rattle.flow_model.specs.declared.journals.Key.{Key}
+use Rattle.flow_model.specs.Keys.{same_key}
+use Rattle.flow_model.proofs.Keys.{key_cmp, key_cmp_same, key_cases}
 use Rattle.flux_cells.specs.Kept.{Kept, kept_at, cells_of}
 
 abbrev pub found : Kept → Key → Option CellMap

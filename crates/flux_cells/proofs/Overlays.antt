@@ -7,13 +7,13 @@ use Rattle.std.proofs.lemmas.List.{take_more, map-append}
 use Rattle.flux_values.specs.declared.answers.Put.{Put}
 use Rattle.flux_values.specs.Cells.{CellMap, changed}
 use Rattle.flux_model.specs.declared.programs.Program.{Program}
-use Rattle.flux_model.specs.declared.journals.Key.{Key}
-use Rattle.flux_model.specs.Keys.{Cells, same_key}
-use Rattle.flux_model.specs.CellsAfter.{is_named, put_under}
+use Rattle.flow_model.specs.declared.journals.Key.{Key}
+use Rattle.flow_model.specs.Keys.{Cells, same_key}
+use Rattle.flow_model.specs.CellsAfter.{is_named, put_under}
 use Rattle.flux_cells.specs.Applied.{class_of, key_named, applied}
 use Rattle.flux_cells.specs.steps.Settling.{Touched, keys_in, overlay, with_put, with_puts}
 use Rattle.flux_cells.proofs.CellLemmas.{none_some}
-use Rattle.flux_model.proofs.Keys.{key_cases, same_key_is, same_key_turned}
+use Rattle.flow_model.proofs.Keys.{key_cases, same_key_is, same_key_turned}
 
 -- ---- one put
 

@@ -6,12 +6,12 @@ use Rattle.std.proofs.lemmas.List.{take_more, map-append, length-drop}
 use Rattle.std.proofs.Math.Seq.{drop-cons}
 use Rattle.std.proofs.lemmas.List.Elements.{Contains-push_cases, Contains-append_left, Contains-get_or, Contains-push}
 use Rattle.flux_values.specs.Cells.{CellMap, no_cell}
-use Rattle.flux_model.specs.declared.journals.Key.{Key}
-use Rattle.flux_model.specs.Keys.{same_key}
+use Rattle.flow_model.specs.declared.journals.Key.{Key}
+use Rattle.flow_model.specs.Keys.{same_key}
 use Rattle.flux_cells.specs.Kept.{Kept, kept_at, cells_of, NoneIsEmpty}
 use Rattle.flux_cells.specs.steps.Settling.{Touched, keys_in, overlay, AreKept, EmptyOnlyAt}
 use Rattle.flux_cells.proofs.CellLemmas.{none_some}
-use Rattle.flux_model.proofs.Keys.{key_cases, key_apart, same_key_turned, same_key_itself}
+use Rattle.flow_model.proofs.Keys.{key_cases, key_apart, same_key_turned, same_key_itself}
 use Rattle.flux_cells.proofs.Keys.{IsChanged, kept_there, kept_else, cells_same}
 
 -- ---- room

@@ -4,9 +4,9 @@ use Rattle.std.specs.List.{slice_get, find}
 use Rattle.flux_values.specs.declared.answers.Put.{Put}
 use Rattle.flux_model.specs.declared.programs.Class.{Class}
 use Rattle.flux_model.specs.declared.programs.Program.{Program}
-use Rattle.flux_model.specs.declared.journals.Key.{Key}
-use Rattle.flux_model.specs.Keys.{Cells}
-use Rattle.flux_model.specs.CellsAfter.{is_named, put_under}
+use Rattle.flow_model.specs.declared.journals.Key.{Key}
+use Rattle.flow_model.specs.Keys.{Cells}
+use Rattle.flow_model.specs.CellsAfter.{is_named, put_under}
 
 -- a key's class
 abbrev pub class_of : Program → Key → Option Class

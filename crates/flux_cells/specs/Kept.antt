@@ -2,8 +2,8 @@
 use Rattle.std.specs.Prelude.{◌≡◌, ◌≢◌, List, Option, Some, unwrap_or}
 use Rattle.std.specs.Map.{lookup}
 use Rattle.flux_values.specs.Cells.{CellMap, no_cell}
-use Rattle.flux_model.specs.declared.journals.Key.{Key}
-use Rattle.flux_model.specs.Keys.{Cells, same_key}
+use Rattle.flow_model.specs.declared.journals.Key.{Key}
+use Rattle.flow_model.specs.Keys.{Cells, same_key}
 
 -- the cells that are kept, by their keys
 abbrev pub Kept : Type 0

@@ -6,7 +6,8 @@ ghost use Rattle.flux_cells.specs.Kept.{cells_of};
 ghost use Rattle.flux_cells.specs.Applied.{applied};
 
 use crate::touched::{copies_under, put_all, settle};
-use flux_model::{Key, Program};
+use flux_model::Program;
+use flow_model::Key;
 use flux_values::{Cell, List, Memory, Put};
 use std::alloc::Global;
 use std::collections::BTreeMap;
@@ -23,7 +24,7 @@ impl Model for Cells {
     ghost use Rattle.flux_cells.specs.Kept.{Kept, NoneIsEmpty};
     ghost use Rattle.std.specs.Coded.{coded_list, coded×};
     ghost use Rattle.flux_values.specs.contracts.cells.Cell as cell;
-    ghost use Rattle.flux_model.specs.contracts.journals.Key as key;
+    ghost use Rattle.flow_model.specs.contracts.journals.Key as key;
 
     ghost Value = { Kept };
 

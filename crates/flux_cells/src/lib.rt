@@ -5,8 +5,6 @@
 #![tactic(auto)]
 
 mod kept;
-#[cfg(test)]
-mod tests;
 mod touched;
 
 pub use kept::Cells;

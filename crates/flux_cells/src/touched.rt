@@ -3,12 +3,13 @@
 ghost use Rattle.std.specs.Prelude.{◌≡◌, IfOk, OnOk, OnErr, IsTrue, ◌↔◌, map as mapped, unwrap_or, option_copied, Some};
 ghost use Rattle.std.specs.List.{position};
 ghost use Rattle.flux_values.specs.Cells.{no_cell};
-ghost use Rattle.flux_model.specs.CellsAfter.{is_named};
+ghost use Rattle.flow_model.specs.CellsAfter.{is_named};
 ghost use Rattle.flux_cells.specs.Kept.{NoneIsEmpty, kept_at, cells_of};
 ghost use Rattle.flux_cells.specs.Applied.{class_of};
 ghost use Rattle.flux_cells.specs.steps.Settling.{Touched, overlay, with_put, with_puts, keys_in, AreKept, EmptyOnlyAt};
 
-use flux_model::{Key, Program};
+use flux_model::Program;
+use flow_model::Key;
 use flux_values::{Cell, Memory, Put, Value};
 use std::alloc::Global;
 use std::collections::BTreeMap;

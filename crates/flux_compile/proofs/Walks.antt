@@ -8,13 +8,13 @@ use Rattle.flux_model.specs.declared.programs.NodeNo.{NodeNo}
 use Rattle.flux_model.specs.declared.programs.Node.{Node}
 use Rattle.flux_model.specs.declared.programs.Hold.{Hold}
 use Rattle.flux_model.specs.declared.programs.Program.{Program}
-use Rattle.flux_model.specs.declared.journals.Outcome.{Outcome}
-use Rattle.flux_model.specs.declared.journals.Event.{Event}
-use Rattle.flux_model.specs.declared.journals.Event.TheVariants as events
-use Rattle.flux_model.specs.Flows.{ending}
+use Rattle.flow_model.specs.declared.journals.Outcome.{Outcome}
+use Rattle.flow_model.specs.declared.journals.Event.{Event}
+use Rattle.flow_model.specs.declared.journals.Event.TheVariants as events
+use Rattle.flow_model.specs.Flows.{ending}
 use Rattle.flux_model.specs.Locks.{Holds, AreLocks}
 use Rattle.flux_model.specs.Ordering.{IsOrder}
-use Rattle.flux_model.specs.Walk.{Given, Stop, finished, before_call, nowhere, Walking, walk}
+use Rattle.flow_model.specs.Walk.{Given, Stop, finished, before_call, nowhere, Walking, walk}
 use Rattle.flux_hoist.specs.Sets.{held_by}
 use Rattle.flux_plan.specs.declared.plans.Plan.{Plan}
 use Rattle.flux_plan.specs.declared.plans.Segment.{Segment}

@@ -6,7 +6,5 @@
 #![tactic(auto)]
 
 mod sets;
-#[cfg(test)]
-mod tests;
 
 pub use sets::ClassSet;

@@ -3,7 +3,8 @@
 use crate::{DOC_LIMIT, DocsFault, read_docs};
 use flux_library::{BODY_LIMIT, Docs};
 use flux_outside::{FileBytes, MemoryFolder};
-use flux_values::{Bytes, List, Memory, append_number};
+use flux_values::{Bytes, List, Memory};
+use flux_spelling::append_number;
 use std::alloc::Global;
 use std::process::Abort;
 use std::test::Fail;

@@ -9,7 +9,7 @@ use Rattle.flux_values.specs.Values.{kind_of}
 use Rattle.flux_values.specs.Reading.{IsValue}
 use Rattle.flux_model.specs.declared.programs.Program.{Program}
 use Rattle.flux_model.specs.declared.programs.SourceLine.{SourceLine}
-use Rattle.flux_model.specs.declared.journals.Item.{Item}
+use Rattle.flux_model.specs.declared.items.Item.{Item}
 use Rattle.flux_model.specs.Items.{IsItemOf, IsItemFor}
 use Rattle.flux_model.specs.Kinds.{NodeKinds}
 use Rattle.flux_model.specs.Locks.{Holds}

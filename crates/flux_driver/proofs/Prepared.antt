@@ -15,7 +15,7 @@ use Rattle.flux_model.specs.declared.programs.NodeNo.{NodeNo}
 use Rattle.flux_model.specs.declared.programs.SourceLine.{SourceLine}
 use Rattle.flux_model.specs.declared.programs.Hold.{Hold}
 use Rattle.flux_model.specs.declared.signatures.NodeSig.{NodeSig}
-use Rattle.flux_model.specs.declared.journals.Item.{Item}
+use Rattle.flux_model.specs.declared.items.Item.{Item}
 use Rattle.flux_model.specs.Kinds.{node_kinds, kinds_at}
 use Rattle.flux_model.specs.Ordering.{IsOrder}
 use Rattle.flux_model.specs.Locks.{Holds, AreLocks}

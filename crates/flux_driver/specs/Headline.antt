@@ -3,13 +3,13 @@ use Rattle.std.specs.Prelude.{◌≡◌, ℕ, List, [], length}
 use Rattle.flux_values.specs.Meanings.{LibraryMeaning}
 use Rattle.flux_values.specs.Cells.{no_cell}
 use Rattle.flux_model.specs.declared.programs.Program.{Program}
-use Rattle.flux_model.specs.declared.journals.Entry.{Entry}
-use Rattle.flux_model.specs.declared.journals.Item.{Item}
-use Rattle.flux_model.specs.declared.journals.Journal.{Journal}
+use Rattle.flow_model.specs.declared.journals.Entry.{Entry}
+use Rattle.flux_model.specs.declared.items.Item.{Item}
+use Rattle.flow_model.specs.declared.journals.Journal.{Journal}
 use Rattle.flux_model.specs.Locks.{Holds}
-use Rattle.flux_model.specs.Setup.{Setup}
-use Rattle.flux_model.specs.Legal.{IsLegal, IsWhole}
-use Rattle.flux_model.specs.Texts.{printed_journal}
+use Rattle.flow_model.specs.Setup.{Setup}
+use Rattle.flow_model.specs.Legal.{IsLegal, IsWhole}
+use Rattle.flow_model.specs.Texts.{printed_journal}
 use Rattle.flux_journal.specs.Formats.{printed_journal_2}
 use Rattle.flux_items.specs.Items.{AreItemsOf}
 use Rattle.flux_syntax.specs.ProgramOfText.{program_of}

@@ -20,6 +20,7 @@ mod tests;
 mod texts;
 mod writing;
 
+pub use flow_core::{Gate, OpenGate};
 pub use flux_words::needs_threads;
 pub use outermost::{World, top, top_alone};
 pub use statuses::Status;

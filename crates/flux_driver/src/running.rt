@@ -2,7 +2,7 @@
 
 ghost use Rattle.std.specs.Prelude.{◌≡◌, [], List, IfOk, IfErr};
 ghost use Rattle.std.specs.Arc.{arc_value};
-ghost use Rattle.flux_model.specs.declared.journals.Item.{Item};
+ghost use Rattle.flux_model.specs.declared.items.Item.{Item};
 ghost use Rattle.flux_model.specs.Kinds.{kinds_at};
 ghost use Rattle.flux_model.specs.Soundness.{IsSound};
 ghost use Rattle.flux_plan.specs.Runs.{ArePlansOf};
@@ -25,8 +25,9 @@ use flux_hoist::Checked;
 use flux_items::read_items;
 use flux_journal::{print_journal, print_journal_2};
 use flux_library::Library;
-use flux_model::{Item, Journal, Program};
-use flux_outside::Gate;
+use flux_model::{Item, Program};
+use flow_model::Journal;
+use flow_core::Gate;
 use flux_plan::VerifiedPlan;
 use flux_values::{Bytes, List, Memory};
 use flux_words::{JournalFormat, Runtime};

@@ -9,7 +9,8 @@ mod rows;
 mod words;
 
 use crate::{Status, World, needs_threads, top_alone};
-use flux_outside::{FileBytes, MemoryFolder, MemorySink, MemoryStore, OpenGate};
+use flux_outside::{FileBytes, MemoryFolder, MemorySink, MemoryStore};
+use flow_core::OpenGate;
 use flux_values::{Bytes, List, Memory};
 use std::alloc::Global;
 use std::process::Abort;

@@ -13,8 +13,6 @@ mod ordering;
 mod orders;
 mod returning;
 mod steps;
-#[cfg(test)]
-mod tests;
 
 pub use children::below;
 pub use ordering::order;

@@ -6,7 +6,7 @@ use Rattle.std.proofs.lemmas.Option.{unwrap_or-slice_get}
 use Rattle.std.proofs.lemmas.List.{take_more, take_all, length-take, append-nil, take-append-drop}
 use Rattle.std.proofs.lemmas.List.Elements.{filter_map-append}
 use Rattle.std.proofs.lemmas.List.Sums.{sum_by-append}
-use Rattle.flux_model.specs.declared.journals.Item.{Item}
+use Rattle.flux_model.specs.declared.items.Item.{Item}
 use Rattle.flux_items.specs.declared.rules.ItemRules.{ItemRules}
 use Rattle.flux_items.specs.declared.rules.ItemFault.{ItemFault}
 use Rattle.flux_items.specs.declared.rules.TheConstants.{ITEM_LIMIT, SIZE_LIMIT}

@@ -7,7 +7,7 @@ use Rattle.flux_values.specs.declared.values.Value.{Value}
 use Rattle.flux_values.specs.declared.values.Value.TheVariants as values
 use Rattle.flux_values.specs.Reading.{EndsBefore, NoDigitFirst}
 use Rattle.flux_values.specs.Spellings.{Spells, BeginsSpelled}
-use Rattle.flux_values.proofs.Fronts.{IsHead, begins_head, begins_none}
+use Rattle.flux_spelling.proofs.Fronts.{IsHead, begins_head, begins_none}
 use Rattle.flux_items.specs.Lines.{is_blank, AreBlanks}
 use Rattle.flux_items.specs.Spelled.{AreLaid, closed_pieces, SpellEach}
 use Rattle.flux_items.specs.steps.Fronts.{past_blanks, Ends}

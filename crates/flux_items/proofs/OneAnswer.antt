@@ -8,8 +8,8 @@ use Rattle.std.proofs.lemmas.List.Sums.{sum_by-append}
 use Rattle.flux_values.specs.declared.values.Kind.{Kind}
 use Rattle.flux_values.specs.declared.values.Value.{Value}
 use Rattle.flux_values.specs.Values.{kind_of}
-use Rattle.flux_values.proofs.Causes.{one_value}
-use Rattle.flux_model.specs.declared.journals.Item.{Item}
+use Rattle.flux_spelling.proofs.Causes.{one_value}
+use Rattle.flux_model.specs.declared.items.Item.{Item}
 use Rattle.flux_items.specs.declared.rules.ItemRules.{ItemRules}
 use Rattle.flux_items.specs.declared.rules.ItemFault.{ItemFault}
 use Rattle.flux_items.specs.declared.rules.ItemFault.TheVariants as faults

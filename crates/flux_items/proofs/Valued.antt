@@ -6,7 +6,7 @@ use Rattle.flux_values.specs.declared.values.Kind.{Kind}
 use Rattle.flux_values.specs.declared.values.Value.{Value}
 use Rattle.flux_values.specs.Values.{kind_of}
 use Rattle.flux_values.specs.Spellings.{BeginsSpelled, HasCause}
-use Rattle.flux_values.proofs.Causes.{one_value, too_long_no_value}
+use Rattle.flux_spelling.proofs.Causes.{one_value, too_long_no_value}
 use Rattle.flux_items.specs.steps.Fronts.{past_blanks, Ends}
 use Rattle.flux_items.specs.steps.Values.{IsValueThen, Follow, Close, IsKept, GoesOn, AreSoFar, HaveOtherKinds}
 

@@ -1,7 +1,7 @@
 //! The items of a text.
 
 ghost use Rattle.std.specs.Prelude.{◌≡◌, ◌<◌, ◌^◌, List, Ok, Err, slice_index};
-ghost use Rattle.flux_model.specs.declared.journals.Item.{Item};
+ghost use Rattle.flux_model.specs.declared.items.Item.{Item};
 ghost use Rattle.flux_items.specs.declared.rules.ItemFault.{ItemFault};
 ghost use Rattle.flux_items.specs.Rules.{AreRules};
 ghost use Rattle.flux_items.specs.Items.{AreItemsOf};

@@ -5,7 +5,8 @@ ghost use Rattle.flux_items.specs.Rules.{AreRules};
 
 use crate::{ITEM_LIMIT, ItemFault, ItemRules, read_items};
 use flux_model::Item;
-use flux_values::{Bytes, Kind, List, Memory, TextBytes, TextFault, append_number, append_value};
+use flux_values::{Bytes, Kind, List, Memory, TextBytes, TextFault};
+use flux_spelling::{append_number, append_value};
 use std::alloc::Global;
 use std::process::Abort;
 use std::test::Fail;

@@ -8,10 +8,10 @@ use Rattle.flux_values.specs.declared.answers.CallResult.TheVariants as results
 use Rattle.flux_values.specs.declared.answers.Put.{Put}
 use Rattle.flux_values.specs.declared.texts.TheConstants.{EMISSION_LIMIT}
 use Rattle.flux_values.specs.Spellings.{SpellsText, BeginsText}
-use Rattle.flux_values.proofs.Literals.{one_text}
+use Rattle.flux_spelling.proofs.Literals.{one_text}
 use Rattle.flux_model.specs.declared.programs.Program.{Program}
 use Rattle.flux_model.specs.declared.programs.NodeNo.{NodeNo}
-use Rattle.flux_model.specs.declared.journals.CallMade.{CallMade}
+use Rattle.flow_model.specs.declared.journals.CallMade.{CallMade}
 use Rattle.flux_model.specs.Names.{IsNamed}
 use Rattle.flux_journal.specs.Entries.{IsCellOf, IsTextOf}
 use Rattle.flux_journal.specs.Spelled.{BeginEach, BeginsValue, BeginsNext, BeginClosed, BeginValues, BeginsCode, BeginsResult, BeginsChange, BeginsPut, IsEmission, IsCallText}

@@ -18,17 +18,18 @@ use Rattle.flux_values.specs.declared.texts.TheConstants.{EMISSION_LIMIT, TEXT_L
 use Rattle.flux_values.specs.Reading.{IsValue}
 use Rattle.flux_values.specs.Texts.{printed_value, printed_text}
 use Rattle.flux_values.specs.Spellings.{minus, escaped, SpellsByte, SpellEach, SpellsText, Spells}
-use Rattle.flux_values.proofs.Causes.{printed_spells, printed_text_spells}
+use Rattle.flux_spelling.proofs.Causes.{printed_spells, printed_text_spells}
 use Rattle.flux_model.specs.declared.programs.Program.{Program}
 use Rattle.flux_model.specs.declared.programs.Class.{Class}
-use Rattle.flux_model.specs.declared.journals.Key.{Key}
-use Rattle.flux_model.specs.declared.journals.Outcome.{Outcome}
-use Rattle.flux_model.specs.declared.journals.Outcome.TheVariants as outcomes
-use Rattle.flux_model.specs.declared.journals.CallMade.{CallMade}
-use Rattle.flux_model.specs.declared.journals.Event.{Event}
-use Rattle.flux_model.specs.declared.journals.Event.TheVariants as events
+use Rattle.flow_model.specs.declared.journals.Key.{Key}
+use Rattle.flow_model.specs.declared.journals.Outcome.{Outcome}
+use Rattle.flow_model.specs.declared.journals.Outcome.TheVariants as outcomes
+use Rattle.flow_model.specs.declared.journals.CallMade.{CallMade}
+use Rattle.flow_model.specs.declared.journals.Event.{Event}
+use Rattle.flow_model.specs.declared.journals.Event.TheVariants as events
 use Rattle.flux_model.specs.Names.{IsNamed}
-use Rattle.flux_model.specs.Texts.{node_name, class_name, printed_values, printed_session, printed_key, printed_mode, printed_result, printed_change, printed_put, printed_emission, printed_call, printed_exit, printed_end, printed_event}
+use Rattle.flux_model.specs.Texts.{node_name, class_name, printed_values, printed_mode}
+use Rattle.flow_model.specs.Texts.{printed_session, printed_key, printed_result, printed_change, printed_put, printed_emission, printed_call, printed_exit, printed_end, printed_event}
 use Rattle.flux_journal.specs.Entries.{IsKeyIn, IsKeyOf, HasSession, IsOutcome, IsResult, IsTextOf, IsCellOf, IsPutOf, IsCallOf, IsEventOf, IsValueOrNone}
 use Rattle.flux_journal.specs.steps.Cuts.{HasNone}
 use Rattle.flux_journal.specs.steps.Listed.{listed}

@@ -9,7 +9,7 @@ use Rattle.std.proofs.lemmas.Bool.Decides.{nat_tests}
 use Rattle.std.proofs.lemmas.List.{length-append, append-nil, take-append-drop, take_all, drop_more}
 use Rattle.std.proofs.lemmas.List.Sums.{passes_at_first}
 use Rattle.flux_values.specs.Spellings.{BeginsDecimal, IsDecimalRead}
-use Rattle.flux_values.proofs.Decimals.{one_decimal}
+use Rattle.flux_spelling.proofs.Decimals.{one_decimal}
 use Rattle.flux_journal.specs.steps.Cuts.{IsCut, HasNone, IsNumber}
 
 -- ---- cuts

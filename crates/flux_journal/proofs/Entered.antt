@@ -9,11 +9,11 @@ use Rattle.flux_values.specs.declared.answers.Put.{Put}
 use Rattle.flux_values.specs.declared.texts.TheConstants.{EMISSION_LIMIT, TEXT_LIMIT}
 use Rattle.flux_values.specs.Reading.{IsValue}
 use Rattle.flux_model.specs.declared.programs.Program.{Program}
-use Rattle.flux_model.specs.declared.journals.CallMade.{CallMade}
-use Rattle.flux_model.specs.declared.journals.Event.{Event}
-use Rattle.flux_model.specs.declared.journals.Event.TheVariants as events
-use Rattle.flux_model.specs.declared.journals.Entry.{Entry}
-use Rattle.flux_model.specs.declared.journals.Journal.{Journal}
+use Rattle.flow_model.specs.declared.journals.CallMade.{CallMade}
+use Rattle.flow_model.specs.declared.journals.Event.{Event}
+use Rattle.flow_model.specs.declared.journals.Event.TheVariants as events
+use Rattle.flow_model.specs.declared.journals.Entry.{Entry}
+use Rattle.flow_model.specs.declared.journals.Journal.{Journal}
 use Rattle.flux_journal.specs.Entries.{IsNodeOf, IsResult, IsTextOf, IsValueOrNone, IsPutOf, IsCallOf, IsEventOf, AreEntriesOf}
 use Rattle.flux_journal.specs.Spelled.{BeginEach, BeginsValue, BeginsNext, BeginClosed, BeginValues, BeginsResult, BeginsChange, BeginsPut, IsEmission, IsCallText, IsEventText}
 use Rattle.flux_journal.specs.Journals.{event_lines, AreEntryLines, ReadsAs}

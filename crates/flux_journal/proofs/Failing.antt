@@ -4,7 +4,7 @@ use Rattle.std.specs.Result.{IsErrAnd}
 use Rattle.flux_values.specs.declared.values.Value.{Value}
 use Rattle.flux_values.specs.declared.answers.Put.{Put}
 use Rattle.flux_model.specs.declared.programs.Program.{Program}
-use Rattle.flux_model.specs.declared.journals.Entry.{Entry}
+use Rattle.flow_model.specs.declared.journals.Entry.{Entry}
 use Rattle.flux_journal.specs.Spelled.{IsEntryLine}
 use Rattle.flux_journal.specs.Journals.{HasLineCause}
 use Rattle.flux_journal.specs.declared.faults.LineFault.{LineFault}

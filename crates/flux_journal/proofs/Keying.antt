@@ -8,9 +8,10 @@ use Rattle.flux_values.specs.Identifiers.{is_word_start, is_word_byte, IsIdentif
 use Rattle.flux_model.specs.declared.programs.Program.{Program}
 use Rattle.flux_model.specs.declared.programs.Class.{Class}
 use Rattle.flux_model.specs.declared.programs.ClassNo.{ClassNo}
-use Rattle.flux_model.specs.declared.journals.Key.{Key}
+use Rattle.flow_model.specs.declared.journals.Key.{Key}
 use Rattle.flux_model.specs.Names.{IsNamed}
-use Rattle.flux_model.specs.Texts.{class_name, printed_session}
+use Rattle.flux_model.specs.Texts.{class_name}
+use Rattle.flow_model.specs.Texts.{printed_session}
 use Rattle.flux_journal.specs.Entries.{HasSession, IsKeyIn}
 use Rattle.flux_journal.specs.steps.Cuts.{HasNone, IsCut, IsNumber}
 use Rattle.flux_journal.specs.steps.Named.{IsClassNamed}

@@ -12,12 +12,13 @@ use Rattle.flux_values.specs.Identifiers.{is_word_byte, IsIdentifier}
 use Rattle.flux_model.specs.declared.programs.Program.{Program}
 use Rattle.flux_model.specs.declared.programs.Node.{Node}
 use Rattle.flux_model.specs.declared.programs.NodeNo.{NodeNo}
-use Rattle.flux_model.specs.declared.journals.Outcome.{Outcome}
-use Rattle.flux_model.specs.declared.journals.CallMade.{CallMade}
-use Rattle.flux_model.specs.declared.journals.Event.{Event}
-use Rattle.flux_model.specs.declared.journals.Entry.{Entry}
+use Rattle.flow_model.specs.declared.journals.Outcome.{Outcome}
+use Rattle.flow_model.specs.declared.journals.CallMade.{CallMade}
+use Rattle.flow_model.specs.declared.journals.Event.{Event}
+use Rattle.flow_model.specs.declared.journals.Entry.{Entry}
 use Rattle.flux_model.specs.Names.{IsNamed}
-use Rattle.flux_model.specs.Texts.{name_in, node_name, printed_exit}
+use Rattle.flux_model.specs.Texts.{name_in, node_name}
+use Rattle.flow_model.specs.Texts.{printed_exit}
 use Rattle.flux_journal.specs.declared.faults.LineFault.{LineFault}
 use Rattle.flux_journal.specs.Spelled.{IsCallText, IsEventText, IsEntryLine}
 use Rattle.flux_journal.specs.steps.Cuts.{HasNone, IsCut, IsNumber}

@@ -9,10 +9,10 @@ use Rattle.flux_values.specs.declared.answers.CallResult.TheVariants as results
 use Rattle.flux_values.specs.declared.answers.Put.{Put}
 use Rattle.flux_values.specs.declared.texts.TheConstants.{EMISSION_LIMIT}
 use Rattle.flux_values.specs.Spellings.{SpellsText, BeginsText, IsTextRead}
-use Rattle.flux_values.proofs.Literals.{one_text}
+use Rattle.flux_spelling.proofs.Literals.{one_text}
 use Rattle.flux_model.specs.declared.programs.Program.{Program}
 use Rattle.flux_model.specs.declared.programs.NodeNo.{NodeNo}
-use Rattle.flux_model.specs.declared.journals.CallMade.{CallMade}
+use Rattle.flow_model.specs.declared.journals.CallMade.{CallMade}
 use Rattle.flux_model.specs.Names.{IsNamed}
 use Rattle.flux_journal.specs.Entries.{IsCellOf, IsTextOf}
 use Rattle.flux_journal.specs.Spelled.{Behind, Before, BeginEach, BeginsValue, BeginsNext, BeginClosed, BeginValues, BeginsResult, BeginsChange, BeginsPut, IsEmission, IsCallText}

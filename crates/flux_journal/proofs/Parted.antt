@@ -6,9 +6,9 @@ use Rattle.flux_values.specs.declared.values.Value.{Value}
 use Rattle.flux_values.specs.declared.values.Value.TheVariants as values
 use Rattle.flux_values.specs.declared.failures.ValueFault.TheVariants as value_faults
 use Rattle.flux_values.specs.Spellings.{BeginsSpelled, BeginsDecimal, HasCause, IsDecimalRead}
-use Rattle.flux_values.proofs.Causes.{one_value, too_long_no_value}
-use Rattle.flux_values.proofs.Decimals.{one_decimal}
-use Rattle.flux_values.proofs.Fronts.{IsHead, begins_head}
+use Rattle.flux_spelling.proofs.Causes.{one_value, too_long_no_value}
+use Rattle.flux_spelling.proofs.Decimals.{one_decimal}
+use Rattle.flux_spelling.proofs.Fronts.{IsHead, begins_head}
 use Rattle.flux_journal.specs.Spelled.{BeginEach, BeginsValue, BeginsCode}
 
 -- the same was given, with the same behind it

@@ -16,15 +16,16 @@ use Rattle.flux_values.specs.declared.answers.Put.{Put}
 use Rattle.flux_values.specs.declared.texts.TheConstants.{EMISSION_LIMIT}
 use Rattle.flux_values.specs.Reading.{IsValue, EndsBefore, NoDigitFirst}
 use Rattle.flux_values.specs.Texts.{printed_value, printed_text}
-use Rattle.flux_values.proofs.Causes.{printed_spells, printed_text_spells}
+use Rattle.flux_spelling.proofs.Causes.{printed_spells, printed_text_spells}
 use Rattle.flux_model.specs.declared.programs.Program.{Program}
-use Rattle.flux_model.specs.declared.journals.CallMade.{CallMade}
-use Rattle.flux_model.specs.declared.journals.Event.{Event}
-use Rattle.flux_model.specs.declared.journals.Event.TheVariants as events
-use Rattle.flux_model.specs.declared.journals.Entry.{Entry}
-use Rattle.flux_model.specs.declared.journals.Journal.{Journal}
+use Rattle.flow_model.specs.declared.journals.CallMade.{CallMade}
+use Rattle.flow_model.specs.declared.journals.Event.{Event}
+use Rattle.flow_model.specs.declared.journals.Event.TheVariants as events
+use Rattle.flow_model.specs.declared.journals.Entry.{Entry}
+use Rattle.flow_model.specs.declared.journals.Journal.{Journal}
 use Rattle.flux_model.specs.Names.{IsNamed}
-use Rattle.flux_model.specs.Texts.{node_name, printed_values, printed_result, printed_change, printed_put, printed_emission, printed_call, printed_event, printed_entry, printed_journal}
+use Rattle.flux_model.specs.Texts.{node_name, printed_values}
+use Rattle.flow_model.specs.Texts.{printed_result, printed_change, printed_put, printed_emission, printed_call, printed_event, printed_entry, printed_journal}
 use Rattle.flux_journal.specs.Formats.{head_mark, head_line, printed_journal_2}
 use Rattle.flux_journal.specs.Entries.{IsTextOf, IsResult, IsPutOf, IsCallOf, IsEventOf, IsEntryOf, AreEntriesOf, IsValueOrNone}
 use Rattle.flux_journal.specs.Spelled.{BeginEach, BeginsValue, BeginsNext, BeginClosed, BeginValues, BeginsResult, BeginsChange, BeginsPut, IsEmission, IsEventText, IsEntryLine}

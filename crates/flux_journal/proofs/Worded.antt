@@ -4,8 +4,8 @@ use Rattle.std.specs.List.{list_all}
 use Rattle.std.specs.Str.{bytes_eq}
 use Rattle.std.specs.Fmt.{decimal}
 use Rattle.flux_model.specs.declared.programs.Program.{Program}
-use Rattle.flux_model.specs.declared.journals.Event.{Event}
-use Rattle.flux_model.specs.declared.journals.Event.TheVariants as events
+use Rattle.flow_model.specs.declared.journals.Event.{Event}
+use Rattle.flow_model.specs.declared.journals.Event.TheVariants as events
 use Rattle.flux_model.specs.Texts.{node_name}
 use Rattle.flux_journal.specs.declared.lines.Word.{Word}
 use Rattle.flux_journal.specs.declared.lines.Word.TheVariants as words

@@ -2,8 +2,8 @@
 use Rattle.std.specs.Prelude.{ℕ, List, ◌++◌, length, codes}
 use Rattle.std.specs.Fmt.{decimal}
 use Rattle.flux_model.specs.declared.programs.Program.{Program}
-use Rattle.flux_model.specs.declared.journals.Journal.{Journal}
-use Rattle.flux_model.specs.Texts.{printed_journal}
+use Rattle.flow_model.specs.declared.journals.Journal.{Journal}
+use Rattle.flow_model.specs.Texts.{printed_journal}
 
 -- what a head line begins with
 abbrev pub head_mark : List ℕ

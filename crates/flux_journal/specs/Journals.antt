@@ -2,8 +2,8 @@
 use Rattle.std.specs.Prelude.{◌≡◌, ◌⊎◌, ℕ, ◌+◌, ◌<◌, ◌^◌, ◌==◌, Bool, true, false, nat_eq, List, [], ◌∷◌, ◌++◌, length, drop, Some, Result, Ok, Err, ⊤}
 use Rattle.std.specs.List.{slice_get, slice_split, starts_with}
 use Rattle.flux_model.specs.declared.programs.Program.{Program}
-use Rattle.flux_model.specs.declared.journals.Entry.{Entry}
-use Rattle.flux_model.specs.declared.journals.Journal.{Journal}
+use Rattle.flow_model.specs.declared.journals.Entry.{Entry}
+use Rattle.flow_model.specs.declared.journals.Journal.{Journal}
 use Rattle.flux_journal.specs.declared.faults.LineFault.{LineFault}
 use Rattle.flux_journal.specs.declared.faults.LineFault.TheVariants as line_faults
 use Rattle.flux_journal.specs.declared.faults.JournalFault.{JournalFault}

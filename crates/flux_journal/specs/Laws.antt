@@ -1,9 +1,9 @@
 -- The printed texts of a journal read as it, and a text reads as one journal.
 use Rattle.std.specs.Prelude.{◌≡◌, ℕ, ◌<◌, ◌^◌, List, length}
 use Rattle.flux_model.specs.declared.programs.Program.{Program}
-use Rattle.flux_model.specs.declared.journals.Journal.{Journal}
+use Rattle.flow_model.specs.declared.journals.Journal.{Journal}
 use Rattle.flux_model.specs.Names.{IsNamed}
-use Rattle.flux_model.specs.Texts.{printed_journal}
+use Rattle.flow_model.specs.Texts.{printed_journal}
 use Rattle.flux_journal.specs.Formats.{printed_journal_2}
 use Rattle.flux_journal.specs.Entries.{AreEntriesOf}
 use Rattle.flux_journal.specs.Journals.{ReadsAs}

@@ -3,12 +3,13 @@ use Rattle.std.specs.Prelude.{ℕ, List, [], ◌∷◌, ◌++◌, length, codes}
 use Rattle.std.specs.List.{flat_map}
 use Rattle.std.specs.Fmt.{decimal}
 use Rattle.flux_model.specs.declared.programs.Program.{Program}
-use Rattle.flux_model.specs.declared.journals.CallMade.{CallMade}
-use Rattle.flux_model.specs.declared.journals.Event.{Event}
-use Rattle.flux_model.specs.declared.journals.Event.TheVariants.{Take, Wait, Enter, Choose, Call, Exit, Drop, End}
-use Rattle.flux_model.specs.declared.journals.Entry.{Entry}
-use Rattle.flux_model.specs.declared.journals.Journal.{Journal}
-use Rattle.flux_model.specs.Texts.{node_name, printed_values, printed_result, printed_put, printed_event}
+use Rattle.flow_model.specs.declared.journals.CallMade.{CallMade}
+use Rattle.flow_model.specs.declared.journals.Event.{Event}
+use Rattle.flow_model.specs.declared.journals.Event.TheVariants.{Take, Wait, Enter, Choose, Call, Exit, Drop, End}
+use Rattle.flow_model.specs.declared.journals.Entry.{Entry}
+use Rattle.flow_model.specs.declared.journals.Journal.{Journal}
+use Rattle.flux_model.specs.Texts.{node_name, printed_values}
+use Rattle.flow_model.specs.Texts.{printed_result, printed_put, printed_event}
 
 -- how many bytes are emitted, where there are any
 abbrev pub printed_sent : List ℕ → List ℕ

@@ -10,11 +10,12 @@ use Rattle.flux_values.specs.declared.answers.Put.{Put}
 use Rattle.flux_values.specs.Reading.{EndsBefore, NoDigitFirst}
 use Rattle.flux_values.specs.Spellings.{Spells, SpellsText}
 use Rattle.flux_model.specs.declared.programs.Program.{Program}
-use Rattle.flux_model.specs.declared.journals.CallMade.{CallMade}
-use Rattle.flux_model.specs.declared.journals.Event.{Event}
-use Rattle.flux_model.specs.declared.journals.Event.TheVariants.{Take, Wait, Enter, Choose, Call, Exit, Drop, End}
-use Rattle.flux_model.specs.declared.journals.Entry.{Entry}
-use Rattle.flux_model.specs.Texts.{node_name, printed_event}
+use Rattle.flow_model.specs.declared.journals.CallMade.{CallMade}
+use Rattle.flow_model.specs.declared.journals.Event.{Event}
+use Rattle.flow_model.specs.declared.journals.Event.TheVariants.{Take, Wait, Enter, Choose, Call, Exit, Drop, End}
+use Rattle.flow_model.specs.declared.journals.Entry.{Entry}
+use Rattle.flux_model.specs.Texts.{node_name}
+use Rattle.flow_model.specs.Texts.{printed_event}
 use Rattle.flux_journal.specs.Entries.{IsNodeOf, IsKeyOf, IsOutcome, IsCellOf, IsTextOf}
 
 -- ---- what begins a text, and what stands behind it

@@ -4,7 +4,7 @@ ghost use Rattle.std.specs.Prelude.{◌≡◌, ◌≤◌, ◌++◌, ◌==◌, �
 ghost use Rattle.std.specs.List.{position_or_len};
 ghost use Rattle.flux_journal.specs.steps.Cuts.{IsCut, HasNone, IsNumber};
 
-use flux_values::read_decimal;
+use flux_spelling::read_decimal;
 
 /// How many bytes stand before the first mark, or in all.
 fn length_before(mark: u8, text: &[u8]) -> usize

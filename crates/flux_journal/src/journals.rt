@@ -1,9 +1,9 @@
 //! A journal read.
 
 ghost use Rattle.std.specs.Prelude.{◌≡◌, ◌<◌, ◌≤◌, ◌^◌, ◌↔◌, ℕ, IsTrue, IfSome, IfNone, Ok, Err, length};
-ghost use Rattle.flux_model.specs.declared.journals.Journal.{Journal};
+ghost use Rattle.flow_model.specs.declared.journals.Journal.{Journal};
 ghost use Rattle.flux_model.specs.Names.{IsNamed};
-ghost use Rattle.flux_model.specs.Texts.{printed_journal};
+ghost use Rattle.flow_model.specs.Texts.{printed_journal};
 ghost use Rattle.flux_model.specs.Numbered.{IsNumbered};
 ghost use Rattle.flux_journal.specs.declared.faults.JournalFault.TheVariants as faults;
 ghost use Rattle.flux_journal.specs.Formats.{printed_journal_2};
@@ -14,7 +14,8 @@ ghost use Rattle.flux_journal.specs.steps.Lines.{IsFirstLine, IsHeadFor, AreEntr
 use crate::cuts::{behind, cut, read_number};
 use crate::faults::{JournalFault, LineFault};
 use crate::lines::Reader;
-use flux_model::{Journal, Program};
+use flux_model::Program;
+use flow_model::Journal;
 use flux_values::List;
 use std::alloc::Global;
 

@@ -3,13 +3,14 @@
 ghost use Rattle.std.specs.Prelude.{◌≡◌, ◌≤◌, ℕ, IfSome, IfNone, length};
 ghost use Rattle.flux_values.specs.declared.answers.Mode.{Mode};
 ghost use Rattle.flux_model.specs.declared.programs.TheConstants.{COUNT_LIMIT};
-ghost use Rattle.flux_model.specs.declared.journals.Key.{Key};
+ghost use Rattle.flow_model.specs.declared.journals.Key.{Key};
 ghost use Rattle.flux_model.specs.Names.{IsNamed};
 ghost use Rattle.flux_journal.specs.steps.Parts.{IsKeyText, IsModeMark, IsHoldText};
 
 use crate::cuts::{cut, read_number};
 use crate::names::find_class;
-use flux_model::{Key, Mode, Program};
+use flux_model::{Mode, Program};
+use flow_model::Key;
 
 /// The key that the bytes are: a class's name, for a session class with `@` and the session's number.
 pub fn read_key(program: &Program, bytes: &[u8]) -> Option<Key>

@@ -2,8 +2,8 @@
 
 ghost use Rattle.std.specs.Prelude.{◌≡◌, ◌≢◌, ℕ, IfOk, IfSome, IfNone, Ok, Err};
 ghost use Rattle.flux_model.specs.declared.programs.NodeNo.{NodeNo};
-ghost use Rattle.flux_model.specs.declared.journals.Outcome.{Outcome};
-ghost use Rattle.flux_model.specs.declared.journals.Entry.{Entry};
+ghost use Rattle.flow_model.specs.declared.journals.Outcome.{Outcome};
+ghost use Rattle.flow_model.specs.declared.journals.Entry.{Entry};
 ghost use Rattle.flux_model.specs.Names.{IsNamed};
 ghost use Rattle.flux_model.specs.Numbered.{IsNumbered};
 ghost use Rattle.flux_journal.specs.declared.faults.LineFault.TheVariants as faults;
@@ -20,7 +20,8 @@ use crate::faults::LineFault;
 use crate::keys::{read_hold, read_key};
 use crate::names::{find_node, names_of};
 use crate::outcomes::{read_end, read_exit};
-use flux_model::{CallMade, Entry, Event, FlowNo, Names, NodeNo, Outcome, Program};
+use flux_model::{FlowNo, Names, NodeNo, Program};
+use flow_model::{CallMade, Entry, Event, Outcome};
 use flux_values::Memory;
 use std::alloc::Global;
 

@@ -1,11 +1,11 @@
 //! How nodes and flows end.
 
 ghost use Rattle.std.specs.Prelude.{◌≡◌, ℕ, IfSome, IfNone};
-ghost use Rattle.flux_model.specs.declared.journals.Outcome.{Outcome};
+ghost use Rattle.flow_model.specs.declared.journals.Outcome.{Outcome};
 ghost use Rattle.flux_journal.specs.steps.Parts.{IsCodeText, IsExitText, IsEndText};
 
 use crate::cuts::{behind, read_number};
-use flux_model::Outcome;
+use flow_model::Outcome;
 
 /// The code behind `fail `.
 fn read_failure(bytes: &[u8]) -> Option<u16>

@@ -4,16 +4,16 @@ ghost use Rattle.std.specs.Prelude.{◌≡◌, ◌++◌, [], if◌then◌else◌
 ghost use Rattle.std.specs.List.{flat_map};
 ghost use Rattle.std.specs.Fmt.{decimal};
 ghost use Rattle.flux_values.specs.Texts.{printed_value, printed_text};
-ghost use Rattle.flux_model.specs.Texts.{node_name, class_name, source_name, printed_item, printed_values, comma_separated, printed_key, printed_session, printed_mode, printed_result, printed_put, printed_change, printed_emission, printed_call, printed_exit, printed_end, printed_event, printed_entry, printed_journal};
+ghost use Rattle.flux_model.specs.Texts.{node_name, class_name, source_name, printed_item, printed_values, comma_separated, printed_mode};
+ghost use Rattle.flow_model.specs.Texts.{printed_key, printed_session, printed_result, printed_put, printed_change, printed_emission, printed_call, printed_exit, printed_end, printed_event, printed_entry, printed_journal};
 ghost use Rattle.flux_journal.specs.Formats.{head_line, printed_journal_2};
 ghost use Rattle.flux_journal.specs.Logs.{printed_sent, logged_call, logged_event, logged_entry, printed_log};
 ghost use Rattle.flux_journal.specs.steps.Listed.{called};
 
-use flux_model::{
-    CallMade, CallResult, ClassNo, Entry, Event, Item, Journal, Key, Mode, NodeNo, Outcome,
-    Program, Put, SourceNo,
-};
-use flux_values::{Bytes, List, Memory, Value, append_number, append_text, append_value};
+use flux_model::{CallResult, ClassNo, Item, Mode, NodeNo, Program, Put, SourceNo};
+use flow_model::{CallMade, Entry, Event, Journal, Key, Outcome};
+use flux_values::{Bytes, List, Memory, Value};
+use flux_spelling::{append_number, append_text, append_value};
 use std::alloc::Global;
 
 /// The one text of a journal in format 1.

@@ -7,7 +7,8 @@ use crate::{
     JournalFault, LineFault, print_item, print_journal, print_journal_2, print_log, read_journal,
     read_line,
 };
-use flux_model::{Body, Class, Entry, Item, Journal, Node, NodeNo, Program, SourceLine, SourceNo};
+use flux_model::{Body, Class, Item, Node, NodeNo, Program, SourceLine, SourceNo};
+use flow_model::{Entry, Journal};
 use flux_values::{Bytes, EMISSION_LIMIT, List, TextBytes, Value};
 use std::alloc::Global;
 use std::test::Fail;

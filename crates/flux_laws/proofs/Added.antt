@@ -3,21 +3,21 @@ use Rattle.std.proofs.Common.{◌≡◌, ◌≢◌, ◌<◌, ◌≤◌, ◌⊎�
 use Rattle.std.specs.List.{slice_get}
 use Rattle.std.proofs.lemmas.Bool.{cases_eq, cases_lt}
 use Rattle.flux_values.specs.declared.answers.Mode.{Mode}
-use Rattle.flux_model.specs.declared.journals.CallMade.{CallMade}
-use Rattle.flux_model.specs.declared.journals.FlowNo.{FlowNo}
-use Rattle.flux_model.specs.declared.journals.Key.{Key}
-use Rattle.flux_model.specs.declared.journals.Entry.{Entry}
-use Rattle.flux_model.specs.declared.journals.Event.{Event}
-use Rattle.flux_model.specs.declared.journals.Event.TheVariants.{Take, Wait, Enter, Choose, Call, Exit, Drop, End}
-use Rattle.flux_model.specs.Setup.{Setup}
+use Rattle.flow_model.specs.declared.journals.CallMade.{CallMade}
+use Rattle.flux_model.specs.declared.items.FlowNo.{FlowNo}
+use Rattle.flow_model.specs.declared.journals.Key.{Key}
+use Rattle.flow_model.specs.declared.journals.Entry.{Entry}
+use Rattle.flow_model.specs.declared.journals.Event.{Event}
+use Rattle.flow_model.specs.declared.journals.Event.TheVariants.{Take, Wait, Enter, Choose, Call, Exit, Drop, End}
+use Rattle.flow_model.specs.Setup.{Setup}
 use Rattle.flux_model.specs.Modes.{conflict, at_least}
-use Rattle.flux_model.specs.CellsAfter.{cells_after}
-use Rattle.flux_model.specs.Answers.{IsNodeAnswer}
-use Rattle.flux_model.specs.Flows.{flow_events}
-use Rattle.flux_model.specs.Events.{events_by, FollowsWalk, IsNext, CallIsNext, Stands}
-use Rattle.flux_model.specs.Exclusion.{modes_held, holds_against}
-use Rattle.flux_model.specs.Waits.{StandsAt, Blocks, MayPass, MayWait, IsNoWaitLast}
-use Rattle.flux_model.specs.Legal.{IsLegal}
+use Rattle.flow_model.specs.CellsAfter.{cells_after}
+use Rattle.flow_model.specs.Answers.{IsNodeAnswer}
+use Rattle.flow_model.specs.Flows.{flow_events}
+use Rattle.flow_model.specs.Events.{events_by, FollowsWalk, IsNext, CallIsNext, Stands}
+use Rattle.flow_model.specs.Exclusion.{modes_held, holds_against}
+use Rattle.flow_model.specs.Waits.{StandsAt, Blocks, MayPass, MayWait, IsNoWaitLast}
+use Rattle.flow_model.specs.Legal.{IsLegal}
 use Rattle.flux_laws.specs.Going.{IsBlocked}
 use Rattle.flux_laws.specs.Moves.{EventIsLegal, WaitIsLegal, CallIsLegal, MovesAreLegal, NothingIsLegal}
 use Rattle.flux_laws.proofs.Members.{In, all-more}

@@ -3,17 +3,17 @@ use Rattle.std.proofs.Common.{◌≡◌, ◌≢◌, ℕ, Bool, true, false, if�
 use Rattle.std.proofs.lemmas.Bool.{cases_eq}
 use Rattle.std.proofs.lemmas.List.{append-nil}
 use Rattle.flux_values.specs.declared.answers.Mode.{Mode}
-use Rattle.flux_model.specs.declared.journals.FlowNo.{FlowNo}
-use Rattle.flux_model.specs.declared.journals.Key.{Key}
-use Rattle.flux_model.specs.declared.journals.Entry.{Entry}
-use Rattle.flux_model.specs.declared.journals.Event.{Event}
-use Rattle.flux_model.specs.declared.journals.Event.TheVariants.{Take, Wait, Enter, Choose, Call, Exit, Drop, End}
+use Rattle.flux_model.specs.declared.items.FlowNo.{FlowNo}
+use Rattle.flow_model.specs.declared.journals.Key.{Key}
+use Rattle.flow_model.specs.declared.journals.Entry.{Entry}
+use Rattle.flow_model.specs.declared.journals.Event.{Event}
+use Rattle.flow_model.specs.declared.journals.Event.TheVariants.{Take, Wait, Enter, Choose, Call, Exit, Drop, End}
 use Rattle.flux_model.specs.Modes.{conflict}
-use Rattle.flux_model.specs.Keys.{same_key}
-use Rattle.flux_model.specs.Events.{Stands}
-use Rattle.flux_model.specs.Exclusion.{without_first, held_after, modes_held, holds_against, TakesExclude}
+use Rattle.flow_model.specs.Keys.{same_key}
+use Rattle.flow_model.specs.Events.{Stands}
+use Rattle.flow_model.specs.Exclusion.{without_first, held_after, modes_held, holds_against, TakesExclude}
 use Rattle.flux_laws.proofs.Members.{In}
-use Rattle.flux_model.proofs.Keys.{key_cases}
+use Rattle.flow_model.proofs.Keys.{key_cases}
 use Rattle.flux_laws.proofs.Conflicts.{conflict-turned, none-against}
 use Rattle.flux_laws.proofs.OwnEvents.{modes_held-own, modes_held-other}
 

@@ -16,16 +16,16 @@ use Rattle.flux_model.specs.declared.programs.Class.{Class}
 use Rattle.flux_model.specs.declared.programs.ClassNo.{ClassNo}
 use Rattle.flux_model.specs.declared.programs.Hold.{Hold}
 use Rattle.flux_model.specs.declared.programs.NodeNo.{NodeNo}
-use Rattle.flux_model.specs.declared.journals.Entry.{Entry}
-use Rattle.flux_model.specs.declared.journals.Key.{Key}
-use Rattle.flux_model.specs.Setup.{Setup, item_of}
+use Rattle.flow_model.specs.declared.journals.Entry.{Entry}
+use Rattle.flow_model.specs.declared.journals.Key.{Key}
+use Rattle.flow_model.specs.Setup.{Setup, item_of}
 use Rattle.flux_model.specs.Modes.{class_cmp, AreCanonical}
 use Rattle.flux_model.specs.Locks.{declared, AreLocks}
-use Rattle.flux_model.specs.Walk.{Walked}
-use Rattle.flux_model.specs.Flows.{flow_walk, ending}
-use Rattle.flux_model.specs.Events.{events_by, own_events, own_answers, CallIsNext}
-use Rattle.flux_model.specs.Exclusion.{open_after, IsInSection}
-use Rattle.flux_model.specs.CellsAfter.{is_named, class_named, key_for}
+use Rattle.flow_model.specs.Walk.{Walked}
+use Rattle.flow_model.specs.Flows.{flow_walk, ending}
+use Rattle.flow_model.specs.Events.{events_by, own_events, own_answers, CallIsNext}
+use Rattle.flow_model.specs.Exclusion.{open_after, IsInSection}
+use Rattle.flow_model.specs.CellsAfter.{is_named, class_named, key_for}
 use Rattle.flux_laws.proofs.Members.{In, contains-from_in}
 use Rattle.flux_laws.proofs.Stacks.{Stack, begun, taken, opened, IsOpened, run, nodes_in}
 use Rattle.flux_laws.proofs.FlowRuns.{at_start, flow-run}

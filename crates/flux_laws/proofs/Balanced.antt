@@ -6,11 +6,11 @@ use Rattle.flux_model.specs.declared.programs.NodeNo.{NodeNo}
 use Rattle.flux_model.specs.declared.programs.ClassNo.{ClassNo}
 use Rattle.flux_model.specs.declared.programs.Hold.{Hold}
 use Rattle.flux_model.specs.declared.programs.Program.{Program}
-use Rattle.flux_model.specs.declared.journals.Key.{Key}
+use Rattle.flow_model.specs.declared.journals.Key.{Key}
 use Rattle.flux_model.specs.Children.{IsIn, members, handlers}
 use Rattle.flux_model.specs.Nested.{nested, for_node}
 use Rattle.flux_model.specs.Locks.{declared, AreRising, AreLocks, IsLeastClosed}
-use Rattle.flux_model.specs.Walk.{Given, Walking, lost, enclosed, body_walk, handled, walk_by}
+use Rattle.flow_model.specs.Walk.{Given, Walking, lost, enclosed, body_walk, handled, walk_by}
 use Rattle.flux_model.proofs.BelowLemmas.{below-member}
 use Rattle.flux_model.proofs.LeadingLemmas.{member_led, handler_led}
 use Rattle.flux_model.proofs.Hoisting.{least_closed}

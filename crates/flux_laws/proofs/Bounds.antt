@@ -12,16 +12,16 @@ use Rattle.flux_model.specs.declared.programs.Case.{Case}
 use Rattle.flux_model.specs.declared.programs.HandleArm.{HandleArm}
 use Rattle.flux_model.specs.declared.programs.Body.{Body}
 use Rattle.flux_model.specs.declared.programs.Body.TheVariants.{Concrete, Abstract}
-use Rattle.flux_model.specs.declared.journals.Key.{Key}
-use Rattle.flux_model.specs.declared.journals.Event.TheVariants as events
-use Rattle.flux_model.specs.declared.journals.Outcome.{Outcome}
-use Rattle.flux_model.specs.declared.journals.Outcome.TheVariants.{Good, Over, Bad}
+use Rattle.flow_model.specs.declared.journals.Key.{Key}
+use Rattle.flow_model.specs.declared.journals.Event.TheVariants as events
+use Rattle.flow_model.specs.declared.journals.Outcome.{Outcome}
+use Rattle.flow_model.specs.declared.journals.Outcome.TheVariants.{Good, Over, Bad}
 use Rattle.flux_model.specs.Children.{IsIn}
 use Rattle.flux_model.specs.Leading.{members_of, handlers_of}
 use Rattle.flux_model.specs.Nested.{nested, for_node}
-use Rattle.flux_model.specs.Matching.{first_case, handler_for}
+use Rattle.flow_model.specs.Matching.{first_case, handler_for}
 use Rattle.flux_model.specs.Sizes.{sizes_of, size_by}
-use Rattle.flux_model.specs.Walk.{Given, Ended, Stop, finished, before_call, nowhere, Walked, Walking, lost, following, then, while_good, go_on, members_walk, case_walk, body_walk, leaving, enclosed, over, handler_walk, handled, walk_by}
+use Rattle.flow_model.specs.Walk.{Given, Ended, Stop, finished, before_call, nowhere, Walked, Walking, lost, following, then, while_good, go_on, members_walk, case_walk, body_walk, leaving, enclosed, over, handler_walk, handled, walk_by}
 use Rattle.flux_laws.proofs.Choices.{IsHandlerOf, handler-chosen}
 
 -- how many events a walk has

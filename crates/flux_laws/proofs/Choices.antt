@@ -7,7 +7,7 @@ use Rattle.flux_model.specs.declared.programs.Case.{Case}
 use Rattle.flux_model.specs.declared.programs.HandleArm.{HandleArm}
 use Rattle.flux_model.specs.Children.{IsIn}
 use Rattle.flux_model.specs.Leading.{handlers_of}
-use Rattle.flux_model.specs.Matching.{first_case, handler_for, names_code, has_no_codes}
+use Rattle.flow_model.specs.Matching.{first_case, handler_for, names_code, has_no_codes}
 use Rattle.flux_model.proofs.NodeLists.{in_front, in_behind}
 
 -- the members of a chosen case are among those of all cases

@@ -3,18 +3,18 @@ use Rattle.std.proofs.Common.{◌≡◌, ◌≢◌, ◌<◌, ◌≤◌, ◌⊎�
 use Rattle.std.proofs.lemmas.Bool.{cases_eq, cases_lt}
 use Rattle.std.proofs.lemmas.List.{append_cancel_left}
 use Rattle.flux_values.specs.declared.answers.Mode.{Mode}
-use Rattle.flux_model.specs.declared.journals.Entry.{Entry}
-use Rattle.flux_model.specs.declared.journals.Event.{Event}
-use Rattle.flux_model.specs.declared.journals.Event.TheVariants.{Take, Wait, Enter, Choose, Call, Exit, Drop, End}
-use Rattle.flux_model.specs.declared.journals.Key.{Key}
-use Rattle.flux_model.specs.declared.journals.Outcome.{Outcome}
-use Rattle.flux_model.specs.Setup.{Setup}
+use Rattle.flow_model.specs.declared.journals.Entry.{Entry}
+use Rattle.flow_model.specs.declared.journals.Event.{Event}
+use Rattle.flow_model.specs.declared.journals.Event.TheVariants.{Take, Wait, Enter, Choose, Call, Exit, Drop, End}
+use Rattle.flow_model.specs.declared.journals.Key.{Key}
+use Rattle.flow_model.specs.declared.journals.Outcome.{Outcome}
+use Rattle.flow_model.specs.Setup.{Setup}
 use Rattle.flux_model.specs.Modes.{conflict}
-use Rattle.flux_model.specs.Events.{events_by, own_events, own_answers, IsNext, IsLive}
-use Rattle.flux_model.specs.Flows.{flow_events}
-use Rattle.flux_model.specs.Exclusion.{modes_held, holds_against}
-use Rattle.flux_model.specs.Waits.{StandsAt, StandsBefore, Blocks}
-use Rattle.flux_model.specs.Legal.{IsLegal}
+use Rattle.flow_model.specs.Events.{events_by, own_events, own_answers, IsNext, IsLive}
+use Rattle.flow_model.specs.Flows.{flow_events}
+use Rattle.flow_model.specs.Exclusion.{modes_held, holds_against}
+use Rattle.flow_model.specs.Waits.{StandsAt, StandsBefore, Blocks}
+use Rattle.flow_model.specs.Legal.{IsLegal}
 use Rattle.flux_laws.specs.Going.{IsBlocked, CanGoOn, IsLowest, SomeFlowCanGoOn}
 use Rattle.flux_laws.proofs.Members.{In, in-from_contains, contains-from_in}
 use Rattle.flux_laws.proofs.Standing.{next-unique}

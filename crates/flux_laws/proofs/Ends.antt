@@ -5,19 +5,19 @@ use Rattle.std.proofs.lemmas.List.{append-nil}
 use Rattle.flux_values.specs.declared.answers.Answer.{Answer}
 use Rattle.flux_model.specs.declared.programs.ClassNo.{ClassNo}
 use Rattle.flux_model.specs.declared.programs.Hold.{Hold}
-use Rattle.flux_model.specs.declared.journals.Key.{Key}
+use Rattle.flow_model.specs.declared.journals.Key.{Key}
 use Rattle.flux_model.specs.Locks.{declared}
-use Rattle.flux_model.specs.declared.journals.Entry.{Entry}
-use Rattle.flux_model.specs.declared.journals.Event.{Event}
-use Rattle.flux_model.specs.declared.journals.Event.TheVariants.{Take, Wait, Enter, Choose, Call, Exit, Drop, End}
-use Rattle.flux_model.specs.declared.journals.Outcome.{Outcome}
-use Rattle.flux_model.specs.Setup.{Setup}
+use Rattle.flow_model.specs.declared.journals.Entry.{Entry}
+use Rattle.flow_model.specs.declared.journals.Event.{Event}
+use Rattle.flow_model.specs.declared.journals.Event.TheVariants.{Take, Wait, Enter, Choose, Call, Exit, Drop, End}
+use Rattle.flow_model.specs.declared.journals.Outcome.{Outcome}
+use Rattle.flow_model.specs.Setup.{Setup}
 use Rattle.flux_model.specs.Numbered.{IsNumbered}
 use Rattle.flux_model.specs.Ordering.{HasCycle}
-use Rattle.flux_model.specs.Walk.{Ended, Stop, finished, before_call, nowhere, Walked}
-use Rattle.flux_model.specs.Flows.{given_for, flow_walk, ending, flow_events, HasEnded}
-use Rattle.flux_model.specs.Events.{events_by, own_events, own_answers, FollowsWalk, IsLive, IsWholePath}
-use Rattle.flux_model.specs.Legal.{IsLegal}
+use Rattle.flow_model.specs.Walk.{Ended, Stop, finished, before_call, nowhere, Walked}
+use Rattle.flow_model.specs.Flows.{given_for, flow_walk, ending, flow_events, HasEnded}
+use Rattle.flow_model.specs.Events.{events_by, own_events, own_answers, FollowsWalk, IsLive, IsWholePath}
+use Rattle.flow_model.specs.Legal.{IsLegal}
 use Rattle.flux_laws.specs.Going.{HasNext, HaveSources, LiveFlowsHaveNext, NoneLiveIsWhole}
 use Rattle.flux_laws.proofs.Members.{In, in-right, in-from_contains, contains-from_in, all-get, get-within}
 use Rattle.flux_laws.proofs.Stacks.{Runs, run, runs-rest}

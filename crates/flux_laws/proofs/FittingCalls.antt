@@ -17,23 +17,23 @@ use Rattle.flux_model.specs.declared.programs.NodeNo.{NodeNo}
 use Rattle.flux_model.specs.declared.programs.Body.{Body}
 use Rattle.flux_model.specs.declared.programs.Body.TheVariants.{Concrete, Abstract}
 use Rattle.flux_model.specs.declared.programs.SourceLine.{SourceLine}
-use Rattle.flux_model.specs.declared.journals.CallMade.{CallMade}
-use Rattle.flux_model.specs.declared.journals.Entry.{Entry}
-use Rattle.flux_model.specs.declared.journals.Event.TheVariants.{Call}
-use Rattle.flux_model.specs.declared.journals.Item.{Item}
-use Rattle.flux_model.specs.Setup.{Setup, item_of}
+use Rattle.flow_model.specs.declared.journals.CallMade.{CallMade}
+use Rattle.flow_model.specs.declared.journals.Entry.{Entry}
+use Rattle.flow_model.specs.declared.journals.Event.TheVariants.{Call}
+use Rattle.flux_model.specs.declared.items.Item.{Item}
+use Rattle.flow_model.specs.Setup.{Setup, item_of}
 use Rattle.flux_model.specs.Kinds.{NodeKinds, Fits as KindsFit}
 use Rattle.flux_model.specs.Children.{IsIn}
 use Rattle.flux_model.specs.Leading.{leads_to}
 use Rattle.flux_model.specs.Items.{AreValues, IsItemOf, IsItemFor}
 use Rattle.flux_model.specs.Soundness.{IsLike, IsBodyLike, IsPlainBody, IsPlain, IsSound}
-use Rattle.flux_model.specs.Keys.{Cells}
+use Rattle.flow_model.specs.Keys.{Cells}
 use Rattle.flux_model.specs.Nested.{nested, for_node}
-use Rattle.flux_model.specs.Walk.{Given, before_call, Walked, lost, walk_by}
-use Rattle.flux_model.specs.Flows.{given_for, target_walk, item_walk, flow_walk, ending}
-use Rattle.flux_model.specs.CellsAfter.{cells_after}
-use Rattle.flux_model.specs.Answers.{cells_for, IsBodyAnswer, IsNodeAnswer, AreAnswersRight}
-use Rattle.flux_model.specs.Events.{events_by, own_events, own_answers, CallIsNext}
+use Rattle.flow_model.specs.Walk.{Given, before_call, Walked, lost, walk_by}
+use Rattle.flow_model.specs.Flows.{given_for, target_walk, item_walk, flow_walk, ending}
+use Rattle.flow_model.specs.CellsAfter.{cells_after}
+use Rattle.flow_model.specs.Answers.{cells_for, IsBodyAnswer, IsNodeAnswer, AreAnswersRight}
+use Rattle.flow_model.specs.Events.{events_by, own_events, own_answers, CallIsNext}
 use Rattle.flux_laws.specs.Calls.{FitsFound, FitsBody, FitsNode, NextCallsFit}
 use Rattle.flux_laws.proofs.Members.{In, in-left, all-get}
 use Rattle.flux_laws.proofs.OwnEvents.{in-from_own, stands-in}

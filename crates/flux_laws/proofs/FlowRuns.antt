@@ -5,14 +5,14 @@ use Rattle.flux_values.specs.declared.answers.Answer.{Answer}
 use Rattle.flux_model.specs.declared.programs.Class.{Class}
 use Rattle.flux_model.specs.declared.programs.ClassNo.{ClassNo}
 use Rattle.flux_model.specs.declared.programs.SourceLine.{SourceLine}
-use Rattle.flux_model.specs.declared.journals.Key.{Key}
-use Rattle.flux_model.specs.declared.journals.Item.{Item}
-use Rattle.flux_model.specs.Setup.{Setup, item_of}
-use Rattle.flux_model.specs.Keys.{class_key, flow_key, session_number}
+use Rattle.flow_model.specs.declared.journals.Key.{Key}
+use Rattle.flux_model.specs.declared.items.Item.{Item}
+use Rattle.flow_model.specs.Setup.{Setup, item_of}
+use Rattle.flow_model.specs.Keys.{class_key, flow_key, session_number}
 use Rattle.flux_model.specs.Locks.{declared, AreLocks}
-use Rattle.flux_model.specs.CellsAfter.{key_on, key_for}
-use Rattle.flux_model.specs.Walk.{Stop, finished, before_call, nowhere, Walked, lost}
-use Rattle.flux_model.specs.Flows.{given_for, target_walk, item_walk, flow_walk, ending, with_end}
+use Rattle.flow_model.specs.CellsAfter.{key_on, key_for}
+use Rattle.flow_model.specs.Walk.{Stop, finished, before_call, nowhere, Walked, lost}
+use Rattle.flow_model.specs.Flows.{given_for, target_walk, item_walk, flow_walk, ending, with_end}
 use Rattle.flux_laws.proofs.Stacks.{Stack, begun, run, Runs, runs-append}
 use Rattle.flux_laws.proofs.Readiness.{ready-begun}
 use Rattle.flux_laws.proofs.Walking.{IsFine, Leaves}

@@ -5,14 +5,14 @@ use Rattle.std.proofs.lemmas.Grind.{flat_map-append}
 use Rattle.flux_values.specs.declared.values.Value.{Value}
 use Rattle.flux_values.specs.declared.answers.Answer.{Answer}
 use Rattle.flux_model.specs.declared.programs.NodeNo.{NodeNo}
-use Rattle.flux_model.specs.declared.journals.CallMade.{CallMade}
-use Rattle.flux_model.specs.declared.journals.Entry.{Entry}
-use Rattle.flux_model.specs.declared.journals.Event.{Event}
-use Rattle.flux_model.specs.declared.journals.Event.TheVariants.{Call}
-use Rattle.flux_model.specs.Setup.{Setup}
-use Rattle.flux_model.specs.Walk.{Stop, finished, before_call, nowhere, Walked}
-use Rattle.flux_model.specs.Flows.{flow_walk, ending, with_end, flow_events}
-use Rattle.flux_model.specs.Events.{answer_in, events_by, own_events, own_answers, FollowsWalk}
+use Rattle.flow_model.specs.declared.journals.CallMade.{CallMade}
+use Rattle.flow_model.specs.declared.journals.Entry.{Entry}
+use Rattle.flow_model.specs.declared.journals.Event.{Event}
+use Rattle.flow_model.specs.declared.journals.Event.TheVariants.{Call}
+use Rattle.flow_model.specs.Setup.{Setup}
+use Rattle.flow_model.specs.Walk.{Stop, finished, before_call, nowhere, Walked}
+use Rattle.flow_model.specs.Flows.{flow_walk, ending, with_end, flow_events}
+use Rattle.flow_model.specs.Events.{answer_in, events_by, own_events, own_answers, FollowsWalk}
 use Rattle.flux_laws.specs.Moves.{FrontsAreLegal}
 use Rattle.flux_laws.proofs.Members.{all-front, IsBehind, IsFurther, fronts}
 use Rattle.flux_laws.proofs.OwnEvents.{own_events-append, own_answers-append}

@@ -4,18 +4,18 @@ use Rattle.std.specs.List.{slice_get, flat_map, list_any, AllByRecursion}
 use Rattle.std.proofs.lemmas.List.{length-append}
 use Rattle.flux_values.specs.declared.answers.Mode.{Mode}
 use Rattle.flux_model.specs.declared.programs.SourceLine.{SourceLine}
-use Rattle.flux_model.specs.declared.journals.Key.{Key}
-use Rattle.flux_model.specs.declared.journals.Entry.{Entry}
-use Rattle.flux_model.specs.declared.journals.Event.{Event}
-use Rattle.flux_model.specs.declared.journals.Event.TheVariants.{Take, Wait, Enter, Choose, Call, Exit, Drop, End}
-use Rattle.flux_model.specs.declared.journals.Item.{Item}
-use Rattle.flux_model.specs.declared.journals.Outcome.{Outcome}
-use Rattle.flux_model.specs.Setup.{Setup, item_of}
+use Rattle.flow_model.specs.declared.journals.Key.{Key}
+use Rattle.flow_model.specs.declared.journals.Entry.{Entry}
+use Rattle.flow_model.specs.declared.journals.Event.{Event}
+use Rattle.flow_model.specs.declared.journals.Event.TheVariants.{Take, Wait, Enter, Choose, Call, Exit, Drop, End}
+use Rattle.flux_model.specs.declared.items.Item.{Item}
+use Rattle.flow_model.specs.declared.journals.Outcome.{Outcome}
+use Rattle.flow_model.specs.Setup.{Setup, item_of}
 use Rattle.flux_model.specs.Locks.{declared}
-use Rattle.flux_model.specs.Walk.{Stop, finished, before_call, nowhere, Walked}
-use Rattle.flux_model.specs.Flows.{given_for, target_walk, item_walk, ending, with_end}
-use Rattle.flux_model.specs.Events.{unless_wait, events_by, own_events, own_answers, FollowsWalk}
-use Rattle.flux_model.specs.Legal.{IsLegal}
+use Rattle.flow_model.specs.Walk.{Stop, finished, before_call, nowhere, Walked}
+use Rattle.flow_model.specs.Flows.{given_for, target_walk, item_walk, ending, with_end}
+use Rattle.flow_model.specs.Events.{unless_wait, events_by, own_events, own_answers, FollowsWalk}
+use Rattle.flow_model.specs.Legal.{IsLegal}
 use Rattle.flux_laws.specs.Growth.{line_size, item_size, flow_size, is_end, has_ended, room_of, IsNoWait, NodesAreBounded, WalksAreBounded, OwnEventsAreBounded, GrowthIsBounded}
 use Rattle.flux_laws.proofs.FlowSums.{sum-le, count-by, count-all}
 use Rattle.flux_laws.proofs.Members.{all-behind, In}

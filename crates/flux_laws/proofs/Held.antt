@@ -1,10 +1,10 @@
 -- Between a stack and the modes in which it holds a key.
 use Rattle.std.proofs.Common.{◌≡◌, Bool, true, false, ◌⊎◌, inl, inr, List, [], ◌∷◌, if◌then◌else◌, ap, ◌∙◌}
 use Rattle.flux_values.specs.declared.answers.Mode.{Mode}
-use Rattle.flux_model.specs.declared.journals.Key.{Key}
-use Rattle.flux_model.specs.Keys.{same_key}
+use Rattle.flow_model.specs.declared.journals.Key.{Key}
+use Rattle.flow_model.specs.Keys.{same_key}
 use Rattle.flux_laws.proofs.Members.{In}
-use Rattle.flux_model.proofs.Keys.{same_key_itself, key_cases}
+use Rattle.flow_model.proofs.Keys.{same_key_itself, key_cases}
 use Rattle.flux_laws.proofs.Stacks.{Stack, begun, taken, opened, modes_in}
 
 keep : (b : Bool) (own mode : Mode) (modes : List Mode) → In own modes → In own (if b then mode ∷ modes else modes)

@@ -5,19 +5,19 @@ use Rattle.flux_values.specs.declared.values.Value.{Value}
 use Rattle.flux_values.specs.declared.answers.Answer.{Answer}
 use Rattle.flux_values.specs.declared.answers.Mode.{Mode}
 use Rattle.flux_model.specs.declared.programs.NodeNo.{NodeNo}
-use Rattle.flux_model.specs.declared.journals.CallMade.{CallMade}
-use Rattle.flux_model.specs.declared.journals.FlowNo.{FlowNo}
-use Rattle.flux_model.specs.declared.journals.Key.{Key}
-use Rattle.flux_model.specs.declared.journals.Entry.{Entry}
-use Rattle.flux_model.specs.declared.journals.Event.{Event}
-use Rattle.flux_model.specs.declared.journals.Event.TheVariants.{Take, Wait, Enter, Choose, Call, Exit, Drop, End}
-use Rattle.flux_model.specs.Setup.{Setup}
-use Rattle.flux_model.specs.Walk.{Stop, finished, before_call, nowhere, Walked}
-use Rattle.flux_model.specs.Flows.{flow_walk, ending, with_end, flow_events}
-use Rattle.flux_model.specs.Events.{events_by, own_events, own_answers, FollowsWalk, IsNext, CallIsNext}
-use Rattle.flux_model.specs.Exclusion.{holds_against}
-use Rattle.flux_model.specs.Waits.{StandsAt, StandsBefore, Blocks, MayPass}
-use Rattle.flux_model.specs.Legal.{IsLegal}
+use Rattle.flow_model.specs.declared.journals.CallMade.{CallMade}
+use Rattle.flux_model.specs.declared.items.FlowNo.{FlowNo}
+use Rattle.flow_model.specs.declared.journals.Key.{Key}
+use Rattle.flow_model.specs.declared.journals.Entry.{Entry}
+use Rattle.flow_model.specs.declared.journals.Event.{Event}
+use Rattle.flow_model.specs.declared.journals.Event.TheVariants.{Take, Wait, Enter, Choose, Call, Exit, Drop, End}
+use Rattle.flow_model.specs.Setup.{Setup}
+use Rattle.flow_model.specs.Walk.{Stop, finished, before_call, nowhere, Walked}
+use Rattle.flow_model.specs.Flows.{flow_walk, ending, with_end, flow_events}
+use Rattle.flow_model.specs.Events.{events_by, own_events, own_answers, FollowsWalk, IsNext, CallIsNext}
+use Rattle.flow_model.specs.Exclusion.{holds_against}
+use Rattle.flow_model.specs.Waits.{StandsAt, StandsBefore, Blocks, MayPass}
+use Rattle.flow_model.specs.Legal.{IsLegal}
 use Rattle.flux_laws.specs.Going.{IsBlocked}
 use Rattle.flux_laws.specs.Moves.{MayStep, EntriesAreMoves}
 use Rattle.flux_laws.proofs.Members.{all-behind, IsBehind, IsFurther, fronts}

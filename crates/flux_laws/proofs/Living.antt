@@ -6,18 +6,18 @@ use Rattle.std.proofs.lemmas.Bool.{cases_eq, ne_eqb}
 use Rattle.flux_values.specs.declared.answers.Mode.{Mode}
 use Rattle.flux_model.specs.declared.programs.ClassNo.{ClassNo}
 use Rattle.flux_model.specs.declared.programs.Hold.{Hold}
-use Rattle.flux_model.specs.declared.journals.Key.{Key}
-use Rattle.flux_model.specs.declared.journals.Entry.{Entry}
-use Rattle.flux_model.specs.declared.journals.Event.{Event}
-use Rattle.flux_model.specs.declared.journals.Event.TheVariants.{Take, Wait, Enter, Choose, Call, Exit, Drop, End}
-use Rattle.flux_model.specs.declared.journals.Outcome.{Outcome}
-use Rattle.flux_model.specs.Setup.{Setup}
+use Rattle.flow_model.specs.declared.journals.Key.{Key}
+use Rattle.flow_model.specs.declared.journals.Entry.{Entry}
+use Rattle.flow_model.specs.declared.journals.Event.{Event}
+use Rattle.flow_model.specs.declared.journals.Event.TheVariants.{Take, Wait, Enter, Choose, Call, Exit, Drop, End}
+use Rattle.flow_model.specs.declared.journals.Outcome.{Outcome}
+use Rattle.flow_model.specs.Setup.{Setup}
 use Rattle.flux_model.specs.Modes.{conflict}
 use Rattle.flux_model.specs.Locks.{declared}
-use Rattle.flux_model.specs.Events.{unless_wait, events_by, own_events, IsNext, IsLive}
-use Rattle.flux_model.specs.Exclusion.{without_first, held_after, modes_held, holds_against}
-use Rattle.flux_model.specs.Waits.{StandsAt, StandsBefore, WaitsFor, Chain}
-use Rattle.flux_model.specs.Legal.{IsLegal}
+use Rattle.flow_model.specs.Events.{unless_wait, events_by, own_events, IsNext, IsLive}
+use Rattle.flow_model.specs.Exclusion.{without_first, held_after, modes_held, holds_against}
+use Rattle.flow_model.specs.Waits.{StandsAt, StandsBefore, WaitsFor, Chain}
+use Rattle.flow_model.specs.Legal.{IsLegal}
 use Rattle.flux_laws.specs.Going.{IsBlocked, BlockersAreLive, NotAllBlocked}
 use Rattle.flux_laws.proofs.Members.{In, in-from_contains}
 use Rattle.flux_laws.proofs.Stacks.{Stack, modes_in, begun, taken, opened, IsBegun, Runs, run, step, runs-rest}

@@ -10,18 +10,18 @@ use Rattle.flux_values.specs.declared.answers.Answer.{Answer}
 use Rattle.flux_values.specs.declared.answers.Mode.{Mode}
 use Rattle.flux_model.specs.declared.programs.NodeNo.{NodeNo}
 use Rattle.flux_model.specs.declared.programs.SourceLine.{SourceLine}
-use Rattle.flux_model.specs.declared.journals.CallMade.{CallMade}
-use Rattle.flux_model.specs.declared.journals.FlowNo.{FlowNo}
-use Rattle.flux_model.specs.declared.journals.Item.{Item}
-use Rattle.flux_model.specs.declared.journals.Key.{Key}
-use Rattle.flux_model.specs.declared.journals.Entry.{Entry}
-use Rattle.flux_model.specs.declared.journals.Event.{Event}
-use Rattle.flux_model.specs.declared.journals.Event.TheVariants.{Take, Wait, Enter, Choose, Call, Exit, Drop, End}
-use Rattle.flux_model.specs.Setup.{Setup, item_of}
+use Rattle.flow_model.specs.declared.journals.CallMade.{CallMade}
+use Rattle.flux_model.specs.declared.items.FlowNo.{FlowNo}
+use Rattle.flux_model.specs.declared.items.Item.{Item}
+use Rattle.flow_model.specs.declared.journals.Key.{Key}
+use Rattle.flow_model.specs.declared.journals.Entry.{Entry}
+use Rattle.flow_model.specs.declared.journals.Event.{Event}
+use Rattle.flow_model.specs.declared.journals.Event.TheVariants.{Take, Wait, Enter, Choose, Call, Exit, Drop, End}
+use Rattle.flow_model.specs.Setup.{Setup, item_of}
 use Rattle.flux_model.specs.Locks.{declared, AreLocks}
-use Rattle.flux_model.specs.Walk.{Stop, finished, before_call, nowhere, Walked, lost}
-use Rattle.flux_model.specs.Flows.{given_for, target_walk, item_walk, flow_walk, ending, with_end}
-use Rattle.flux_model.specs.Events.{unless_wait, answer_in, events_by, own_events, own_answers, FollowsWalk, IsNext, CallIsNext}
+use Rattle.flow_model.specs.Walk.{Stop, finished, before_call, nowhere, Walked, lost}
+use Rattle.flow_model.specs.Flows.{given_for, target_walk, item_walk, flow_walk, ending, with_end}
+use Rattle.flow_model.specs.Events.{unless_wait, answer_in, events_by, own_events, own_answers, FollowsWalk, IsNext, CallIsNext}
 use Rattle.flux_laws.proofs.Stacks.{runs-rest}
 use Rattle.flux_laws.proofs.FlowRuns.{keys_of, at_start}
 use Rattle.flux_laws.proofs.OwnEvents.{own_events-append, own_answers-append, by_itself}

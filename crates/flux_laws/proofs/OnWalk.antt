@@ -2,15 +2,15 @@
 use Rattle.std.proofs.Common.{◌≡◌, ℕ, true, List, [], ◌∷◌, ◌++◌, sym, subst, ◌∙◌, append_assoc}
 use Rattle.flux_values.specs.declared.answers.Mode.{Mode}
 use Rattle.flux_values.specs.declared.answers.Answer.{Answer}
-use Rattle.flux_model.specs.declared.journals.Key.{Key}
-use Rattle.flux_model.specs.declared.journals.Entry.{Entry}
-use Rattle.flux_model.specs.declared.journals.Event.{Event}
-use Rattle.flux_model.specs.Setup.{Setup}
+use Rattle.flow_model.specs.declared.journals.Key.{Key}
+use Rattle.flow_model.specs.declared.journals.Entry.{Entry}
+use Rattle.flow_model.specs.declared.journals.Event.{Event}
+use Rattle.flow_model.specs.Setup.{Setup}
 use Rattle.flux_model.specs.Modes.{at_least}
 use Rattle.flux_model.specs.Locks.{declared, AreLocks}
-use Rattle.flux_model.specs.Flows.{flow_events}
-use Rattle.flux_model.specs.Events.{events_by, own_events, own_answers, FollowsWalk, IsNext}
-use Rattle.flux_model.specs.Exclusion.{modes_held, open_after, IsInSection}
+use Rattle.flow_model.specs.Flows.{flow_events}
+use Rattle.flow_model.specs.Events.{events_by, own_events, own_answers, FollowsWalk, IsNext}
+use Rattle.flow_model.specs.Exclusion.{modes_held, open_after, IsInSection}
 use Rattle.flux_laws.proofs.Members.{In, in-from_contains}
 use Rattle.flux_laws.proofs.Stacks.{Stack, run, Runs, Covers, modes_in, nodes_in, runs-front, held-run, open-run, good-run, good-open}
 use Rattle.flux_laws.proofs.Held.{held-from_stack}

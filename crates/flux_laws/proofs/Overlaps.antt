@@ -2,14 +2,14 @@
 use Rattle.std.proofs.Common.{◌≡◌, ◌<◌, ℕ, false, List, length, Option, Some, None, refl, ◌∙◌}
 use Rattle.std.proofs.lemmas.Option.{slice_get_within}
 use Rattle.flux_values.specs.declared.answers.Mode.{Mode}
-use Rattle.flux_model.specs.declared.journals.Item.{Item}
-use Rattle.flux_model.specs.declared.journals.Key.{Key}
-use Rattle.flux_model.specs.declared.journals.Entry.{Entry}
-use Rattle.flux_model.specs.Setup.{Setup, item_of}
+use Rattle.flux_model.specs.declared.items.Item.{Item}
+use Rattle.flow_model.specs.declared.journals.Key.{Key}
+use Rattle.flow_model.specs.declared.journals.Entry.{Entry}
+use Rattle.flow_model.specs.Setup.{Setup, item_of}
 use Rattle.flux_model.specs.Modes.{conflict}
-use Rattle.flux_model.specs.CellsAfter.{key_for}
-use Rattle.flux_model.specs.Events.{own_events}
-use Rattle.flux_model.specs.Exclusion.{IsInSection}
+use Rattle.flow_model.specs.CellsAfter.{key_for}
+use Rattle.flow_model.specs.Events.{own_events}
+use Rattle.flow_model.specs.Exclusion.{IsInSection}
 use Rattle.flux_laws.specs.Sections.{SectionsNeverConflict}
 use Rattle.flux_laws.proofs.Conflicts.{conflict-turned, conflict-less}
 use Rattle.flux_laws.proofs.Apart.{are_apart, takes_exclude-front}

@@ -3,19 +3,19 @@ use Rattle.std.proofs.Common.{◌≡◌, ◌≢◌, ◌⊎◌, inl, inr, ℕ, tr
 use Rattle.std.specs.List.{slice_get, flat_map}
 use Rattle.std.proofs.lemmas.List.{append-nil}
 use Rattle.flux_values.specs.declared.answers.Mode.{Mode}
-use Rattle.flux_model.specs.declared.journals.CallMade.{CallMade}
-use Rattle.flux_model.specs.declared.journals.FlowNo.{FlowNo}
-use Rattle.flux_model.specs.declared.journals.Key.{Key}
-use Rattle.flux_model.specs.declared.journals.Entry.{Entry}
-use Rattle.flux_model.specs.declared.journals.Event.{Event}
-use Rattle.flux_model.specs.declared.journals.Event.TheVariants.{Take, Wait, Call}
-use Rattle.flux_model.specs.Setup.{Setup}
+use Rattle.flow_model.specs.declared.journals.CallMade.{CallMade}
+use Rattle.flux_model.specs.declared.items.FlowNo.{FlowNo}
+use Rattle.flow_model.specs.declared.journals.Key.{Key}
+use Rattle.flow_model.specs.declared.journals.Entry.{Entry}
+use Rattle.flow_model.specs.declared.journals.Event.{Event}
+use Rattle.flow_model.specs.declared.journals.Event.TheVariants.{Take, Wait, Call}
+use Rattle.flow_model.specs.Setup.{Setup}
 use Rattle.flux_model.specs.Modes.{conflict}
-use Rattle.flux_model.specs.CellsAfter.{cells_after}
-use Rattle.flux_model.specs.Answers.{AreAnswersRight, IsNodeAnswer}
-use Rattle.flux_model.specs.Events.{unless_wait, answer_in, events_by, own_events, own_answers, FollowsWalk, Stands}
-use Rattle.flux_model.specs.Exclusion.{holds_against, TakesExclude}
-use Rattle.flux_model.specs.Waits.{MayPass, IsNotOvertaken, MayWait, WaitsAreRight}
+use Rattle.flow_model.specs.CellsAfter.{cells_after}
+use Rattle.flow_model.specs.Answers.{AreAnswersRight, IsNodeAnswer}
+use Rattle.flow_model.specs.Events.{unless_wait, answer_in, events_by, own_events, own_answers, FollowsWalk, Stands}
+use Rattle.flow_model.specs.Exclusion.{holds_against, TakesExclude}
+use Rattle.flow_model.specs.Waits.{MayPass, IsNotOvertaken, MayWait, WaitsAreRight}
 use Rattle.flux_laws.specs.Parts.{PartsMakeLegal}
 use Rattle.flux_laws.proofs.Members.{IsEnd, InFront, end_or_front}
 use Rattle.flux_laws.proofs.Apart.{TakeExcludes}

@@ -5,7 +5,7 @@ use Rattle.flux_values.specs.declared.answers.Mode.{Mode}
 use Rattle.flux_model.specs.declared.programs.Hold.{Hold}
 use Rattle.flux_model.specs.declared.programs.ClassNo.{ClassNo}
 use Rattle.flux_model.specs.declared.programs.Program.{Program}
-use Rattle.flux_model.specs.declared.journals.Key.{Key}
+use Rattle.flow_model.specs.declared.journals.Key.{Key}
 use Rattle.flux_model.specs.Leading.{leads_in}
 use Rattle.flux_model.specs.Children.{IsIn, IsBelow}
 use Rattle.flux_model.specs.Modes.{at_least}

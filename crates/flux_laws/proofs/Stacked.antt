@@ -3,17 +3,17 @@ use Rattle.std.proofs.Common.{◌≡◌, ◌⊎◌, inl, inr, ℕ, true, List, [
 use Rattle.flux_values.specs.declared.answers.Mode.{Mode}
 use Rattle.flux_model.specs.declared.programs.ClassNo.{ClassNo}
 use Rattle.flux_model.specs.declared.programs.Hold.{Hold}
-use Rattle.flux_model.specs.declared.journals.Event.{Event}
-use Rattle.flux_model.specs.declared.journals.Event.TheVariants.{Take, Wait, Enter, Choose, Call, Exit, Drop, End}
-use Rattle.flux_model.specs.declared.journals.Key.{Key}
+use Rattle.flow_model.specs.declared.journals.Event.{Event}
+use Rattle.flow_model.specs.declared.journals.Event.TheVariants.{Take, Wait, Enter, Choose, Call, Exit, Drop, End}
+use Rattle.flow_model.specs.declared.journals.Key.{Key}
 use Rattle.flux_model.specs.Modes.{at_least}
 use Rattle.flux_model.specs.Locks.{declared}
-use Rattle.flux_model.specs.Events.{own_events}
-use Rattle.flux_model.specs.Exclusion.{without_first, modes_held}
+use Rattle.flow_model.specs.Events.{own_events}
+use Rattle.flow_model.specs.Exclusion.{without_first, modes_held}
 use Rattle.flux_model.proofs.Hoisting.{at_least_on}
 use Rattle.flux_laws.specs.Takes.{HoldsEnough, HoldsBelow, TakesGoUp, DropsAreHeld, FirstTakesAreGreatest, StandersTakeNext}
 use Rattle.flux_laws.proofs.Members.{In, in-from_contains, contains-from_in, in-either, in-right}
-use Rattle.flux_model.proofs.Keys.{key_cases}
+use Rattle.flow_model.proofs.Keys.{key_cases}
 use Rattle.flux_laws.proofs.Stacks.{Stack, begun, taken, opened, step, run, MayTake, IsTaken, Allowed, Runs, runs-rest, modes_in}
 use Rattle.flux_laws.proofs.Held.{held-from_stack, stack-from_held}
 use Rattle.flux_laws.proofs.FlowRuns.{keys_of, at_start}

@@ -5,12 +5,12 @@ use Rattle.flux_values.specs.declared.answers.Mode.{Mode}
 use Rattle.flux_model.specs.declared.programs.Hold.{Hold}
 use Rattle.flux_model.specs.declared.programs.ClassNo.{ClassNo}
 use Rattle.flux_model.specs.declared.programs.NodeNo.{NodeNo}
-use Rattle.flux_model.specs.declared.journals.Key.{Key}
-use Rattle.flux_model.specs.declared.journals.Event.{Event}
-use Rattle.flux_model.specs.declared.journals.Event.TheVariants.{Take, Wait, Enter, Choose, Call, Exit, Drop, End}
+use Rattle.flow_model.specs.declared.journals.Key.{Key}
+use Rattle.flow_model.specs.declared.journals.Event.{Event}
+use Rattle.flow_model.specs.declared.journals.Event.TheVariants.{Take, Wait, Enter, Choose, Call, Exit, Drop, End}
 use Rattle.flux_model.specs.Modes.{at_least}
-use Rattle.flux_model.specs.Keys.{same_key}
-use Rattle.flux_model.specs.Exclusion.{without_first, held_after, open_after}
+use Rattle.flow_model.specs.Keys.{same_key}
+use Rattle.flow_model.specs.Exclusion.{without_first, held_after, open_after}
 use Rattle.flux_laws.proofs.Members.{In}
 
 -- a flow that has begun; a key taken; a node entered

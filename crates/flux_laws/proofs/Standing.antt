@@ -3,13 +3,13 @@ use Rattle.std.proofs.Common.{◌≡◌, ℕ, List, [], ◌∷◌, ◌++◌, sym
 use Rattle.std.specs.List.{flat_map}
 use Rattle.std.proofs.lemmas.List.{append_cancel_left, append-nil}
 use Rattle.flux_values.specs.declared.answers.Mode.{Mode}
-use Rattle.flux_model.specs.declared.journals.Key.{Key}
-use Rattle.flux_model.specs.declared.journals.Entry.{Entry}
-use Rattle.flux_model.specs.declared.journals.Event.{Event}
-use Rattle.flux_model.specs.declared.journals.Event.TheVariants.{Take, Wait}
-use Rattle.flux_model.specs.Setup.{Setup}
-use Rattle.flux_model.specs.Events.{unless_wait, answer_in, events_by, own_events, own_answers, IsNext}
-use Rattle.flux_model.specs.Waits.{StandsAt, WaitsAreRight}
+use Rattle.flow_model.specs.declared.journals.Key.{Key}
+use Rattle.flow_model.specs.declared.journals.Entry.{Entry}
+use Rattle.flow_model.specs.declared.journals.Event.{Event}
+use Rattle.flow_model.specs.declared.journals.Event.TheVariants.{Take, Wait}
+use Rattle.flow_model.specs.Setup.{Setup}
+use Rattle.flow_model.specs.Events.{unless_wait, answer_in, events_by, own_events, own_answers, IsNext}
+use Rattle.flow_model.specs.Waits.{StandsAt, WaitsAreRight}
 use Rattle.flux_laws.proofs.OwnEvents.{events_by-append, by_itself, own_events-append, own_answers-append}
 use Rattle.flux_laws.proofs.Apart.{stands-front}
 

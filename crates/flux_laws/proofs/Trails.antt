@@ -3,7 +3,7 @@ use Rattle.std.proofs.Common.{◌≡◌, ◌<◌, inl, inr, ℕ, Bool, true, fal
 use Rattle.std.specs.List.{list_any, IsDistinct, AllByRecursion}
 use Rattle.std.proofs.lemmas.Bool.{eqb-true, ne_eqb}
 use Rattle.std.proofs.lemmas.Map.Steps.{length-le_from_distinct_below}
-use Rattle.flux_model.specs.Waits.{Chain}
+use Rattle.flow_model.specs.Waits.{Chain}
 use Rattle.flux_laws.proofs.Members.{In}
 
 module _ (Step : ℕ → ℕ → Type 0) where

@@ -16,28 +16,28 @@ use Rattle.flux_model.specs.declared.programs.Node.{Node}
 use Rattle.flux_model.specs.declared.programs.NodeNo.{NodeNo}
 use Rattle.flux_model.specs.declared.programs.Body.{Body}
 use Rattle.flux_model.specs.declared.programs.Body.TheVariants.{Concrete, Abstract}
-use Rattle.flux_model.specs.declared.journals.CallMade.{CallMade}
-use Rattle.flux_model.specs.declared.journals.Entry.{Entry}
-use Rattle.flux_model.specs.declared.journals.Event.{Event}
-use Rattle.flux_model.specs.declared.journals.Event.TheVariants.{Take, Wait, Enter, Choose, Call, Exit, Drop, End}
-use Rattle.flux_model.specs.declared.journals.FlowNo.{FlowNo}
-use Rattle.flux_model.specs.declared.journals.Key.{Key}
-use Rattle.flux_model.specs.Setup.{Setup}
+use Rattle.flow_model.specs.declared.journals.CallMade.{CallMade}
+use Rattle.flow_model.specs.declared.journals.Entry.{Entry}
+use Rattle.flow_model.specs.declared.journals.Event.{Event}
+use Rattle.flow_model.specs.declared.journals.Event.TheVariants.{Take, Wait, Enter, Choose, Call, Exit, Drop, End}
+use Rattle.flux_model.specs.declared.items.FlowNo.{FlowNo}
+use Rattle.flow_model.specs.declared.journals.Key.{Key}
+use Rattle.flow_model.specs.Setup.{Setup}
 use Rattle.flux_model.specs.Modes.{conflict, at_least}
 use Rattle.flux_model.specs.Kinds.{NodeKinds}
 use Rattle.flux_model.specs.Items.{IsItemFor}
 use Rattle.flux_model.specs.Soundness.{IsProtected, AreCellsProtected, IsSound}
 use Rattle.flux_model.specs.Locks.{declared}
-use Rattle.flux_model.specs.Keys.{Cells}
-use Rattle.flux_model.specs.CellsAfter.{class_named, key_of, cell_key, put_under, after_puts, after_event, after_entries, cells_after}
-use Rattle.flux_model.specs.Answers.{cell_at, cells_for, IsBodyAnswer, IsNodeAnswer}
-use Rattle.flux_model.specs.Events.{unless_wait, answer_in, events_by, own_events, own_answers, CallIsNext}
-use Rattle.flux_model.specs.Exclusion.{IsInSection}
-use Rattle.flux_model.specs.Legal.{IsLegal}
+use Rattle.flow_model.specs.Keys.{Cells}
+use Rattle.flow_model.specs.CellsAfter.{class_named, key_of, cell_key, put_under, after_puts, after_event, after_entries, cells_after}
+use Rattle.flow_model.specs.Answers.{cell_at, cells_for, IsBodyAnswer, IsNodeAnswer}
+use Rattle.flow_model.specs.Events.{unless_wait, answer_in, events_by, own_events, own_answers, CallIsNext}
+use Rattle.flow_model.specs.Exclusion.{IsInSection}
+use Rattle.flow_model.specs.Legal.{IsLegal}
 use Rattle.flux_laws.specs.Moves.{MayCall, IsMove}
 use Rattle.flux_laws.specs.Calls.{FitsFound, FitsBody, FitsNode, cells_of_body, cells_of_node, cells_read, CallsStay}
 use Rattle.flux_laws.proofs.Members.{contains-from_in, all-behind}
-use Rattle.flux_model.proofs.Keys.{key_cases}
+use Rattle.flow_model.proofs.Keys.{key_cases}
 use Rattle.flux_laws.proofs.OwnEvents.{by_another, own_events-append, own_answers-append}
 use Rattle.flux_laws.proofs.Fronts.{fronts_are_legal}
 use Rattle.flux_laws.proofs.LastMoves.{entries_are_moves}

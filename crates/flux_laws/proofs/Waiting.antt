@@ -2,16 +2,16 @@
 use Rattle.std.proofs.Common.{◌≡◌, ◌<◌, ◌⊎◌, inl, inr, ℕ, true, List, [], ◌∷◌, ◌++◌, refl, ◌∙◌, arith}
 use Rattle.std.specs.List.{list_any}
 use Rattle.flux_values.specs.declared.answers.Mode.{Mode}
-use Rattle.flux_model.specs.declared.journals.Key.{Key}
-use Rattle.flux_model.specs.declared.journals.Entry.{Entry}
-use Rattle.flux_model.specs.declared.journals.Event.{Event}
-use Rattle.flux_model.specs.declared.journals.Event.TheVariants.{Take}
-use Rattle.flux_model.specs.Setup.{Setup}
+use Rattle.flow_model.specs.declared.journals.Key.{Key}
+use Rattle.flow_model.specs.declared.journals.Entry.{Entry}
+use Rattle.flow_model.specs.declared.journals.Event.{Event}
+use Rattle.flow_model.specs.declared.journals.Event.TheVariants.{Take}
+use Rattle.flow_model.specs.Setup.{Setup}
 use Rattle.flux_model.specs.Modes.{conflict}
 use Rattle.flux_model.specs.Locks.{declared, AreLocks}
-use Rattle.flux_model.specs.Events.{own_events, IsNext}
-use Rattle.flux_model.specs.Exclusion.{modes_held, HoldsKey, holds_against}
-use Rattle.flux_model.specs.Waits.{StandsAt, StandsBefore, Blocks, WaitsFor, WaitsAreRight, Chain}
+use Rattle.flow_model.specs.Events.{own_events, IsNext}
+use Rattle.flow_model.specs.Exclusion.{modes_held, HoldsKey, holds_against}
+use Rattle.flow_model.specs.Waits.{StandsAt, StandsBefore, Blocks, WaitsFor, WaitsAreRight, Chain}
 use Rattle.flux_laws.specs.Circles.{WaitsNeverCircle}
 use Rattle.flux_laws.proofs.Members.{In}
 use Rattle.flux_laws.proofs.Stacks.{MayTake, runs-rest}

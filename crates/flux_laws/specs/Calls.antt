@@ -11,15 +11,15 @@ use Rattle.flux_model.specs.declared.programs.Node.{Node}
 use Rattle.flux_model.specs.declared.programs.NodeNo.{NodeNo}
 use Rattle.flux_model.specs.declared.programs.Body.{Body}
 use Rattle.flux_model.specs.declared.programs.Body.TheVariants.{Concrete, Abstract}
-use Rattle.flux_model.specs.declared.journals.Entry.{Entry}
-use Rattle.flux_model.specs.Setup.{Setup}
+use Rattle.flow_model.specs.declared.journals.Entry.{Entry}
+use Rattle.flow_model.specs.Setup.{Setup}
 use Rattle.flux_model.specs.Kinds.{NodeKinds}
 use Rattle.flux_model.specs.Items.{AreValues, IsItemFor}
 use Rattle.flux_model.specs.Soundness.{IsSound}
-use Rattle.flux_model.specs.CellsAfter.{cells_after}
-use Rattle.flux_model.specs.Answers.{cells_for}
-use Rattle.flux_model.specs.Events.{events_by, CallIsNext}
-use Rattle.flux_model.specs.Legal.{IsLegal}
+use Rattle.flow_model.specs.CellsAfter.{cells_after}
+use Rattle.flow_model.specs.Answers.{cells_for}
+use Rattle.flow_model.specs.Events.{events_by, CallIsNext}
+use Rattle.flow_model.specs.Legal.{IsLegal}
 
 -- values of the kinds that a plain library node takes
 pub record FitsSig (sig : Sig) (args : List Value) : Type 0 where

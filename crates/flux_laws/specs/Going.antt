@@ -4,15 +4,15 @@ use Rattle.std.specs.List.{AllByRecursion}
 use Rattle.flux_values.specs.declared.values.Value.{Value}
 use Rattle.flux_model.specs.declared.programs.NodeNo.{NodeNo}
 use Rattle.flux_model.specs.declared.programs.Program.{Program}
-use Rattle.flux_model.specs.declared.journals.Entry.{Entry}
-use Rattle.flux_model.specs.declared.journals.Event.{Event}
-use Rattle.flux_model.specs.declared.journals.Item.{Item}
-use Rattle.flux_model.specs.Setup.{Setup}
+use Rattle.flow_model.specs.declared.journals.Entry.{Entry}
+use Rattle.flow_model.specs.declared.journals.Event.{Event}
+use Rattle.flux_model.specs.declared.items.Item.{Item}
+use Rattle.flow_model.specs.Setup.{Setup}
 use Rattle.flux_model.specs.Ordering.{HasCycle}
 use Rattle.flux_model.specs.Numbered.{IsNumbered}
-use Rattle.flux_model.specs.Events.{IsNext, CallIsNext, IsLive}
-use Rattle.flux_model.specs.Waits.{WaitsFor}
-use Rattle.flux_model.specs.Legal.{IsLegal, IsWhole}
+use Rattle.flow_model.specs.Events.{IsNext, CallIsNext, IsLive}
+use Rattle.flow_model.specs.Waits.{WaitsFor}
+use Rattle.flow_model.specs.Legal.{IsLegal, IsWhole}
 
 -- a flow is blocked: it waits for some other
 abbrev pub IsBlocked : Setup → List Entry → ℕ → Type 0

@@ -6,17 +6,17 @@ use Rattle.flux_values.specs.declared.answers.Answer.{Answer}
 use Rattle.flux_values.specs.declared.answers.Mode.{Mode}
 use Rattle.flux_model.specs.declared.programs.Node.{Node}
 use Rattle.flux_model.specs.declared.programs.SourceLine.{SourceLine}
-use Rattle.flux_model.specs.declared.journals.Entry.{Entry}
-use Rattle.flux_model.specs.declared.journals.Event.{Event}
-use Rattle.flux_model.specs.declared.journals.Event.TheVariants.{Take, Wait, Enter, Choose, Call, Exit, Drop, End}
-use Rattle.flux_model.specs.declared.journals.Item.{Item}
-use Rattle.flux_model.specs.declared.journals.Key.{Key}
-use Rattle.flux_model.specs.Setup.{Setup, item_of}
-use Rattle.flux_model.specs.Walk.{Given, walk}
+use Rattle.flow_model.specs.declared.journals.Entry.{Entry}
+use Rattle.flow_model.specs.declared.journals.Event.{Event}
+use Rattle.flow_model.specs.declared.journals.Event.TheVariants.{Take, Wait, Enter, Choose, Call, Exit, Drop, End}
+use Rattle.flux_model.specs.declared.items.Item.{Item}
+use Rattle.flow_model.specs.declared.journals.Key.{Key}
+use Rattle.flow_model.specs.Setup.{Setup, item_of}
+use Rattle.flow_model.specs.Walk.{Given, walk}
 use Rattle.flux_model.specs.Sizes.{size_of, source_size}
-use Rattle.flux_model.specs.Flows.{flow_events}
-use Rattle.flux_model.specs.Events.{events_by, own_events, FollowsWalk}
-use Rattle.flux_model.specs.Legal.{IsLegal}
+use Rattle.flow_model.specs.Flows.{flow_events}
+use Rattle.flow_model.specs.Events.{events_by, own_events, FollowsWalk}
+use Rattle.flow_model.specs.Legal.{IsLegal}
 
 -- the expanded size of an item's source; where there is none, its flow has no events
 abbrev pub line_size : Setup → Option SourceLine → ℕ

@@ -2,19 +2,19 @@
 use Rattle.std.specs.Prelude.{List, [], ◌∷◌, ◌++◌}
 use Rattle.std.specs.List.{slice_get}
 use Rattle.flux_values.specs.declared.answers.Mode.{Mode}
-use Rattle.flux_model.specs.declared.journals.CallMade.{CallMade}
-use Rattle.flux_model.specs.declared.journals.Entry.{Entry}
-use Rattle.flux_model.specs.declared.journals.Event.{Event}
-use Rattle.flux_model.specs.declared.journals.Event.TheVariants.{Take, Wait, Enter, Choose, Call, Exit, Drop, End}
-use Rattle.flux_model.specs.declared.journals.FlowNo.{FlowNo}
-use Rattle.flux_model.specs.declared.journals.Key.{Key}
-use Rattle.flux_model.specs.Setup.{Setup}
+use Rattle.flow_model.specs.declared.journals.CallMade.{CallMade}
+use Rattle.flow_model.specs.declared.journals.Entry.{Entry}
+use Rattle.flow_model.specs.declared.journals.Event.{Event}
+use Rattle.flow_model.specs.declared.journals.Event.TheVariants.{Take, Wait, Enter, Choose, Call, Exit, Drop, End}
+use Rattle.flux_model.specs.declared.items.FlowNo.{FlowNo}
+use Rattle.flow_model.specs.declared.journals.Key.{Key}
+use Rattle.flow_model.specs.Setup.{Setup}
 use Rattle.flux_model.specs.Locks.{AreLocks}
-use Rattle.flux_model.specs.CellsAfter.{cells_after}
-use Rattle.flux_model.specs.Answers.{IsNodeAnswer}
-use Rattle.flux_model.specs.Events.{IsNext, CallIsNext}
-use Rattle.flux_model.specs.Waits.{IsNoWaitLast}
-use Rattle.flux_model.specs.Legal.{IsLegal}
+use Rattle.flow_model.specs.CellsAfter.{cells_after}
+use Rattle.flow_model.specs.Answers.{IsNodeAnswer}
+use Rattle.flow_model.specs.Events.{IsNext, CallIsNext}
+use Rattle.flow_model.specs.Waits.{IsNoWaitLast}
+use Rattle.flow_model.specs.Legal.{IsLegal}
 use Rattle.flux_laws.specs.Going.{IsBlocked}
 
 -- an event that is the flow's next, where the flow isn't blocked

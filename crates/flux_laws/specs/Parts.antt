@@ -1,14 +1,14 @@
 -- What makes a journal legal.
 use Rattle.std.specs.Prelude.{ℕ, ◌<◌, List, length}
 use Rattle.std.specs.List.{AllByRecursion}
-use Rattle.flux_model.specs.declared.journals.Entry.{Entry}
-use Rattle.flux_model.specs.Setup.{Setup}
+use Rattle.flow_model.specs.declared.journals.Entry.{Entry}
+use Rattle.flow_model.specs.Setup.{Setup}
 use Rattle.flux_model.specs.Locks.{AreLocks}
-use Rattle.flux_model.specs.Events.{FollowsWalk}
-use Rattle.flux_model.specs.Answers.{AreAnswersRight}
-use Rattle.flux_model.specs.Exclusion.{TakesExclude}
-use Rattle.flux_model.specs.Waits.{WaitsAreRight}
-use Rattle.flux_model.specs.Legal.{IsLegal}
+use Rattle.flow_model.specs.Events.{FollowsWalk}
+use Rattle.flow_model.specs.Answers.{AreAnswersRight}
+use Rattle.flow_model.specs.Exclusion.{TakesExclude}
+use Rattle.flow_model.specs.Waits.{WaitsAreRight}
+use Rattle.flow_model.specs.Legal.{IsLegal}
 
 -- all that is asked of a legal journal, but that its sections exclude and that no waits form a cycle
 pub record HasParts (setup : Setup) (entries : List Entry) : Type 0 where

@@ -1,10 +1,10 @@
 -- Conflicting sections never overlap.
 use Rattle.std.specs.Prelude.{ℕ, ◌<◌, List, length}
-use Rattle.flux_model.specs.declared.journals.Entry.{Entry}
-use Rattle.flux_model.specs.Setup.{Setup}
+use Rattle.flow_model.specs.declared.journals.Entry.{Entry}
+use Rattle.flow_model.specs.Setup.{Setup}
 use Rattle.flux_model.specs.Locks.{AreLocks}
-use Rattle.flux_model.specs.Events.{FollowsWalk}
-use Rattle.flux_model.specs.Exclusion.{TakesExclude, SectionsExclude}
+use Rattle.flow_model.specs.Events.{FollowsWalk}
+use Rattle.flow_model.specs.Exclusion.{TakesExclude, SectionsExclude}
 
 -- where flows follow their walks with the program's locks, and no take stands where another flow holds that key in
 -- conflict, no two sections conflict

@@ -2,15 +2,15 @@
 use Rattle.std.specs.Prelude.{◌≡◌, ℕ, ◌<◌, ◌⊎◌, true, List, [], ◌∷◌, ◌++◌}
 use Rattle.std.specs.List.{Contains}
 use Rattle.flux_values.specs.declared.answers.Mode.{Mode}
-use Rattle.flux_model.specs.declared.journals.Entry.{Entry}
-use Rattle.flux_model.specs.declared.journals.Event.TheVariants.{Take, Drop}
-use Rattle.flux_model.specs.declared.journals.Key.{Key}
-use Rattle.flux_model.specs.Setup.{Setup}
+use Rattle.flow_model.specs.declared.journals.Entry.{Entry}
+use Rattle.flow_model.specs.declared.journals.Event.TheVariants.{Take, Drop}
+use Rattle.flow_model.specs.declared.journals.Key.{Key}
+use Rattle.flow_model.specs.Setup.{Setup}
 use Rattle.flux_model.specs.Modes.{at_least}
 use Rattle.flux_model.specs.Locks.{AreLocks}
-use Rattle.flux_model.specs.Events.{FollowsWalk, IsNext}
-use Rattle.flux_model.specs.Exclusion.{modes_held, HoldsKey}
-use Rattle.flux_model.specs.Waits.{StandsAt, WaitsAreRight}
+use Rattle.flow_model.specs.Events.{FollowsWalk, IsNext}
+use Rattle.flow_model.specs.Exclusion.{modes_held, HoldsKey}
+use Rattle.flow_model.specs.Waits.{StandsAt, WaitsAreRight}
 
 -- the flow holds the key in at least a mode
 pub record HoldsEnough (entries : List Entry) (flow : ℕ) (key : Key) (mode : Mode) : Type 0 where

@@ -7,5 +7,3 @@ pub mod AnswerLaws
 pub mod Sessions
 pub mod Documents
 pub mod DocumentLaws
-pub mod Basics
-pub mod BasicLaws

@@ -2,20 +2,16 @@
 //!
 //! `Library` gives as calls what `Meaning` says of a library, and `Docs` keeps the documents of one.
 //! What libraries share stands here once: the spellings of types (`types`), signatures, answers and
-//! sessions. `Basic` is a small library of its own.
+//! sessions.
 #![tactic(auto)]
 
 pub mod answers;
-mod basic;
 mod documents;
 mod libraries;
 pub mod sessions;
 pub mod signatures;
-#[cfg(test)]
-mod tests;
 pub mod types;
 
-pub use basic::Basic;
 pub use documents::{BODY_LIMIT, Docs};
 pub use flux_values::{CellUse, EMISSION_LIMIT, Meaning, Role, Sig};
 pub use libraries::Library;

@@ -5,10 +5,9 @@ ghost use Rattle.flux_library.specs.Libraries.{IsCallable};
 
 use flux_values::{Answer, Cell, Kind, List, Meaning, Memory, Sig, Value};
 use std::alloc::Global;
-use std::marker::{Send, Sync};
 
 /// A library of nodes. Each method gives what the library's meaning says; a name that it doesn't have gives None.
-pub trait Library: Meaning + Send + Sync + Drop {
+pub trait Library: Meaning + Drop {
     ghost use Rattle.flux_library.specs.Libraries.{IsLawful};
 
     /// The kind of a type as it is spelled, with its stars.

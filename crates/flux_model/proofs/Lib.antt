@@ -1,5 +1,4 @@
 pub mod Hoisting
-pub mod Keys
 pub mod NodeLists
 pub mod RisingHolds
 pub mod LeadingLemmas

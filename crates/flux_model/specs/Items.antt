@@ -7,7 +7,7 @@ use Rattle.flux_values.specs.Values.{kind_of}
 use Rattle.flux_values.specs.Reading.{IsValue}
 use Rattle.flux_model.specs.declared.programs.Program.{Program}
 use Rattle.flux_model.specs.declared.programs.SourceLine.{SourceLine}
-use Rattle.flux_model.specs.declared.journals.Item.{Item}
+use Rattle.flux_model.specs.declared.items.Item.{Item}
 use Rattle.flux_model.specs.Kinds.{NodeKinds}
 
 -- values of these kinds: numbers of 64 bits and texts of at most 65,536 bytes among them

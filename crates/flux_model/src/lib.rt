@@ -1,23 +1,21 @@
-//! Programs, items and journals as data, and the definitions that promises speak in.
+//! Programs and items as data, and what is said of them.
 //!
-//! `specs/` says what a text's program is, how a flow walks through it, what a journal's flows have done and do
-//! next, and how values, items and journals are printed. Each definition is apart from the code that meets it.
+//! `specs/` says which programs are numbered and sound, what nodes lead to and what is below them, their locks and
+//! sizes, and how names and items are printed. Each definition is apart from the code that meets it.
 #![tactic(auto)]
 
-mod journals;
+mod items;
 mod laws;
 mod modes;
 mod named;
 mod names;
 mod programs;
 mod signatures;
-#[cfg(test)]
-mod tests;
 mod visits;
 
 pub use flux_values::{Answer, CallResult, Cell, Mode, Put};
-pub use journals::{CallMade, Entry, Event, FlowNo, Item, Journal, Key, Outcome};
-pub use laws::{hoisting_law, worked_examples};
+pub use items::{FlowNo, Item};
+pub use laws::hoisting_law;
 pub use modes::{at_least, class_order, conflict};
 pub use named::{Named, Sites};
 pub use names::Names;

@@ -7,9 +7,9 @@ use Rattle.flux_values.specs.declared.values.Value.{Value}
 use Rattle.flux_values.specs.declared.answers.Mode.{Mode}
 use Rattle.flux_values.specs.Meanings.{LibraryMeaning}
 use Rattle.flux_model.specs.declared.programs.ClassNo.{ClassNo}
-use Rattle.flux_model.specs.declared.journals.Outcome.{Outcome}
-use Rattle.flux_model.specs.declared.journals.Outcome.TheVariants.{Good}
-use Rattle.flux_model.specs.Matching.{patterns_match}
+use Rattle.flow_model.specs.declared.journals.Outcome.{Outcome}
+use Rattle.flow_model.specs.declared.journals.Outcome.TheVariants.{Good}
+use Rattle.flow_model.specs.Matching.{patterns_match}
 use Rattle.flux_plan.specs.declared.plans.Plan.{Plan}
 use Rattle.flux_plan.specs.declared.plans.Arm.{Arm}
 use Rattle.flux_plan.specs.declared.plans.Instr.{Instr}

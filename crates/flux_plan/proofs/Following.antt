@@ -10,20 +10,20 @@ use Rattle.flux_model.specs.declared.programs.NodeNo.{NodeNo}
 use Rattle.flux_model.specs.declared.programs.ClassNo.{ClassNo}
 use Rattle.flux_model.specs.declared.programs.SourceLine.{SourceLine}
 use Rattle.flux_model.specs.declared.programs.Program.{Program}
-use Rattle.flux_model.specs.declared.journals.Key.{Key}
-use Rattle.flux_model.specs.declared.journals.Outcome.{Outcome}
-use Rattle.flux_model.specs.declared.journals.Outcome.TheVariants.{Good, Over, Bad}
-use Rattle.flux_model.specs.Matching.{handler_for}
-use Rattle.flux_model.specs.declared.journals.Item.{Item}
-use Rattle.flux_model.specs.declared.journals.Entry.{Entry}
-use Rattle.flux_model.specs.declared.journals.Event.{Event}
-use Rattle.flux_model.specs.declared.journals.Event.TheVariants as events
+use Rattle.flow_model.specs.declared.journals.Key.{Key}
+use Rattle.flow_model.specs.declared.journals.Outcome.{Outcome}
+use Rattle.flow_model.specs.declared.journals.Outcome.TheVariants.{Good, Over, Bad}
+use Rattle.flow_model.specs.Matching.{handler_for}
+use Rattle.flux_model.specs.declared.items.Item.{Item}
+use Rattle.flow_model.specs.declared.journals.Entry.{Entry}
+use Rattle.flow_model.specs.declared.journals.Event.{Event}
+use Rattle.flow_model.specs.declared.journals.Event.TheVariants as events
 use Rattle.flux_model.specs.Locks.{AreLocks}
-use Rattle.flux_model.specs.Walk.{Given, Walked, Stop, walk}
-use Rattle.flux_model.specs.Walk as walks
-use Rattle.flux_model.specs.Setup.{Setup, item_of}
-use Rattle.flux_model.specs.Flows.{given_for, target_walk, item_walk, flow_walk, flow_events, with_end, HasEnded, IsFinished}
-use Rattle.flux_model.specs.Events.{own_events, own_answers, FollowsWalk, IsNext, CallIsNext, IsWholePath}
+use Rattle.flow_model.specs.Walk.{Given, Walked, Stop, walk}
+use Rattle.flow_model.specs.Walk as walks
+use Rattle.flow_model.specs.Setup.{Setup, item_of}
+use Rattle.flow_model.specs.Flows.{given_for, target_walk, item_walk, flow_walk, flow_events, with_end, HasEnded, IsFinished}
+use Rattle.flow_model.specs.Events.{own_events, own_answers, FollowsWalk, IsNext, CallIsNext, IsWholePath}
 use Rattle.flux_plan.specs.declared.plans.Plan.{Plan}
 use Rattle.flux_plan.specs.declared.plans.Segment.{Segment}
 use Rattle.flux_plan.specs.declared.plans.Arm.{Arm}

@@ -4,8 +4,8 @@ use Rattle.std.specs.Prelude.{insert}
 use Rattle.std.proofs.lemmas.List.{reverse-append, length-take-le, take_at}
 use Rattle.flux_values.specs.declared.values.Value.{Value}
 use Rattle.flux_model.specs.declared.programs.NodeNo.{NodeNo}
-use Rattle.flux_model.specs.declared.journals.Outcome.{Outcome}
-use Rattle.flux_model.specs.declared.journals.Outcome.TheVariants.{Good}
+use Rattle.flow_model.specs.declared.journals.Outcome.{Outcome}
+use Rattle.flow_model.specs.declared.journals.Outcome.TheVariants.{Good}
 use Rattle.flux_plan.specs.declared.stacks.Frame.{Frame}
 use Rattle.flux_plan.specs.Machine.{State, at_place}
 use Rattle.flux_plan.specs.steps.Turns.{with_place, cursor, cursor_on, entered_over}

@@ -4,9 +4,9 @@ use Rattle.std.proofs.lemmas.List.{append-nil}
 use Rattle.flux_values.specs.declared.answers.Answer.{Answer}
 use Rattle.flux_model.specs.declared.programs.NodeNo.{NodeNo}
 use Rattle.flux_model.specs.declared.programs.ClassNo.{ClassNo}
-use Rattle.flux_model.specs.declared.journals.Key.{Key}
-use Rattle.flux_model.specs.declared.journals.Event.{Event}
-use Rattle.flux_model.specs.declared.journals.Event.TheVariants as events
+use Rattle.flow_model.specs.declared.journals.Key.{Key}
+use Rattle.flow_model.specs.declared.journals.Event.{Event}
+use Rattle.flow_model.specs.declared.journals.Event.TheVariants as events
 use Rattle.flux_plan.specs.declared.plans.Segment.{Segment}
 use Rattle.flux_plan.specs.Machine.{State, Act, Step, silent, acts, calls, ended, stuck, Matches, step, answered}
 use Rattle.flux_plan.specs.Moves.{after_silence, settled}

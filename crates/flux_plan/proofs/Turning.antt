@@ -3,9 +3,9 @@ use Rattle.std.proofs.Common.{◌≡◌, ℕ, ◌+◌, ◌^◌, ◌<◌, List, O
 use Rattle.flux_values.specs.declared.values.Value.{Value}
 use Rattle.flux_values.specs.Meanings.{LibraryMeaning}
 use Rattle.flux_model.specs.declared.programs.HandleArm.{HandleArm}
-use Rattle.flux_model.specs.declared.journals.Outcome.{Outcome}
-use Rattle.flux_model.specs.declared.journals.Outcome.TheVariants.{Bad}
-use Rattle.flux_model.specs.Matching.{patterns_match}
+use Rattle.flow_model.specs.declared.journals.Outcome.{Outcome}
+use Rattle.flow_model.specs.declared.journals.Outcome.TheVariants.{Bad}
+use Rattle.flow_model.specs.Matching.{patterns_match}
 use Rattle.flux_plan.specs.declared.plans.Plan.{Plan}
 use Rattle.flux_plan.specs.declared.plans.Arm.{Arm}
 use Rattle.flux_plan.specs.declared.plans.Instr.{Instr}

@@ -5,10 +5,10 @@ use Rattle.flux_values.specs.declared.values.Value.{Value}
 use Rattle.flux_values.specs.declared.answers.Answer.{Answer}
 use Rattle.flux_values.specs.declared.answers.Mode.{Mode}
 use Rattle.flux_model.specs.declared.programs.ClassNo.{ClassNo}
-use Rattle.flux_model.specs.declared.journals.Key.{Key}
-use Rattle.flux_model.specs.declared.journals.Event.{Event}
+use Rattle.flow_model.specs.declared.journals.Key.{Key}
+use Rattle.flow_model.specs.declared.journals.Event.{Event}
 use Rattle.flux_model.specs.Modes.{at_least}
-use Rattle.flux_model.specs.Exclusion.{held_after}
+use Rattle.flow_model.specs.Exclusion.{held_after}
 use Rattle.flux_plan.specs.declared.plans.Plan.{Plan}
 use Rattle.flux_plan.specs.Machine.{State, takes, acts, Matches, step, beginning}
 use Rattle.flux_plan.specs.Runs.{on_the_way, run}

@@ -6,13 +6,13 @@ use Rattle.flux_model.specs.declared.programs.NodeNo.{NodeNo}
 use Rattle.flux_model.specs.declared.programs.ClassNo.{ClassNo}
 use Rattle.flux_model.specs.declared.programs.SourceLine.{SourceLine}
 use Rattle.flux_model.specs.declared.programs.Program.{Program}
-use Rattle.flux_model.specs.declared.journals.Key.{Key}
-use Rattle.flux_model.specs.declared.journals.Event.{Event}
-use Rattle.flux_model.specs.declared.journals.Event.TheVariants as events
+use Rattle.flow_model.specs.declared.journals.Key.{Key}
+use Rattle.flow_model.specs.declared.journals.Event.{Event}
+use Rattle.flow_model.specs.declared.journals.Event.TheVariants as events
 use Rattle.flux_model.specs.Locks.{AreLocks}
-use Rattle.flux_model.specs.Walk.{Given, Stop, Walked, walk}
-use Rattle.flux_model.specs.Walk as walks
-use Rattle.flux_model.specs.Flows.{with_end}
+use Rattle.flow_model.specs.Walk.{Given, Stop, Walked, walk}
+use Rattle.flow_model.specs.Walk as walks
+use Rattle.flow_model.specs.Flows.{with_end}
 use Rattle.flux_plan.specs.declared.plans.Plan.{Plan}
 use Rattle.flux_plan.specs.declared.plans.Segment.{Segment}
 use Rattle.flux_plan.specs.Machine.{State, Act, takes, enters, chooses, exits, drops, ends, Step, silent, acts, calls, ended, stuck, Matches, step, answered, beginning}

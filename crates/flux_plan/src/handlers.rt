@@ -3,7 +3,7 @@
 ghost use Rattle.std.specs.Prelude.{◌≡◌};
 ghost use Rattle.std.specs.List.{find};
 ghost use Rattle.std.specs.Option.{option_map};
-ghost use Rattle.flux_model.specs.Matching.{handler_for, names_code, has_no_codes};
+ghost use Rattle.flow_model.specs.Matching.{handler_for, names_code, has_no_codes};
 
 use flux_model::{HandleArm, NodeNo};
 

@@ -17,8 +17,6 @@ mod reaching;
 mod shapes;
 mod stacks;
 mod takes;
-#[cfg(test)]
-mod tests;
 mod verified;
 mod verifying;
 

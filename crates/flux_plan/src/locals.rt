@@ -1,7 +1,7 @@
 //! One flow's place in a plan.
 
 ghost use Rattle.std.specs.Prelude.{◌≡◌, Some, IsSome, IfOk, OnOk, OnErr};
-ghost use Rattle.flux_model.specs.Matching.{patterns_match};
+ghost use Rattle.flow_model.specs.Matching.{patterns_match};
 ghost use Rattle.flux_plan.specs.Machine.{fresh, values_at, state_in};
 ghost use Rattle.flux_plan.specs.Moves.{next_in, IsEvent, called_in, Advances, answered_in};
 ghost use Rattle.flux_plan.specs.Faulty.{IsVerified, IsSized};
@@ -13,7 +13,8 @@ use crate::machines::Machine;
 use crate::plans::{Instr, Plan};
 use crate::stacks::Stack;
 use flux_library::Library;
-use flux_model::{ClassNo, Mode, NodeNo, Outcome};
+use flux_model::{ClassNo, Mode, NodeNo};
+use flow_model::Outcome;
 use flux_values::{Answer, List, Memory, Value};
 use std::alloc::Global;
 use std::marker::Model;

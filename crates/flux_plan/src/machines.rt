@@ -1,7 +1,7 @@
 //! What the instructions of a plan do.
 
 ghost use Rattle.std.specs.Prelude.{◌≡◌, ◌+◌, ◌<◌, ◌^◌, length, reverse};
-ghost use Rattle.flux_model.specs.Matching.{pattern_matches, patterns_match, all_match, handler_for};
+ghost use Rattle.flow_model.specs.Matching.{pattern_matches, patterns_match, all_match, handler_for};
 ghost use Rattle.flux_plan.specs.Machine.{first_arm, step, going_to, over_after};
 ghost use Rattle.flux_plan.specs.Faulty.{IsVerified, IsSized};
 ghost use Rattle.flux_plan.specs.steps.Placed.{IsPlaced};
@@ -11,7 +11,8 @@ use crate::handlers::handler_for;
 use crate::plans::{Arm, Instr, Plan};
 use crate::stacks::Frame;
 use flux_library::Library;
-use flux_model::{HandleArm, NodeNo, Outcome, Program};
+use flux_model::{HandleArm, NodeNo, Program};
+use flow_model::Outcome;
 use flux_values::Value;
 
 /// The code of a failure of a node none of whose cases matches.

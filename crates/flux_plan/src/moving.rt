@@ -1,7 +1,7 @@
 //! What a flow does next, and its place afterwards.
 
 ghost use Rattle.std.specs.Prelude.{◌≡◌, Some, IsSome, OnOk, OnErr};
-ghost use Rattle.flux_model.specs.Matching.{patterns_match};
+ghost use Rattle.flow_model.specs.Matching.{patterns_match};
 ghost use Rattle.flux_plan.specs.Moves.{next_in, IsEvent, called_in, IsReached, IsReachedBySome, Advances, IsAnswered};
 
 use crate::locals::{Local, Next};

@@ -1,8 +1,8 @@
 //! The state of a flow that has begun.
 
 ghost use Rattle.std.specs.Prelude.{◌≡◌, ◌<◌, ◌≤◌, [], ◌∷◌, ◌++◌, length, take, reverse, Some, IsSome, IfOk, OnOk, OnErr};
-ghost use Rattle.flux_model.specs.declared.journals.Outcome.TheVariants as outcomes;
-ghost use Rattle.flux_model.specs.Matching.{patterns_match};
+ghost use Rattle.flow_model.specs.declared.journals.Outcome.TheVariants as outcomes;
+ghost use Rattle.flow_model.specs.Matching.{patterns_match};
 ghost use Rattle.flux_plan.specs.Machine.{step, answered, entering};
 ghost use Rattle.flux_plan.specs.Moves.{next_by, IsEvent, called_over};
 ghost use Rattle.flux_plan.specs.Faulty.{IsVerified, IsSized};
@@ -15,7 +15,8 @@ use crate::locals::Next;
 use crate::machines::{Entering, Landing, Machine};
 use crate::plans::{Instr, Plan};
 use flux_library::Library;
-use flux_model::{NodeNo, Outcome};
+use flux_model::NodeNo;
+use flow_model::Outcome;
 use flux_values::{Answer, CallResult, List, Memory, Value};
 use std::alloc::Global;
 

@@ -11,8 +11,8 @@ ghost use Rattle.flux_driver.specs.Top.{HasDone};
 #[cfg(test)]
 mod tests;
 
-use flux_driver::{Status, World, top};
-use flux_outside::{Folder, Gate, OpenGate, RealFolder, RealSink, RealStore, Sink, Store};
+use flux_driver::{Gate, OpenGate, Status, World, top};
+use flux_outside::{Folder, RealFolder, RealSink, RealStore, Sink, Store};
 use flux_values::{Bytes, List, Memory};
 use std::alloc::Global;
 use std::io::{ErrorKind, Stderr, Stdout};

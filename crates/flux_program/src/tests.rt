@@ -4,8 +4,9 @@ ghost use Rattle.std.specs.Prelude.{◌<◌};
 
 use super::{answer, exit_code, read_words};
 use flux_driver::{Status, World};
-use flux_outside::{OpenGate, RealFolder, RealSink, RealStore};
-use flux_values::{Bytes, List, Memory, append_number};
+use flux_outside::{RealFolder, RealSink, RealStore};
+use flux_values::{Bytes, List, Memory};
+use flux_spelling::append_number;
 use std::alloc::Global;
 use std::fs::OpenOptions;
 use std::io::{ErrorKind, Write};

@@ -5,7 +5,7 @@ use Rattle.std.proofs.lemmas.Bool.{false≢true, eq-eqb}
 use Rattle.std.proofs.lemmas.List.{get_or-take, length-take-le}
 use Rattle.std.proofs.lemmas.List.Sums.{prefix_len_passes, prefix_len-le-length}
 use Rattle.flux_values.specs.declared.answers.Mode.{Mode}
-use Rattle.flux_model.specs.declared.journals.FlowNo.{FlowNo}
+use Rattle.flux_model.specs.declared.items.FlowNo.{FlowNo}
 use Rattle.flux_table.specs.declared.locks.Held.{Held}
 use Rattle.flux_table.specs.declared.locks.Waiter.{Waiter}
 use Rattle.flux_table.specs.Locks.{Holding}

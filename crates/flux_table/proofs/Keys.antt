@@ -5,10 +5,10 @@ use Rattle.std.specs.Prelude.{OnOk}
 use Rattle.std.specs.Map.{lookup, set_value}
 use Rattle.std.proofs.lemmas.Map.Steps.{set_value_same}
 use Rattle.flux_values.specs.declared.answers.Mode.{Mode}
-use Rattle.flux_model.specs.declared.journals.FlowNo.{FlowNo}
-use Rattle.flux_model.specs.declared.journals.Key.{Key}
-use Rattle.flux_model.specs.Keys.{same_key}
-use Rattle.flux_model.proofs.Keys.{key_cmp, key_cmp_same, same_key_is}
+use Rattle.flux_model.specs.declared.items.FlowNo.{FlowNo}
+use Rattle.flow_model.specs.declared.journals.Key.{Key}
+use Rattle.flow_model.specs.Keys.{same_key}
+use Rattle.flow_model.proofs.Keys.{key_cmp, key_cmp_same, same_key_is}
 use Rattle.flux_table.specs.Locks.{LockState, held_by}
 use Rattle.flux_table.specs.Tables.{Locks, lock_at, holders_of, lines_of, holding_in, line_in}
 use Rattle.flux_table.specs.Changes.{with_held, with_holding, with_line, one_more, one_less, line_without, Takes, Waits, Releases}

@@ -9,9 +9,9 @@ use Rattle.std.proofs.lemmas.List.Sums.{take_while-cons}
 use Rattle.std.proofs.lemmas.Map.Keys.{le_from_not_gt}
 use Rattle.flux_values.specs.declared.answers.Mode.{Mode}
 use Rattle.flux_values.specs.declared.answers.Mode.TheVariants.{Reader, Writer}
-use Rattle.flux_model.specs.declared.journals.FlowNo.{FlowNo}
+use Rattle.flux_model.specs.declared.items.FlowNo.{FlowNo}
 use Rattle.flux_model.specs.Modes.{conflict}
-use Rattle.flux_model.proofs.Keys.{cmp_eqb}
+use Rattle.flow_model.proofs.Keys.{cmp_eqb}
 use Rattle.flux_table.specs.declared.locks.Waiter.{Waiter}
 use Rattle.flux_table.specs.Locks.{StandsNowhere, StandOnce}
 use Rattle.flux_table.specs.Blockers.{StandsAgainst, IsLowestOf, line_before}

@@ -7,7 +7,7 @@ use Rattle.std.proofs.lemmas.List.Elements.{Contains-append_left, Contains-push,
 use Rattle.std.proofs.lemmas.Grind.{common_steps}
 use Rattle.std.specs.List.{remove, position, prefix_len, position_or_len}
 use Rattle.flux_values.specs.declared.answers.Mode.{Mode}
-use Rattle.flux_model.specs.declared.journals.FlowNo.{FlowNo}
+use Rattle.flux_model.specs.declared.items.FlowNo.{FlowNo}
 use Rattle.flux_model.specs.Modes.{conflict}
 use Rattle.flux_table.specs.declared.locks.Waiter.{Waiter}
 use Rattle.flux_table.specs.Blockers.{StandsAgainst, line_before, IsLowestOf, IsEither}

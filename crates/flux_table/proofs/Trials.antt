@@ -4,9 +4,9 @@ use Rattle.std.proofs.lemmas.Bool.{false≢true}
 use Rattle.std.specs.List.{Contains, All}
 use Rattle.std.proofs.lemmas.List.Elements.{All-contains, Contains-push, Contains-push_cases, Contains-append_left}
 use Rattle.flux_values.specs.declared.answers.Mode.{Mode}
-use Rattle.flux_model.specs.declared.journals.FlowNo.{FlowNo}
-use Rattle.flux_model.specs.declared.journals.Key.{Key}
-use Rattle.flux_model.specs.Keys.{same_key}
+use Rattle.flux_model.specs.declared.items.FlowNo.{FlowNo}
+use Rattle.flow_model.specs.declared.journals.Key.{Key}
+use Rattle.flow_model.specs.Keys.{same_key}
 use Rattle.flux_model.specs.Modes.{at_least}
 use Rattle.flux_table.specs.declared.locks.Held.{Held}
 use Rattle.flux_table.specs.declared.locks.Waiter.{Waiter}
@@ -16,7 +16,7 @@ use Rattle.flux_table.specs.Tables.{Locks, lines_of}
 use Rattle.flux_table.specs.Blockers.{StandsOnlyAt}
 use Rattle.flux_table.specs.Changes.{line_without, Takes, Waits, Follows}
 use Rattle.flux_table.specs.steps.Stood.{HaveStood}
-use Rattle.flux_model.proofs.Keys.{same_key_is}
+use Rattle.flow_model.proofs.Keys.{same_key_is}
 use Rattle.flux_table.proofs.Orderly.{contains_without}
 
 -- a line that has no new waiters

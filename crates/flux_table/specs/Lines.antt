@@ -4,7 +4,7 @@ use Rattle.std.specs.List.{list_any}
 use Rattle.std.specs.BTreeSet.{BTreeSet}
 use Rattle.flux_values.specs.declared.answers.Mode.{Mode}
 use Rattle.flux_values.specs.declared.answers.Mode.TheVariants.{Reader, Writer}
-use Rattle.flux_model.specs.declared.journals.FlowNo.{FlowNo}
+use Rattle.flux_model.specs.declared.items.FlowNo.{FlowNo}
 use Rattle.flux_table.specs.declared.locks.Waiter.{Waiter}
 use Rattle.flux_table.specs.Locks.{StandOnce}
 use Rattle.flux_table.specs.Blockers.{StandsAgainst}

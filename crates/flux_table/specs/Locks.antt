@@ -2,7 +2,7 @@
 use Rattle.std.specs.Prelude.{◌≢◌, ℕ, ◌==◌, false, ◌≡◌, ⊤, List, [], ◌∷◌, Option, Some, None}
 use Rattle.std.specs.List.{Contains}
 use Rattle.std.specs.Map.{lookup}
-use Rattle.flux_model.specs.declared.journals.FlowNo.{FlowNo}
+use Rattle.flux_model.specs.declared.items.FlowNo.{FlowNo}
 use Rattle.flux_model.specs.Modes.{conflict}
 use Rattle.flux_table.specs.declared.locks.Held.{Held}
 use Rattle.flux_table.specs.declared.locks.Waiter.{Waiter}

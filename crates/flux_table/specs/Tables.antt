@@ -1,8 +1,8 @@
 -- A table is two maps: from each key to its holders, and from each key to its line.
 use Rattle.std.specs.Prelude.{List, [], Option, Some, None}
 use Rattle.std.specs.Map.{lookup}
-use Rattle.flux_model.specs.declared.journals.Key.{Key}
-use Rattle.flux_model.specs.Keys.{same_key}
+use Rattle.flow_model.specs.declared.journals.Key.{Key}
+use Rattle.flow_model.specs.Keys.{same_key}
 use Rattle.flux_table.specs.declared.locks.Waiter.{Waiter}
 use Rattle.flux_table.specs.Locks.{LockState, Holding, held_by}
 

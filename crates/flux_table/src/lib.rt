@@ -7,8 +7,6 @@
 mod lines;
 mod locks;
 mod tables;
-#[cfg(test)]
-mod tests;
 
 pub use locks::{Held, Waiter};
 pub use tables::{Table, Taken};

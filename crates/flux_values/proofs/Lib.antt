@@ -1,12 +1,3 @@
-pub mod Pieces
-pub mod Opened
-pub mod Fronts
-pub mod TextsRead
-pub mod Literals
-pub mod NumbersRead
-pub mod Decimals
-pub mod WordsRead
-pub mod Causes
 pub mod Sorted
 pub mod CellLemmas
 pub mod Sets

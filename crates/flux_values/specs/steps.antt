@@ -1,5 +1,2 @@
 -- Mirrors of what the code does step by step. No public clause cites them.
-pub mod Pieces
-pub mod Literals
-pub mod Numbers
 pub mod Cells

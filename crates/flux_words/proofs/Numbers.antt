@@ -4,9 +4,9 @@ use Rattle.std.specs.List.{AllByRecursion, slice_split}
 use Rattle.std.specs.Fmt.{decimal}
 use Rattle.std.proofs.lemmas.Fmt.{decimal_is_IsNumeral}
 use Rattle.std.proofs.lemmas.List.{append-nil, append_cancel_left, take_more, take_all, length-append}
-use Rattle.flux_model.specs.declared.journals.FlowNo.{FlowNo}
+use Rattle.flux_model.specs.declared.items.FlowNo.{FlowNo}
 use Rattle.flux_values.specs.Spellings.{BeginsDecimal}
-use Rattle.flux_values.proofs.Decimals.{one_decimal}
+use Rattle.flux_spelling.proofs.Decimals.{one_decimal}
 use Rattle.flux_words.specs.declared.values.TheConstants.{NUMBER_LIMIT}
 use Rattle.flux_words.specs.declared.values.Runtime.{Runtime}
 use Rattle.flux_words.specs.declared.values.Runtime.TheVariants.{Event, Script}

@@ -1,7 +1,8 @@
 //! Command lines with what they ask for, in tables.
 
 use crate::{Asked, JournalFormat, Runtime, read_words};
-use flux_values::{Bytes, List, Memory, append_number};
+use flux_values::{Bytes, List, Memory};
+use flux_spelling::append_number;
 use std::alloc::Global;
 use std::process::Abort;
 use std::test::Fail;

@@ -6,7 +6,8 @@ ghost use Rattle.flux_words.specs.steps.Found.{IsNumberRead, AreNumbersRead, IsR
 
 use crate::names::strip;
 use flux_model::FlowNo;
-use flux_values::{List, Memory, read_decimal};
+use flux_values::{List, Memory};
+use flux_spelling::read_decimal;
 use std::alloc::Global;
 
 /// The greatest number of a flow that a script names.

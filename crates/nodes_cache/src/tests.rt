@@ -2,10 +2,8 @@
 
 use crate::Caching;
 use flux_library::{Docs, Library, Role};
-use flux_values::{
-    Answer, Bytes, CallResult, Cell, Kind, List, Memory, Mode, TextBytes, TextFault, Value,
-    append_number, append_text, append_value,
-};
+use flux_values::{Answer, Bytes, CallResult, Cell, Kind, List, Memory, Mode, TextBytes, TextFault, Value};
+use flux_spelling::{append_number, append_text, append_value};
 use std::alloc::Global;
 use std::process::Abort;
 use std::test::Fail;

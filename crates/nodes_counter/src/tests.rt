@@ -3,9 +3,7 @@
 use crate::nodes::Node;
 use crate::{Counter, spelled_int};
 use flux_library::{Library, Role};
-use flux_values::{
-    Answer, Bytes, CallResult, Cell, Kind, List, Memory, Mode, Put, TextBytes, TextFault, Value,
-};
+use flux_values::{Answer, Bytes, CallResult, Cell, Kind, List, Memory, Mode, Put, TextBytes, TextFault, Value};
 use std::alloc::Global;
 use std::process::Abort;
 use std::test::Fail;

@@ -4,9 +4,7 @@ use crate::names::type_of;
 use crate::nodes::Node;
 use crate::{FIELD_LIMIT, Web, read_request};
 use flux_library::{BODY_LIMIT, Docs, EMISSION_LIMIT, Library, Role};
-use flux_values::{
-    Answer, Bytes, CallResult, Kind, List, Memory, TEXT_LIMIT, TextBytes, TextFault, Value,
-};
+use flux_values::{Answer, Bytes, CallResult, Kind, List, Memory, TEXT_LIMIT, TextBytes, TextFault, Value};
 use std::alloc::Global;
 use std::process::Abort;
 

@@ -4,15 +4,15 @@ use Rattle.std.specs.List.{AllByRecursion, flat_map}
 use Rattle.std.proofs.lemmas.Bool.{cases_eq, eq-eqb, ne_eqb}
 use Rattle.std.proofs.lemmas.List.{length-append, append-nil}
 use Rattle.flux_values.specs.declared.answers.Mode.{Mode}
-use Rattle.flux_model.specs.declared.journals.FlowNo.{FlowNo}
-use Rattle.flux_model.specs.declared.journals.Key.{Key}
-use Rattle.flux_model.specs.declared.journals.Entry.{Entry}
-use Rattle.flux_model.specs.declared.journals.Event.{Event}
-use Rattle.flux_model.specs.declared.journals.Event.TheVariants.{Take, Wait, Enter, Choose, Call, Exit, Drop, End}
-use Rattle.flux_model.specs.Setup.{Setup}
-use Rattle.flux_model.specs.Events.{unless_wait, events_by, own_events}
-use Rattle.flux_model.specs.Waits.{IsLast, IsNoWaitLast}
-use Rattle.flux_model.specs.Legal.{IsLegal}
+use Rattle.flux_model.specs.declared.items.FlowNo.{FlowNo}
+use Rattle.flow_model.specs.declared.journals.Key.{Key}
+use Rattle.flow_model.specs.declared.journals.Entry.{Entry}
+use Rattle.flow_model.specs.declared.journals.Event.{Event}
+use Rattle.flow_model.specs.declared.journals.Event.TheVariants.{Take, Wait, Enter, Choose, Call, Exit, Drop, End}
+use Rattle.flow_model.specs.Setup.{Setup}
+use Rattle.flow_model.specs.Events.{unless_wait, events_by, own_events}
+use Rattle.flow_model.specs.Waits.{IsLast, IsNoWaitLast}
+use Rattle.flow_model.specs.Legal.{IsLegal}
 use Rattle.flux_laws.specs.Growth.{flow_size, sum_below}
 use Rattle.flux_laws.proofs.FlowSums.{count-all}
 use Rattle.flux_laws.proofs.OwnEvents.{events_by-append, own_events-append}

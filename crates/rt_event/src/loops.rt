@@ -11,7 +11,7 @@ use flow_core::{Core, Stopped};
 use flow_waits::{Candidates, Turn, take_turn};
 use flux_library::Library;
 use flux_model::FlowNo;
-use flux_outside::Gate;
+use flow_core::Gate;
 use flux_values::Memory;
 use std::marker::Sync;
 use std::sync::Wait;

@@ -10,7 +10,7 @@ use flow_core::{Core, Stopped};
 use flow_waits::{drain_by, take_turn};
 use flux_library::Library;
 use flux_model::FlowNo;
-use flux_outside::Gate;
+use flow_core::Gate;
 use flux_values::{List, Memory};
 use std::marker::Sync;
 use std::sync::Wait;

@@ -10,11 +10,11 @@ use Rattle.flux_model.specs.declared.programs.Body.{Body}
 use Rattle.flux_model.specs.declared.programs.Body.TheVariants.{Concrete, Abstract}
 use Rattle.flux_model.specs.declared.programs.Hold.{Hold}
 use Rattle.flux_model.specs.declared.programs.SourceLine.{SourceLine}
-use Rattle.flux_model.specs.declared.journals.Item.{Item}
-use Rattle.flux_model.specs.declared.journals.Key.{Key}
-use Rattle.flux_model.specs.Setup.{Setup, item_of}
+use Rattle.flux_model.specs.declared.items.Item.{Item}
+use Rattle.flow_model.specs.declared.journals.Key.{Key}
+use Rattle.flow_model.specs.Setup.{Setup, item_of}
 use Rattle.flux_model.specs.Locks.{declared}
-use Rattle.flux_model.specs.Keys.{Cells, flow_key}
+use Rattle.flow_model.specs.Keys.{Cells, flow_key}
 use Rattle.flow_core.specs.steps.Cells.{cells_by}
 
 -- a concrete node, whose library node is there

@@ -7,9 +7,9 @@ use Rattle.flux_values.specs.Cells.{CellMap}
 use Rattle.flux_model.specs.declared.programs.ClassNo.{ClassNo}
 use Rattle.flux_model.specs.declared.programs.Hold.{Hold}
 use Rattle.flux_model.specs.declared.programs.Program.{Program}
-use Rattle.flux_model.specs.Keys.{Cells}
-use Rattle.flux_model.specs.CellsAfter.{is_named}
-use Rattle.flux_model.specs.Answers.{cell_at}
+use Rattle.flow_model.specs.Keys.{Cells}
+use Rattle.flow_model.specs.CellsAfter.{is_named}
+use Rattle.flow_model.specs.Answers.{cell_at}
 use Rattle.flow_core.specs.steps.Places.{key_in}
 
 abbrev pub declares_named : Program → List ℕ → ClassNo → Bool

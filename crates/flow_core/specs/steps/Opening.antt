@@ -4,8 +4,8 @@ use Rattle.std.specs.List.{slice_get}
 use Rattle.flux_values.specs.Meanings.{LibraryMeaning}
 use Rattle.flux_model.specs.declared.programs.Program.{Program}
 use Rattle.flux_model.specs.declared.programs.SourceLine.{SourceLine}
-use Rattle.flux_model.specs.declared.journals.Item.{Item}
-use Rattle.flux_model.specs.Keys.{session_number}
+use Rattle.flux_model.specs.declared.items.Item.{Item}
+use Rattle.flow_model.specs.Keys.{session_number}
 use Rattle.flux_plan.specs.Machine.{fresh}
 use Rattle.flow_core.specs.declared.places.Place.{Place}
 

@@ -7,7 +7,8 @@ ghost use Rattle.flow_core.specs.Lines.{IsStop, IsLineAt};
 
 use super::Core;
 use flux_library::Library;
-use flux_model::{FlowNo, Key, Mode};
+use flux_model::{FlowNo, Mode};
+use flow_model::Key;
 use flux_table::Waiter;
 use std::alloc::Global;
 

@@ -5,9 +5,9 @@ use Rattle.std.specs.Map.{lookup}
 use Rattle.flux_values.specs.declared.answers.Put.{Put}
 use Rattle.flux_values.specs.Cells.{CellMap, no_cell, changed}
 use Rattle.flux_model.specs.declared.programs.Program.{Program}
-use Rattle.flux_model.specs.declared.journals.Key.{Key}
-use Rattle.flux_model.specs.Keys.{Cells, same_key}
-use Rattle.flux_model.specs.CellsAfter.{is_named}
+use Rattle.flow_model.specs.declared.journals.Key.{Key}
+use Rattle.flow_model.specs.Keys.{Cells, same_key}
+use Rattle.flow_model.specs.CellsAfter.{is_named}
 use Rattle.flux_cells.specs.Kept.{Kept, kept_at}
 use Rattle.flux_cells.specs.Applied.{class_of}
 

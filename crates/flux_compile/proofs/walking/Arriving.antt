@@ -4,11 +4,11 @@ use Rattle.std.proofs.lemmas.List.{append-nil}
 use Rattle.flux_values.specs.declared.values.Value.{Value}
 use Rattle.flux_values.specs.declared.answers.Answer.{Answer}
 use Rattle.flux_model.specs.declared.programs.ClassNo.{ClassNo}
-use Rattle.flux_model.specs.declared.journals.Key.{Key}
-use Rattle.flux_model.specs.declared.journals.Outcome.{Outcome}
-use Rattle.flux_model.specs.declared.journals.Outcome.TheVariants.{Good, Over, Bad}
-use Rattle.flux_model.specs.declared.journals.Event.{Event}
-use Rattle.flux_model.specs.Walk.{Ended, Stop, finished, before_call, nowhere, Walked, following, then}
+use Rattle.flow_model.specs.declared.journals.Key.{Key}
+use Rattle.flow_model.specs.declared.journals.Outcome.{Outcome}
+use Rattle.flow_model.specs.declared.journals.Outcome.TheVariants.{Good, Over, Bad}
+use Rattle.flow_model.specs.declared.journals.Event.{Event}
+use Rattle.flow_model.specs.Walk.{Ended, Stop, finished, before_call, nowhere, Walked, following, then}
 use Rattle.flux_plan.specs.declared.plans.Segment.{Segment}
 use Rattle.flux_plan.specs.Machine.{State, Act, silent, acts, Matches, step}
 use Rattle.flux_plan.specs.Runs.{event_of, at_call, Ran, run, run_step}

@@ -7,7 +7,7 @@ use Rattle.flux_model.specs.Children.{IsIn}
 use Rattle.flux_model.specs.Leading.{leads_in}
 use Rattle.flux_model.specs.Nested.{for_node, nested}
 use Rattle.flux_model.specs.Ordering.{ComeAfter, IsOrder}
-use Rattle.flux_model.specs.Walk.{Given, Walking, lost, walk_by, walk}
+use Rattle.flow_model.specs.Walk.{Given, Walking, lost, walk_by, walk}
 use Rattle.flux_graph.proofs.Depths.{order-within}
 use Rattle.flux_plan.specs.declared.plans.Segment.{Segment}
 use Rattle.flux_compile.specs.steps.Segments.{segment_of}

@@ -5,7 +5,7 @@ use Rattle.std.specs.List.{slice_get, flat_map}
 use Rattle.std.proofs.lemmas.List.{length-map}
 use Rattle.flux_model.specs.declared.programs.Case.{Case}
 use Rattle.flux_model.specs.Children.{IsIn}
-use Rattle.flux_model.specs.Matching.{first_case}
+use Rattle.flow_model.specs.Matching.{first_case}
 use Rattle.flux_model.proofs.NodeLists.{in_front, in_behind}
 use Rattle.flux_plan.specs.declared.plans.Arm.{Arm}
 use Rattle.flux_plan.specs.declared.plans.Instr.{Instr}

@@ -9,14 +9,14 @@ use Rattle.flux_model.specs.declared.programs.NodeNo.{NodeNo}
 use Rattle.flux_model.specs.declared.programs.SourceLine.{SourceLine}
 use Rattle.flux_model.specs.declared.programs.TheConstants.{COUNT_LIMIT}
 use Rattle.flux_model.specs.declared.signatures.NodeSig.{NodeSig}
-use Rattle.flux_model.specs.declared.journals.Entry.{Entry}
-use Rattle.flux_model.specs.declared.journals.Item.{Item}
-use Rattle.flux_model.specs.declared.journals.Journal.{Journal}
+use Rattle.flow_model.specs.declared.journals.Entry.{Entry}
+use Rattle.flux_model.specs.declared.items.Item.{Item}
+use Rattle.flow_model.specs.declared.journals.Journal.{Journal}
 use Rattle.flux_model.specs.Items.{IsItemFor}
 use Rattle.flux_model.specs.Kinds.{NodeKinds, kinds_at}
-use Rattle.flux_model.specs.Legal.{IsLegal, IsWhole}
+use Rattle.flow_model.specs.Legal.{IsLegal, IsWhole}
 use Rattle.flux_model.specs.Locks.{Holds}
-use Rattle.flux_model.specs.Setup.{Setup}
+use Rattle.flow_model.specs.Setup.{Setup}
 use Rattle.flux_model.specs.Sizes.{source_size}
 use Rattle.flux_model.specs.Soundness.{IsSound}
 use Rattle.flux_model.specs.Texts.{source_name}

@@ -8,10 +8,7 @@ use crate::plans::{append_size, plan_along};
 use crate::{Checked, Sets, hoist, print_plan, report};
 use flux_graph::{Order, order};
 use flux_library::Basic;
-use flux_model::{
-    Body, Case, Class, ClassNo, Hold, Mode, Node, NodeNo, NodeSig, Program, Sigs, SourceLine,
-    TypeText,
-};
+use flux_model::{Body, Case, Class, ClassNo, Hold, Mode, Node, NodeNo, NodeSig, Program, Sigs, SourceLine, TypeText};
 use flux_values::{Bytes, Kind, List, TextBytes};
 use std::alloc::Global;
 use std::process::Abort;

@@ -4,7 +4,7 @@ use Rattle.flux_values.specs.declared.values.Kind.{Kind}
 use Rattle.flux_values.specs.declared.values.Value.{Value}
 use Rattle.flux_values.specs.Values.{kind_of}
 use Rattle.flux_values.specs.Identifiers.{IsIdentifier}
-use Rattle.flux_model.specs.declared.journals.Item.{Item}
+use Rattle.flux_model.specs.declared.items.Item.{Item}
 use Rattle.flux_items.specs.declared.rules.ItemRules.{ItemRules}
 use Rattle.flux_items.specs.declared.lines.LineRead.{LineRead}
 use Rattle.flux_items.specs.declared.lines.LineRead.TheVariants as reads

@@ -4,12 +4,13 @@ use Rattle.std.specs.Fmt.{decimal}
 use Rattle.flux_values.specs.declared.answers.Mode.{Mode}
 use Rattle.flux_model.specs.declared.programs.Program.{Program}
 use Rattle.flux_model.specs.declared.programs.NodeNo.{NodeNo}
-use Rattle.flux_model.specs.declared.journals.Key.{Key}
-use Rattle.flux_model.specs.declared.journals.Outcome.{Outcome}
-use Rattle.flux_model.specs.declared.journals.CallMade.{CallMade}
-use Rattle.flux_model.specs.declared.journals.Event.{Event}
-use Rattle.flux_model.specs.declared.journals.Event.TheVariants as events
-use Rattle.flux_model.specs.Texts.{node_name, printed_exit}
+use Rattle.flow_model.specs.declared.journals.Key.{Key}
+use Rattle.flow_model.specs.declared.journals.Outcome.{Outcome}
+use Rattle.flow_model.specs.declared.journals.CallMade.{CallMade}
+use Rattle.flow_model.specs.declared.journals.Event.{Event}
+use Rattle.flow_model.specs.declared.journals.Event.TheVariants as events
+use Rattle.flux_model.specs.Texts.{node_name}
+use Rattle.flow_model.specs.Texts.{printed_exit}
 use Rattle.flux_journal.specs.declared.faults.LineFault.{LineFault}
 use Rattle.flux_journal.specs.declared.lines.Word.{Word}
 use Rattle.flux_journal.specs.declared.lines.Word.TheVariants as words

@@ -1,8 +1,8 @@
 -- Steps of reading a journal: its lines, its head line, and the entries of lines.
 use Rattle.std.specs.Prelude.{◌≡◌, ℕ, ◌+◌, ◌<◌, ◌≤◌, ◌^◌, List, ◌∷◌, ◌++◌, length, Result, Ok, Err, ⊤}
 use Rattle.flux_model.specs.declared.programs.Program.{Program}
-use Rattle.flux_model.specs.declared.journals.Entry.{Entry}
-use Rattle.flux_model.specs.declared.journals.Journal.{Journal}
+use Rattle.flow_model.specs.declared.journals.Entry.{Entry}
+use Rattle.flow_model.specs.declared.journals.Journal.{Journal}
 use Rattle.flux_journal.specs.declared.faults.JournalFault.{JournalFault}
 use Rattle.flux_journal.specs.declared.faults.JournalFault.TheVariants as faults
 use Rattle.flux_journal.specs.Formats.{head_line}

@@ -4,8 +4,9 @@ use Rattle.std.specs.List.{flat_map}
 use Rattle.flux_values.specs.Texts.{printed_value}
 use Rattle.flux_values.specs.declared.values.Value.{Value}
 use Rattle.flux_model.specs.declared.programs.Program.{Program}
-use Rattle.flux_model.specs.declared.journals.CallMade.{CallMade}
-use Rattle.flux_model.specs.Texts.{node_name, comma_separated, printed_values, printed_result, printed_put}
+use Rattle.flow_model.specs.declared.journals.CallMade.{CallMade}
+use Rattle.flux_model.specs.Texts.{node_name, comma_separated, printed_values}
+use Rattle.flow_model.specs.Texts.{printed_result, printed_put}
 
 -- values with commas between them
 abbrev pub listed : List Value → List ℕ

@@ -3,9 +3,10 @@ use Rattle.std.specs.Prelude.{◌≡◌, ℕ, ◌<◌, ◌^◌, List, [], ◌∷
 use Rattle.std.specs.Fmt.{decimal}
 use Rattle.flux_values.specs.declared.answers.Mode.{Mode}
 use Rattle.flux_model.specs.declared.programs.Program.{Program}
-use Rattle.flux_model.specs.declared.journals.Key.{Key}
-use Rattle.flux_model.specs.declared.journals.Outcome.{Outcome}
-use Rattle.flux_model.specs.Texts.{printed_key, printed_mode, printed_exit, printed_end}
+use Rattle.flow_model.specs.declared.journals.Key.{Key}
+use Rattle.flow_model.specs.declared.journals.Outcome.{Outcome}
+use Rattle.flux_model.specs.Texts.{printed_mode}
+use Rattle.flow_model.specs.Texts.{printed_key, printed_exit, printed_end}
 use Rattle.flux_journal.specs.Entries.{IsKeyOf, IsOutcome}
 
 abbrev pub IsKeyText : Program → List ℕ → Key → Type 0

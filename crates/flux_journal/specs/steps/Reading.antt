@@ -7,7 +7,7 @@ use Rattle.flux_values.specs.declared.answers.Put.{Put}
 use Rattle.flux_values.specs.Spellings.{SpellsText}
 use Rattle.flux_model.specs.declared.programs.Program.{Program}
 use Rattle.flux_model.specs.declared.programs.NodeNo.{NodeNo}
-use Rattle.flux_model.specs.declared.journals.CallMade.{CallMade}
+use Rattle.flow_model.specs.declared.journals.CallMade.{CallMade}
 use Rattle.flux_journal.specs.declared.faults.LineFault.{LineFault}
 use Rattle.flux_journal.specs.declared.faults.LineFault.TheVariants as faults
 use Rattle.flux_journal.specs.Entries.{IsCellOf, IsTextOf}

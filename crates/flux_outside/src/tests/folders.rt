@@ -1,7 +1,8 @@
 //! Folders in memory, and the real one over files that each test makes in its own folder.
 
 use crate::{FileBytes, Folder, MemoryFolder, NextDoc, RealFolder, SUBFOLDER_LIMIT, StoreFault};
-use flux_values::{Bytes, List, Memory, append_number};
+use flux_values::{Bytes, List, Memory};
+use flux_spelling::append_number;
 use std::alloc::Global;
 use std::fs;
 use std::os::unix::fs::symlink;

@@ -3,7 +3,8 @@
 ghost use Rattle.std.specs.Prelude.{◌<◌};
 
 use crate::{File, RealSink, RealStore, Sink, Store, StoreFault};
-use flux_values::{Bytes, append_number};
+use flux_values::Bytes;
+use flux_spelling::append_number;
 use std::alloc::Global;
 use std::fs::{OpenOptions, Permissions};
 use std::io::Write;

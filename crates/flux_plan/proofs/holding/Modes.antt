@@ -6,11 +6,11 @@ use Rattle.std.proofs.lemmas.Bool.{and_parts, eqb-true, eq-eqb}
 use Rattle.flux_values.specs.declared.answers.Mode.{Mode}
 use Rattle.flux_model.specs.declared.programs.ClassNo.{ClassNo}
 use Rattle.flux_model.specs.declared.programs.Hold.{Hold}
-use Rattle.flux_model.specs.declared.journals.Key.{Key}
-use Rattle.flux_model.specs.declared.journals.Event.{Event}
-use Rattle.flux_model.specs.declared.journals.Event.TheVariants as kinds
-use Rattle.flux_model.specs.Keys.{same_key, same_id}
-use Rattle.flux_model.specs.Exclusion.{without_first, held_after}
+use Rattle.flow_model.specs.declared.journals.Key.{Key}
+use Rattle.flow_model.specs.declared.journals.Event.{Event}
+use Rattle.flow_model.specs.declared.journals.Event.TheVariants as kinds
+use Rattle.flow_model.specs.Keys.{same_key, same_id}
+use Rattle.flow_model.specs.Exclusion.{without_first, held_after}
 use Rattle.flux_model.proofs.RisingHolds.{contains_first, contains_later, contains_cases, contains_none}
 use Rattle.flux_plan.specs.Holding.{AreOwnKeys}
 

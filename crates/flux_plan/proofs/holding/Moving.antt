@@ -9,13 +9,13 @@ use Rattle.flux_values.specs.declared.answers.CallResult.TheVariants as results
 use Rattle.flux_model.specs.declared.programs.NodeNo.{NodeNo}
 use Rattle.flux_model.specs.declared.programs.ClassNo.{ClassNo}
 use Rattle.flux_model.specs.declared.programs.Hold.{Hold}
-use Rattle.flux_model.specs.declared.journals.Key.{Key}
-use Rattle.flux_model.specs.declared.journals.Event.{Event}
-use Rattle.flux_model.specs.declared.journals.Outcome.{Outcome}
-use Rattle.flux_model.specs.declared.journals.Outcome.TheVariants.{Good, Over, Bad}
+use Rattle.flow_model.specs.declared.journals.Key.{Key}
+use Rattle.flow_model.specs.declared.journals.Event.{Event}
+use Rattle.flow_model.specs.declared.journals.Outcome.{Outcome}
+use Rattle.flow_model.specs.declared.journals.Outcome.TheVariants.{Good, Over, Bad}
 use Rattle.flux_model.specs.Children.{IsIn}
-use Rattle.flux_model.specs.Matching.{handler_for}
-use Rattle.flux_model.specs.Exclusion.{held_after}
+use Rattle.flow_model.specs.Matching.{handler_for}
+use Rattle.flow_model.specs.Exclusion.{held_after}
 use Rattle.flux_model.proofs.RisingHolds.{contains_none}
 use Rattle.flux_plan.specs.declared.plans.Plan.{Plan}
 use Rattle.flux_plan.specs.declared.plans.Segment.{Segment}

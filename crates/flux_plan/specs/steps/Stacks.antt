@@ -1,6 +1,6 @@
 -- What the fields of a `Local` and its stack stand for.
 use Rattle.std.specs.Prelude.{◌≡◌, if◌then◌else◌, [], reverse, MatchBool, ⊤}
-use Rattle.flux_model.specs.declared.journals.Outcome.TheVariants.{Good}
+use Rattle.flow_model.specs.declared.journals.Outcome.TheVariants.{Good}
 use Rattle.flux_plan.specs.declared.stacks.Stack.{Stack}
 use Rattle.flux_plan.specs.declared.locals.Local.TheInside.{Inside}
 use Rattle.flux_plan.specs.Machine.{State, Position, fresh, at}

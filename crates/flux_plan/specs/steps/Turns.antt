@@ -7,9 +7,9 @@ use Rattle.flux_values.specs.declared.answers.CallResult.TheVariants as results
 use Rattle.flux_values.specs.Meanings.{LibraryMeaning}
 use Rattle.flux_model.specs.declared.programs.NodeNo.{NodeNo}
 use Rattle.flux_model.specs.declared.programs.HandleArm.{HandleArm}
-use Rattle.flux_model.specs.declared.journals.Outcome.{Outcome}
-use Rattle.flux_model.specs.declared.journals.Outcome.TheVariants.{Good, Over, Bad}
-use Rattle.flux_model.specs.Matching.{patterns_match, handler_for}
+use Rattle.flow_model.specs.declared.journals.Outcome.{Outcome}
+use Rattle.flow_model.specs.declared.journals.Outcome.TheVariants.{Good, Over, Bad}
+use Rattle.flow_model.specs.Matching.{patterns_match, handler_for}
 use Rattle.flux_plan.specs.declared.plans.Plan.{Plan}
 use Rattle.flux_plan.specs.declared.plans.Segment.{Segment}
 use Rattle.flux_plan.specs.declared.plans.Arm.{Arm}

@@ -1,7 +1,7 @@
 -- What the tests keep of their calls: no promise cites it.
 use Rattle.std.specs.Prelude.{List}
 use Rattle.std.specs.List.{Contains}
-use Rattle.flux_model.specs.declared.journals.Key.{Key}
+use Rattle.flow_model.specs.declared.journals.Key.{Key}
 use Rattle.flux_table.specs.declared.locks.Waiter.{Waiter}
 use Rattle.flux_table.specs.Tables.{Locks, lines_of}
 

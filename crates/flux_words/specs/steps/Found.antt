@@ -1,7 +1,7 @@
 -- Steps of the reader: a part, and what is read of values.
 use Rattle.std.specs.Prelude.{◌≡◌, ℕ, List, Option, Some, None, map, take}
 use Rattle.std.specs.List.{AllByRecursion, slice_split}
-use Rattle.flux_model.specs.declared.journals.FlowNo.{FlowNo}
+use Rattle.flux_model.specs.declared.items.FlowNo.{FlowNo}
 use Rattle.flux_words.specs.declared.parts.Part.{Part as Read}
 use Rattle.flux_words.specs.declared.parts.Part.TheVariants as reads
 use Rattle.flux_words.specs.declared.values.Runtime.{Runtime}

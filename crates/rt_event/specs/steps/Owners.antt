@@ -1,10 +1,10 @@
 -- What the loop keeps from entry to entry.
 use Rattle.std.specs.Prelude.{◌≡◌, ℕ, ◌+◌, ⊤, Bool, true, false, List, Option, Some, None}
-use Rattle.flux_model.specs.declared.journals.Entry.{Entry}
-use Rattle.flux_model.specs.declared.journals.Event.{Event}
-use Rattle.flux_model.specs.declared.journals.FlowNo.{FlowNo}
-use Rattle.flux_model.specs.Setup.{Setup}
-use Rattle.flux_model.specs.Events.{IsLive}
+use Rattle.flow_model.specs.declared.journals.Entry.{Entry}
+use Rattle.flow_model.specs.declared.journals.Event.{Event}
+use Rattle.flux_model.specs.declared.items.FlowNo.{FlowNo}
+use Rattle.flow_model.specs.Setup.{Setup}
+use Rattle.flow_model.specs.Events.{IsLive}
 use Rattle.flow_waits.specs.Turns.{IsInLine, MakesMove}
 use Rattle.flow_waits.specs.Covers.{Pools, IsReady, Covers, IsChosen}
 use Rattle.rt_event.specs.Round.{EndsTurn}

@@ -2,7 +2,8 @@
 
 use super::Plain;
 use super::keys::key_of;
-use flux_model::{Body, CallMade, Entry, Event, FlowNo, Key, Node};
+use flux_model::{Body, FlowNo, Node};
+use flow_model::{CallMade, Entry, Event, Key};
 use flux_values::{Answer, CallResult, Memory, Put, Value};
 use std::alloc::Global;
 use std::process::Abort;

@@ -2,7 +2,8 @@
 //! and each flow lets all go before its end.
 
 use super::Plain;
-use flux_model::{ClassNo, Entry, Event, FlowNo, Key, Mode, NodeNo};
+use flux_model::{ClassNo, FlowNo, Mode, NodeNo};
+use flow_model::{Entry, Event, Key};
 use flux_values::Memory;
 use std::alloc::Global;
 use std::process::Abort;

@@ -1,5 +1,5 @@
 use Rattle.std.proofs.Common.{subst, arith, ℕ}
-use Rattle.flux_model.specs.Events.{IsLive}
+use Rattle.flow_model.specs.Events.{IsLive}
 use Rattle.flow_core.specs.States.{setup_in}
 use Rattle.flow_waits.proofs.Driving.{same-setup, same-then, same-itself, draining-none, draining-few, drained, turn-drains, turn-longer, turn-legal}
 use Rattle.flow_waits.proofs.draining.drain_by.Goals as goal

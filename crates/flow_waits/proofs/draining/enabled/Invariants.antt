@@ -1,5 +1,5 @@
 use Rattle.std.proofs.Common.{ℕ, ◌<◌}
-use Rattle.flux_model.specs.Events.{IsLive}
+use Rattle.flow_model.specs.Events.{IsLive}
 use Rattle.flux_laws.specs.Going.{IsBlocked}
 use Rattle.flow_core.specs.States.{setup_in}
 use Rattle.flow_waits.proofs.draining.enabled.Given as goal

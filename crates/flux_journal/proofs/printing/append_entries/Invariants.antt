@@ -1,6 +1,6 @@
 use Rattle.std.proofs.Common.{◌≡◌, ◌++◌, take}
 use Rattle.std.specs.List.{flat_map}
-use Rattle.flux_model.specs.Texts.{printed_entry}
+use Rattle.flow_model.specs.Texts.{printed_entry}
 use Rattle.flux_journal.proofs.printing.append_entries.Given as goal
 
 abbrev pub invariant-loop-entry : goal.invariant-loop-entry

@@ -1,6 +1,6 @@
 use Rattle.std.proofs.Common.{◌≡◌, ◌++◌, take}
 use Rattle.std.specs.List.{flat_map}
-use Rattle.flux_model.specs.Texts.{printed_put}
+use Rattle.flow_model.specs.Texts.{printed_put}
 use Rattle.flux_journal.proofs.printing.append_puts.Given as goal
 
 abbrev pub invariant-loop-put : goal.invariant-loop-put

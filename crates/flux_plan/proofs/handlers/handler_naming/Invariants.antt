@@ -1,6 +1,6 @@
 use Rattle.std.proofs.Common.{◌≡◌, length}
 use Rattle.std.specs.List.{find}
-use Rattle.flux_model.specs.Matching.{names_code}
+use Rattle.flow_model.specs.Matching.{names_code}
 use Rattle.flux_plan.proofs.handlers.handler_naming.Given as goal
 
 abbrev pub invariant-loop-rest : goal.invariant-loop-rest

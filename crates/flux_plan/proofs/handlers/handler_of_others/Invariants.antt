@@ -1,7 +1,7 @@
 use Rattle.std.proofs.Common.{◌≡◌, length}
 use Rattle.std.specs.List.{find}
 use Rattle.flux_model.specs.declared.programs.HandleArm.{HandleArm}
-use Rattle.flux_model.specs.Matching.{has_no_codes}
+use Rattle.flow_model.specs.Matching.{has_no_codes}
 use Rattle.flux_plan.proofs.handlers.handler_of_others.Given as goal
 
 abbrev pub invariant-loop-rest : goal.invariant-loop-rest

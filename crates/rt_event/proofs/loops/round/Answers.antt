@@ -1,5 +1,5 @@
 use Rattle.std.proofs.Common.{◌≡◌, ◌∙◌, ◌+◌, ℕ, sym, ap, subst, arith}
-use Rattle.flux_model.specs.Events.{IsLive}
+use Rattle.flow_model.specs.Events.{IsLive}
 use Rattle.flow_core.specs.States.{setup_in}
 use Rattle.flow_waits.proofs.Driving.{same-setup, same-then, same-itself}
 use Rattle.rt_event.specs.steps.Owners.{Stays}

@@ -2,9 +2,9 @@ use Rattle.std.proofs.Common.{List, [], ◌∷◌, ◌++◌, map, None, ap, sym,
 use Rattle.std.specs.Arc.{arc_value}
 use Rattle.flux_values.specs.declared.answers.Put.{Put}
 use Rattle.flux_model.specs.declared.programs.Hold.{Hold}
-use Rattle.flux_model.specs.declared.journals.CallMade.{CallMade}
-use Rattle.flux_model.specs.declared.journals.Entry.{Entry}
-use Rattle.flux_model.specs.declared.journals.Key.{Key}
+use Rattle.flow_model.specs.declared.journals.CallMade.{CallMade}
+use Rattle.flow_model.specs.declared.journals.Entry.{Entry}
+use Rattle.flow_model.specs.declared.journals.Key.{Key}
 use Rattle.flux_model.specs.Locks.{declared}
 use Rattle.flux_cells.specs.Kept.{cells_of}
 use Rattle.flux_cells.specs.Applied.{applied}

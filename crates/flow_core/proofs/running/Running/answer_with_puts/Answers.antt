@@ -1,6 +1,6 @@
 use Rattle.std.proofs.Common.{◌≡◌, [], ◌∷◌, ◌++◌, None, ap, sym, refl, ◌∙◌}
-use Rattle.flux_model.specs.declared.journals.CallMade.{CallMade}
-use Rattle.flux_model.specs.declared.journals.Entry.{Entry}
+use Rattle.flow_model.specs.declared.journals.CallMade.{CallMade}
+use Rattle.flow_model.specs.declared.journals.Entry.{Entry}
 use Rattle.flux_cells.specs.Kept.{cells_of}
 use Rattle.flux_cells.specs.Applied.{applied}
 use Rattle.flow_core.specs.declared.places.Place.{Place}

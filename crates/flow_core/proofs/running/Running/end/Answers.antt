@@ -1,5 +1,5 @@
 use Rattle.std.proofs.Common.{◌-◌, refl}
-use Rattle.flux_model.specs.declared.journals.Event.TheVariants as events
+use Rattle.flow_model.specs.declared.journals.Event.TheVariants as events
 use Rattle.flow_core.specs.declared.places.Place.{Place}
 use Rattle.flow_core.proofs.OnFields.{may-advance, quiet-moved, no-call, moved-makes, end-running, some-live}
 use Rattle.flow_core.proofs.running.Running.end.Goals as goal

@@ -1,5 +1,5 @@
 use Rattle.std.proofs.Common.{refl}
-use Rattle.flux_model.specs.declared.journals.Event.TheVariants as events
+use Rattle.flow_model.specs.declared.journals.Event.TheVariants as events
 use Rattle.flow_core.specs.declared.places.Place.{Place}
 use Rattle.flow_core.proofs.OnFields.{at-place, may-advance, may-take-it, none-blocks, take-moved, undone-running, moved-makes, moved-goes_on}
 use Rattle.flow_core.proofs.running.Running.get_first.Goals as goal

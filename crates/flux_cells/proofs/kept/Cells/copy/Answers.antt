@@ -2,7 +2,7 @@ use Rattle.std.proofs.Common.{[], ◌∙◌, sym, subst, Some}
 use Rattle.std.specs.Map.{keys_of}
 use Rattle.std.proofs.lemmas.Map.Keys.{IsDistinct-from_sorted}
 use Rattle.flux_cells.specs.Kept.{NoneIsEmpty}
-use Rattle.flux_model.proofs.Keys.{key_cmp}
+use Rattle.flow_model.proofs.Keys.{key_cmp}
 use Rattle.flux_cells.proofs.Keys.{IsChanged, changed_is}
 use Rattle.flux_cells.proofs.Copied.{IsCopied, KeysDiffer, keys_differ, copied_none, copied_more, copied_all, copied_full}
 use Rattle.flux_cells.proofs.kept.Cells.copy.Goals as goal

@@ -1,6 +1,6 @@
 use Rattle.std.proofs.Common.{sym, subst}
 use Rattle.flux_library.specs.Basics.{basic_meaning}
-use Rattle.flux_model.specs.Matching.{patterns_match}
+use Rattle.flow_model.specs.Matching.{patterns_match}
 use Rattle.flux_plan.specs.Machine.{Position}
 use Rattle.flux_plan.specs.Moves.{IsReached}
 use Rattle.flux_plan.proofs.Driving.{begins_reached, advance_reached, answer_reached}

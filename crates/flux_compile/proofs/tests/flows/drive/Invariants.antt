@@ -1,5 +1,5 @@
 use Rattle.flux_library.specs.Basics.{basic_meaning}
-use Rattle.flux_model.specs.Matching.{patterns_match}
+use Rattle.flow_model.specs.Matching.{patterns_match}
 use Rattle.flux_plan.specs.Moves.{IsReached}
 use Rattle.flux_compile.proofs.tests.flows.drive.Given as goal
 

@@ -1,5 +1,5 @@
 use Rattle.std.proofs.Common.{◌≡◌, length}
-use Rattle.flux_model.specs.Matching.{all_match}
+use Rattle.flow_model.specs.Matching.{all_match}
 use Rattle.flux_plan.proofs.machines.Machine.all_match.Given as goal
 
 abbrev pub invariant-loop-left : goal.invariant-loop-left

@@ -1,5 +1,5 @@
 use Rattle.std.proofs.Common.{◌+◌, ◌-◌, ◌*◌, ◌^◌, length}
-use Rattle.flux_model.specs.Matching.{patterns_match}
+use Rattle.flow_model.specs.Matching.{patterns_match}
 use Rattle.flux_plan.specs.steps.Turns.{cursor, IsLanding}
 use Rattle.flux_plan.proofs.machines.Machine.land.Given as goal
 

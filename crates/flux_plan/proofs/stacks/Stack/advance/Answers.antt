@@ -1,4 +1,4 @@
-use Rattle.flux_model.specs.Matching.{patterns_match}
+use Rattle.flow_model.specs.Matching.{patterns_match}
 use Rattle.flux_plan.specs.Machine.{State}
 use Rattle.std.proofs.Common.{ap, List, reverse}
 use Rattle.flux_plan.specs.declared.stacks.Frame.{Frame}

@@ -1,4 +1,4 @@
-use Rattle.flux_model.specs.Matching.{patterns_match}
+use Rattle.flow_model.specs.Matching.{patterns_match}
 use Rattle.flux_plan.proofs.Acting.{ends_next, chosen_next}
 use Rattle.flux_plan.proofs.stacks.Stack.next.Goals as goal
 

@@ -1,0 +1,13 @@
+pub mod Keys
+pub mod Setup
+pub mod Matching
+pub mod Walk
+pub mod Flows
+pub mod Events
+pub mod CellsAfter
+pub mod Answers
+pub mod Exclusion
+pub mod Waits
+pub mod Legal
+pub mod Texts
+pub mod Examples

@@ -1,0 +1,12 @@
+//! What flows do: walks, and journals of what they did, as data and definitions.
+//!
+//! `specs/` says how a flow walks through a program, what a journal's flows have done and do next, which sections
+//! exclude each other, who waits for whom, and which journals are legal and whole. Each definition is apart from the
+//! code that meets it.
+#![tactic(auto)]
+
+mod journals;
+mod laws;
+
+pub use journals::{CallMade, Entry, Event, Journal, Key, Outcome};
+pub use laws::worked_examples;

@@ -1,0 +1,15 @@
+//! Items, each of which starts a flow.
+
+use crate::programs::SourceNo;
+use flux_values::{List, Value};
+
+/// A flow, by its item's place among the items.
+#[derive(Clone, Copy, Debug, PartialEq, Eq, PartialOrd, Ord, Hash)]
+pub struct FlowNo(pub u32);
+
+/// What starts one flow: the values that a source gives.
+#[derive(Debug, Drop)]
+pub struct Item {
+    pub source: SourceNo,
+    pub values: List<Value>,
+}

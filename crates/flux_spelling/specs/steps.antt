@@ -1,0 +1,4 @@
+-- Mirrors of what the code does step by step. No public clause cites them.
+pub mod Pieces
+pub mod Literals
+pub mod Numbers
