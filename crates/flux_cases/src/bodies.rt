@@ -103,11 +103,17 @@ fn append_times(alloc: Global, out: &mut Bytes, count: usize, text: &str) -> Res
     Ok(())
 }
 
-/// Adds a template for each number of a range, as `1 to 4 "Pass_{n} "`.
+/// Adds a template for each number of a range, as `1 to 4 "Pass_{n} "`. A range may go down.
 fn append_range(alloc: Global, out: &mut Bytes, rest: &str) -> Result<(), LineFault> {
     let (first, last, spelling) = range_of(rest)?;
     let template = text_of(alloc, spelling)?;
-    for number in first..=last {
+    let least = first.min(last);
+    for number in least..=first.max(last) {
+        let number = if first <= last {
+            number
+        } else {
+            first.saturating_sub(number.saturating_sub(least))
+        };
         append_numbered(alloc, out, template.as_bytes(), number)?;
     }
     Ok(())
