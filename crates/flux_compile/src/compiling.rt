@@ -8,7 +8,8 @@ ghost use Rattle.flux_compile.specs.steps.Segments.{segments_of};
 use crate::segments::segments_of;
 use flux_hoist::Checked;
 use flux_model::NodeNo;
-use flux_plan::{Plan, Segments, VerifiedPlan, VerifyFault, verify};
+use flux_plan::{Plan, Segments, VerifiedPlan};
+use flux_verify::{VerifyFault, verify};
 use flux_values::{List, Memory};
 use std::alloc::Global;
 

@@ -4,7 +4,7 @@ use Rattle.std.specs.Prelude.{IfSome, IfOk, IfErr, IsNone}
 use Rattle.std.specs.Cmp.Lexicographic.{nat_list_cmp_total}
 use Rattle.std.specs.FinMap as fin
 use Rattle.flux_library.specs.Documents.{DocMap}
-use Rattle.flux_library.specs.DocumentLaws.{same_docs}
+use Rattle.flux_library.specs.laws.Documents.{same_docs}
 use Rattle.flux_outside.specs.declared.memory.FileBytes.{FileBytes}
 use Rattle.flux_docs.specs.declared.faults.DocsFault.{DocsFault}
 use Rattle.flux_docs.specs.declared.faults.DocsFault.TheVariants.{Failed, Missing, TooLong, Memory}

@@ -3,7 +3,7 @@ use Rattle.std.proofs.Common.{◌≡◌, ◌++◌, ℕ, inl, inr, ◌⊎◌, Lis
 use Rattle.std.specs.Prelude.{option_to_list}
 use Rattle.std.proofs.lemmas.List.{append-nil}
 use Rattle.flux_library.specs.Documents.{DocMap}
-use Rattle.flux_library.specs.DocumentLaws.{same_docs}
+use Rattle.flux_library.specs.laws.Documents.{same_docs}
 use Rattle.flux_docs.proofs.Once.{one_docs, not_lost}
 use Rattle.flux_words.specs.Commands.{Command, check, plan, format, run, help}
 use Rattle.flux_driver.specs.declared.refusals.Refusal.{Refusal}

@@ -7,8 +7,6 @@
 mod faults;
 mod lines;
 mod places;
-#[cfg(test)]
-mod tests;
 
 pub use faults::{CheckFault, FaultKind, Place, StaticFault};
 pub use lines::fault_line;

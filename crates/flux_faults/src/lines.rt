@@ -6,8 +6,8 @@ ghost use Rattle.flux_faults.specs.steps.Arrows.{arrow_before};
 
 use crate::faults::{FaultKind, StaticFault};
 use crate::places::{PLACE_LIMIT, place};
-use flux_values::{Bytes, Memory, TextBytes};
 use flux_spelling::append_number;
+use flux_values::{Bytes, Memory, TextBytes};
 use std::alloc::Global;
 
 /// The line about a fault of the text, without a line end.

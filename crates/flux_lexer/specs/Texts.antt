@@ -5,8 +5,11 @@ use Rattle.flux_faults.specs.declared.faults.FaultKind.TheVariants.{TooLong, Bad
 use Rattle.flux_faults.specs.declared.faults.CheckFault.{CheckFault}
 use Rattle.flux_faults.specs.declared.faults.CheckFault.TheVariants.{Static, Memory}
 use Rattle.flux_lexer.specs.declared.kinds.Token.{Token}
-use Rattle.flux_lexer.specs.declared.reading.TheConstants.{PROGRAM_LIMIT}
 use Rattle.flux_lexer.specs.Pieces.{Piece, blank, remark, comment, token, Begins, BeginsNone, IsUnclosed}
+
+-- a program's text has at most so many bytes
+abbrev pub program_limit : ℕ
+program_limit = 1048576
 
 -- a piece with its length
 pub record Part : Type 0 where
@@ -34,21 +37,21 @@ tokens_of at (part ∷ parts) =
 
 -- the text isn't too long, and is laid out to its end with these tokens
 pub record AreTokensOf (tokens : List Token) (text : List ℕ) : Type 0 where
-  pub few : length text ≤ PROGRAM_LIMIT
+  pub few : length text ≤ program_limit
   pub parts : List Part
   pub laid : Laid parts [] text
   pub are : tokens ≡ tokens_of 0 parts
 
 -- the text isn't too long, and is laid out up to a place, from which on this is left
 pub record IsLaidUpTo (at : ℕ) (rest text : List ℕ) : Type 0 where
-  pub few : length text ≤ PROGRAM_LIMIT
+  pub few : length text ≤ program_limit
   pub parts : List Part
   pub laid : Laid parts rest text
   pub place : at + length rest ≡ length text
 
 -- fault 1: the text is too long
 abbrev pub IsTooLong : ℕ → List ℕ → Type 0
-IsTooLong at text = (at ≡ 0) × (PROGRAM_LIMIT < length text)
+IsTooLong at text = (at ≡ 0) × (program_limit < length text)
 
 -- fault 2: bytes are left of which no piece begins them, nor a comment that nothing closes
 pub record IsBadByte (at : ℕ) (text : List ℕ) : Type 0 where

@@ -8,8 +8,6 @@
 mod fronts;
 mod kinds;
 mod reading;
-#[cfg(test)]
-mod tests;
 
 pub use kinds::{Token, TokenKind};
 pub use reading::{PROGRAM_LIMIT, tokens};

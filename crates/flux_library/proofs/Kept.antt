@@ -10,7 +10,7 @@ use Rattle.std.specs.BTreeMap.{insert_entry, is_at}
 use Rattle.std.specs.FinMap as fin
 use Rattle.std.specs.FinMap.Entries.{put, find, find-put}
 use Rattle.flux_library.specs.Documents.{Bodies, AreBodies, IsBody, DocMap, added}
-use Rattle.flux_library.specs.DocumentLaws.{by_bytes, same_docs}
+use Rattle.flux_library.specs.laws.Documents.{by_bytes, same_docs}
 
 abbrev pub Tree : Type 0
 Tree = List (Vec ℕ Global × List ℕ)

@@ -1,9 +1,7 @@
 pub mod Libraries
 pub mod Types
-pub mod TypeLaws
 pub mod Signatures
 pub mod Answers
-pub mod AnswerLaws
 pub mod Sessions
 pub mod Documents
-pub mod DocumentLaws
+pub mod laws

@@ -4,7 +4,7 @@ ghost use Rattle.std.specs.Prelude.{◌≡◌, ◌<◌, ◌≤◌, ◌↔◌, Al
 ghost use Rattle.std.specs.FinMap as map;
 ghost use Rattle.std.proofs.Props.{props};
 ghost use Rattle.flux_library.specs.Documents.{AreBodies, added};
-ghost use Rattle.flux_library.specs.DocumentLaws.{by_bytes};
+ghost use Rattle.flux_library.specs.laws.Documents.{by_bytes};
 
 use flux_values::{Bytes, Memory};
 use std::alloc::Global;
@@ -26,7 +26,7 @@ pub struct Docs {
 impl Model for Docs {
     ghost use Rattle.std.specs.FinMap as map;
     ghost use Rattle.flux_library.specs.Documents.{DocMap};
-    ghost use Rattle.flux_library.specs.DocumentLaws.{by_bytes, doc_code};
+    ghost use Rattle.flux_library.specs.laws.Documents.{by_bytes, doc_code};
 
     ghost Value = { DocMap };
 

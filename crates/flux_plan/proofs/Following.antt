@@ -1,10 +1,9 @@
 -- From places in plans to walks: what a flow's place says of the flow's walk.
-use Rattle.std.proofs.Common.{◌≡◌, ◌⊎◌, inl, inr, ℕ, zero, suc, ◌+◌, List, [], ◌∷◌, ◌++◌, Option, Some, None, refl, sym, ap, ◌∙◌, subst, arith}
+use Rattle.std.proofs.Common.{◌≡◌, ℕ, zero, suc, List, [], ◌∷◌, ◌++◌, Option, Some, None, refl, sym, ap, ◌∙◌, subst}
 use Rattle.std.proofs.lemmas.List.{append-nil}
 use Rattle.std.specs.Prelude.{IsSome}
 use Rattle.std.specs.List.{slice_get}
 use Rattle.flux_values.specs.declared.values.Value.{Value}
-use Rattle.flux_values.specs.declared.answers.Mode.{Mode}
 use Rattle.flux_values.specs.declared.answers.Answer.{Answer}
 use Rattle.flux_model.specs.declared.programs.NodeNo.{NodeNo}
 use Rattle.flux_model.specs.declared.programs.ClassNo.{ClassNo}
@@ -21,9 +20,9 @@ use Rattle.flow_model.specs.declared.journals.Event.TheVariants as events
 use Rattle.flux_model.specs.Locks.{AreLocks}
 use Rattle.flow_model.specs.Walk.{Given, Walked, Stop, walk}
 use Rattle.flow_model.specs.Walk as walks
-use Rattle.flow_model.specs.Setup.{Setup, item_of}
-use Rattle.flow_model.specs.Flows.{given_for, target_walk, item_walk, flow_walk, flow_events, with_end, HasEnded, IsFinished}
-use Rattle.flow_model.specs.Events.{own_events, own_answers, FollowsWalk, IsNext, CallIsNext, IsWholePath}
+use Rattle.flow_model.specs.Setup.{Setup}
+use Rattle.flow_model.specs.Flows.{given_for, target_walk, item_walk, flow_walk, flow_events, with_end, HasEnded}
+use Rattle.flow_model.specs.Events.{own_events, own_answers, FollowsWalk, CallIsNext, IsWholePath}
 use Rattle.flux_plan.specs.declared.plans.Plan.{Plan}
 use Rattle.flux_plan.specs.declared.plans.Segment.{Segment}
 use Rattle.flux_plan.specs.declared.plans.Arm.{Arm}
@@ -33,10 +32,10 @@ use Rattle.flux_plan.specs.declared.stacks.Frame.{Frame}
 use Rattle.flux_plan.specs.declared.locals.Next.{Next}
 use Rattle.flux_plan.specs.declared.locals.Next.TheVariants as nexts
 use Rattle.flux_plan.specs.Machine.{State, Act, takes, enters, chooses, exits, drops, ends, Step, silent, acts, calls, ended, stuck, Matches, first_arm, chosen, handled, obeyed, step, step_over, step_in, step_of, answered, Position, fresh, at, state_in, values_at, beginning}
-use Rattle.flux_plan.specs.Runs.{event_of, Standing, at_end, at_call, nowhere, on_the_way, Ran, stands, after_event, run, run_step, run_call, still, run_of, RunsAs, IsPlanOf, AreLinePlans, ArePlansOf}
-use Rattle.flux_plan.specs.Moves.{next_act, next_by, next_in, IsEvent, called_by, called_over, called_in, code_of, settled, IsAtRest, HasReached, IsReached, Advances, answered_in, IsAnswered}
+use Rattle.flux_plan.specs.Runs.{event_of, at_end, at_call, on_the_way, Ran, after_event, run, run_step, still, run_of, RunsAs, IsPlanOf, AreLinePlans}
+use Rattle.flux_plan.specs.Moves.{next_act, next_by, next_in, IsEvent, called_by, called_over, called_in, code_of, settled, IsAtRest, HasReached, IsReached, Advances, IsAnswered}
 use Rattle.flux_plan.specs.Flows.{IsAt}
-use Rattle.flux_plan.proofs.RunLemmas.{behind, so_far, IsStill, run-add, run-answers, run-settled, run-front, Comes, comes-then}
+use Rattle.flux_plan.proofs.RunLemmas.{behind, so_far, IsStill, run-answers, run-settled, run-front, comes-then}
 
 -- the events that stand for what comes next; a call stands only with its answer
 abbrev pub events_for : (ClassNo → Key) → Next → List Event

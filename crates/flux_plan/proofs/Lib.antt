@@ -9,12 +9,4 @@ pub mod ReachedPlaces
 pub mod Answering
 pub mod RunLemmas
 pub mod Following
-pub mod Visiting
-pub mod Shaping
-pub mod holding
-pub mod Checking
-pub mod Stopping
-pub mod FirstFaults
-pub mod Settling
 pub mod Driving
-pub mod Grounding

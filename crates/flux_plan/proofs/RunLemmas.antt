@@ -1,16 +1,14 @@
 -- Runs, one after another: with more steps, and with more answers.
-use Rattle.std.proofs.Common.{◌≡◌, ◌⊎◌, inl, inr, ℕ, zero, suc, ◌+◌, ◌≤◌, List, [], ◌∷◌, ◌++◌, Option, Some, None, refl, sym, ap, ◌∙◌, subst, arith, append_assoc, zero-add}
-use Rattle.std.proofs.lemmas.List.{append-nil}
+use Rattle.std.proofs.Common.{◌≡◌, ℕ, zero, suc, ◌+◌, List, [], ◌∷◌, ◌++◌, refl, sym, ap, ◌∙◌, subst, arith, append_assoc, zero-add}
 use Rattle.flux_values.specs.declared.answers.Answer.{Answer}
 use Rattle.flux_model.specs.declared.programs.NodeNo.{NodeNo}
 use Rattle.flux_model.specs.declared.programs.ClassNo.{ClassNo}
 use Rattle.flow_model.specs.declared.journals.Key.{Key}
 use Rattle.flow_model.specs.declared.journals.Event.{Event}
-use Rattle.flow_model.specs.declared.journals.Event.TheVariants as events
 use Rattle.flux_plan.specs.declared.plans.Segment.{Segment}
-use Rattle.flux_plan.specs.Machine.{State, Act, Step, silent, acts, calls, ended, stuck, Matches, step, answered}
+use Rattle.flux_plan.specs.Machine.{State, Step, silent, acts, calls, ended, stuck, Matches, step, answered}
 use Rattle.flux_plan.specs.Moves.{after_silence, settled}
-use Rattle.flux_plan.specs.Runs.{event_of, Standing, at_end, at_call, nowhere, on_the_way, Ran, stands, after_event, run, run_step, run_call}
+use Rattle.flux_plan.specs.Runs.{event_of, Standing, at_end, at_call, nowhere, on_the_way, Ran, after_event, run, run_step, run_call}
 
 -- a run behind events
 abbrev pub behind : List Event → Ran → Ran

@@ -1,4 +1,4 @@
--- The faulty places of a plan, and which of them is named.
+-- The faulty places of a plan, and the plans without one.
 use Rattle.std.specs.Prelude.{◌≡◌, ◌≢◌, ℕ, ◌<◌, ◌≤◌, ◌^◌, List, length, Option, Some, None, ⊤}
 use Rattle.std.specs.List.{slice_get, AllByRecursion}
 use Rattle.flux_model.specs.declared.programs.NodeNo.{NodeNo}
@@ -7,8 +7,6 @@ use Rattle.flux_plan.specs.declared.plans.Plan.{Plan}
 use Rattle.flux_plan.specs.declared.plans.Segment.{Segment}
 use Rattle.flux_plan.specs.declared.plans.Instr.{Instr}
 use Rattle.flux_plan.specs.declared.plans.Instr.TheVariants.{Choose, Go}
-use Rattle.flux_plan.specs.declared.verified.VerifyFault.{VerifyFault}
-use Rattle.flux_plan.specs.declared.verified.VerifyFault.TheVariants.{Bad, Memory}
 use Rattle.flux_plan.specs.Reading.{Reading, whole, read_more, reading_at}
 use Rattle.flux_plan.specs.Leading.{led_by, Reaches, IsOnCycle, IsOpen}
 
@@ -55,17 +53,6 @@ IsFaulty plan node place = IsFaultIn plan node place (slice_get plan.segments no
 -- a plan without a faulty place
 pub record IsVerified (plan : Plan) : Type 0 where
   pub none : (node place : ℕ) → IsFaulty plan node place → ⊥
-
--- the lowest node that has a faulty place, and its first such place
-pub record IsFirstFault (plan : Plan) (node place : ℕ) : Type 0 where
-  pub faulty : IsFaulty plan node place
-  pub lowest : (other at : ℕ) → IsFaulty plan other at → node ≤ other
-  pub first : (at : ℕ) → IsFaulty plan node at → place ≤ at
-
--- what `verify` may answer instead of a plan; want of memory may come at any time
-abbrev pub IsFaultOf : Plan → VerifyFault → Type 0
-IsFaultOf plan (Bad node place) = IsFirstFault plan node.0 place
-IsFaultOf plan Memory = ⊤
 
 -- numbers of nodes, places and arms fit 32 bits
 abbrev pub AreFewArms : Instr → Type 0

@@ -5,5 +5,4 @@ pub mod Flows
 pub mod Reading
 pub mod Leading
 pub mod Faulty
-pub mod Holding
 pub mod steps

@@ -2,7 +2,3 @@
 pub mod Stacks
 pub mod Placed
 pub mod Turns
-pub mod Visits
-pub mod Shapes
-pub mod Checks
-pub mod Orders

@@ -5,23 +5,15 @@
 #![tactic(auto)]
 
 mod carried;
-mod checks;
 mod handlers;
-mod laws;
 mod locals;
 mod machines;
 mod moving;
-mod orders;
 mod plans;
-mod reaching;
-mod shapes;
 mod stacks;
-mod takes;
 mod verified;
-mod verifying;
 
-pub use laws::verified_plans_take_in_order;
 pub use locals::{Local, Next};
 pub use moving::{advance, answered, next};
 pub use plans::{Arm, Instr, Plan, Segment, Segments};
-pub use verified::{VerifiedPlan, VerifyFault, verify};
+pub use verified::VerifiedPlan;

@@ -10,9 +10,9 @@ ghost use Rattle.flux_plan.specs.steps.Turns.{StandsAt, fitting, found_place, Is
 use crate::handlers::handler_for;
 use crate::plans::{Arm, Instr, Plan};
 use crate::stacks::Frame;
+use flow_model::Outcome;
 use flux_library::Library;
 use flux_model::{HandleArm, NodeNo, Program};
-use flow_model::Outcome;
 use flux_values::Value;
 
 /// The code of a failure of a node none of whose cases matches.

@@ -14,9 +14,9 @@ use crate::carried::Carried;
 use crate::locals::Next;
 use crate::machines::{Entering, Landing, Machine};
 use crate::plans::{Instr, Plan};
+use flow_model::Outcome;
 use flux_library::Library;
 use flux_model::NodeNo;
-use flow_model::Outcome;
 use flux_values::{Answer, CallResult, List, Memory, Value};
 use std::alloc::Global;
 

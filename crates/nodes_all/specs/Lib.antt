@@ -1,3 +1,3 @@
 pub mod Joined
 pub mod Alls
-pub mod AllLaws
+pub mod laws

@@ -21,7 +21,7 @@ impl Meaning for All {
 }
 
 impl Library for All {
-    ghost use Rattle.nodes_all.specs.AllLaws.{all_lawful};
+    ghost use Rattle.nodes_all.specs.laws.Alls.{all_lawful};
 
     fn kind(&self, ty: &[u8]) -> Option<Kind> {
         kind_spelled(ty)

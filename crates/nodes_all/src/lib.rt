@@ -7,8 +7,6 @@
 
 mod all;
 mod groups;
-#[cfg(test)]
-mod tests;
 
 pub use all::All;
 pub use groups::{has_caching, has_counter, has_web};

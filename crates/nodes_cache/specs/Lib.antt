@@ -1,6 +1,6 @@
 pub mod Nodes
 pub mod Entries
 pub mod Calls
-pub mod steps
 pub mod Cachings
-pub mod CachingLaws
+pub mod laws
+pub mod steps

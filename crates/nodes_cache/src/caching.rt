@@ -22,7 +22,7 @@ impl Meaning for Caching {
 }
 
 impl Library for Caching {
-    ghost use Rattle.nodes_cache.specs.CachingLaws.{caching_lawful};
+    ghost use Rattle.nodes_cache.specs.laws.Cachings.{caching_lawful};
 
     fn kind(&self, ty: &[u8]) -> Option<Kind> {
         kind_spelled(ty)

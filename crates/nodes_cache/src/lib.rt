@@ -10,8 +10,6 @@ mod changes;
 mod entries;
 mod nodes;
 mod predicates;
-#[cfg(test)]
-mod tests;
 
 pub use caching::Caching;
 pub use entries::{ENTRY_LIMIT, NAME_LIMIT};

@@ -7,7 +7,7 @@ use Rattle.flux_values.specs.declared.values.Value.{Value}
 use Rattle.flux_values.specs.declared.values.Value.TheVariants as values
 use Rattle.flux_values.specs.Spellings.{Spells, IsLongest, IsOrMemory}
 use Rattle.nodes_counter.specs.Numbers.{int_spelled, number_of}
-use Rattle.nodes_counter.specs.SpellingLaws.{int_sound, int_complete}
+use Rattle.nodes_counter.specs.laws.Spellings.{int_sound, int_complete}
 
 -- what the reader says of each longest spelling
 abbrev pub Answers : List ℕ → Result (Value × ℕ) ValueFault → Type 0

@@ -2,5 +2,4 @@ pub mod Numbers
 pub mod Nodes
 pub mod Calls
 pub mod Counters
-pub mod SpellingLaws
-pub mod CounterLaws
+pub mod laws

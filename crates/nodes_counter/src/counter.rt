@@ -20,7 +20,7 @@ impl Meaning for Counter {
 }
 
 impl Library for Counter {
-    ghost use Rattle.nodes_counter.specs.CounterLaws.{counter_lawful};
+    ghost use Rattle.nodes_counter.specs.laws.Counters.{counter_lawful};
 
     fn kind(&self, ty: &[u8]) -> Option<Kind> {
         kind_spelled(ty)

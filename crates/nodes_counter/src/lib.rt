@@ -8,8 +8,6 @@ mod calls;
 mod commands;
 mod counter;
 mod nodes;
-#[cfg(test)]
-mod tests;
 
 pub use commands::spelled_int;
 pub use counter::Counter;

@@ -5,7 +5,7 @@ use Rattle.httparse.specs.Grammar.{RequestHead}
 use Rattle.httparse.proofs.GrammarLemmas.{request_unique}
 use Rattle.flux_library.specs.Answers.{fails}
 use Rattle.nodes_web.specs.Heads.{Front, headed, headless}
-use Rattle.nodes_web.specs.HeadLaws.{cut_fits, head_fits}
+use Rattle.nodes_web.specs.laws.Heads.{cut_fits, head_fits}
 use Rattle.nodes_web.specs.Requests.{is_served, path_of, AreAskedIn, AsksNothing}
 use Rattle.nodes_web.specs.Calls.{two, read_front}
 

@@ -5,7 +5,5 @@ pub mod Replies
 pub mod Nodes
 pub mod Calls
 pub mod Webs
-pub mod HeadLaws
-pub mod ReplyLaws
-pub mod WebLaws
+pub mod laws
 pub mod steps

@@ -12,8 +12,6 @@ mod nodes;
 mod predicates;
 mod replies;
 mod requests;
-#[cfg(test)]
-mod tests;
 mod web;
 
 pub use nodes::Node;

@@ -23,7 +23,7 @@ impl Meaning for Web {
 }
 
 impl Library for Web {
-    ghost use Rattle.nodes_web.specs.WebLaws.{web_lawful};
+    ghost use Rattle.nodes_web.specs.laws.Webs.{web_lawful};
 
     fn kind(&self, ty: &[u8]) -> Option<Kind> {
         kind_spelled(ty)

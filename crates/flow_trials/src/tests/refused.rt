@@ -26,7 +26,7 @@ impl Meaning for Refusing {
 }
 
 impl Library for Refusing {
-    ghost use Rattle.nodes_counter.specs.CounterLaws.{counter_lawful};
+    ghost use Rattle.nodes_counter.specs.laws.Counters.{counter_lawful};
 
     fn kind(&self, ty: &[u8]) -> Option<Kind> {
         Counter.kind(ty)

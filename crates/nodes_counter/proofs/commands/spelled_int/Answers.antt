@@ -1,5 +1,5 @@
 use Rattle.std.proofs.Common.{◌∙◌, arith, None}
-use Rattle.nodes_counter.specs.SpellingLaws.{spelled_exactly}
+use Rattle.nodes_counter.specs.laws.Spellings.{spelled_exactly}
 use Rattle.nodes_counter.proofs.Spelled.{refused, left_over, to_the_end}
 use Rattle.nodes_counter.proofs.commands.spelled_int.Goals as goal
 

@@ -6,7 +6,7 @@ use Rattle.flux_plan.proofs.Acting.{behind_placed, moves_on, moves_out, on_ok}
 use Rattle.flux_plan.proofs.stacks.Stack.advance.Goals as goal
 
 pub land-landing-requires-clause-placed : goal.land-landing-requires-clause-placed
-land-landing-requires-clause-placed g c κs within =
+land-landing-requires-clause-placed g c =
     let own = c.args.self.now in
     let matches = patterns_match (g.L.Meaning.meaning c.args.machine.now.library.now) c.args.machine.now.program.now.predicates in
     rw c.deref.ensures.value (behind_placed c.args.machine.now.plan.now c.requires.verified matches own.frames.items own.values own.outcome c.in-Some.place c.requires.placed c.in-Some.ensures)

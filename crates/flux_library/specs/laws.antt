@@ -1,0 +1,4 @@
+-- Laws of the definitions, which the trait of libraries asks for. Nobody has to believe them.
+pub mod Types
+pub mod Answers
+pub mod Documents

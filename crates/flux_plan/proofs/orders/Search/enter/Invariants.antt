@@ -1,5 +1,0 @@
-use Rattle.std.proofs.Common.{◌≡◌}
-use Rattle.flux_plan.proofs.orders.Search.enter.Given as goal
-
-abbrev pub invariant-loop-led : goal.invariant-loop-led
-invariant-loop-led l = l.self.known ≡ l.fn.self.known
