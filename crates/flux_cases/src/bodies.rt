@@ -9,7 +9,7 @@ use flux_values::{Bytes, List, Memory};
 use std::alloc::Global;
 
 /// Documents of one body. `{n}` in the name stands for each number in turn.
-#[derive(Debug, Drop)]
+#[derive(Drop)]
 pub struct Documents {
     pub first: usize,
     pub last: usize,
@@ -64,11 +64,10 @@ fn append_part(alloc: Global, out: &mut Bytes, part: &[u8], number: usize) -> Re
 
 /// Whether a line is a piece of what the line before it began.
 pub fn is_piece(line: &str) -> bool {
-    line.starts_with('|')
-        || line.starts_with('"')
-        || line.starts_with('<')
-        || line.starts_with("for ")
-        || line.contains(" times \"")
+    match line.as_bytes() {
+        [b'|' | b'"' | b'<' | b'0'..=b'9', ..] => true,
+        _ => line.starts_with("for "),
+    }
 }
 
 /// Adds what a piece stands for. The lines are those before it, with the texts that it may name.
@@ -94,11 +93,20 @@ pub fn append_piece(
     }
 }
 
-/// Adds a text so many times.
+/// Adds a text so many times: where the count is odd once, and then half as often what is twice as long.
 fn append_times(alloc: Global, out: &mut Bytes, count: usize, text: &str) -> Result<(), LineFault> {
-    let text = text_of(alloc, text)?;
-    for _ in 0..count {
-        out.append(text.as_bytes())?;
+    let mut block = text_of(alloc, text)?;
+    let mut left = count;
+    for _ in 0..usize::BITS {
+        if left % 2 == 1 {
+            out.append(block.as_bytes())?;
+        }
+        left /= 2;
+        if left == 0 {
+            break;
+        }
+        let again = Bytes::copy(alloc, block.as_bytes())?;
+        block.append(again.as_bytes())?;
     }
     Ok(())
 }
@@ -138,14 +146,15 @@ fn append_named(
     let Some((name, "")) = piece.trim_start_matches('<').split_once('>') else {
         return Err(LineFault::NoLine);
     };
-    let text = lines.iter().find_map(|line| match &line.entry {
-        Entry::Text(text) if text.name.as_bytes() == name.as_bytes() => Some(text),
-        _ => None,
-    });
-    match text {
-        Some(text) => Ok(out.append(text.body.as_bytes())?),
-        None => Err(LineFault::NoLine),
+    for line in lines {
+        match &line.entry {
+            Entry::Text(text) if text.name.as_bytes() == name.as_bytes() => {
+                return Ok(out.append(text.body.as_bytes())?);
+            }
+            _ => {}
+        }
     }
+    Err(LineFault::NoLine)
 }
 
 /// A name, with the piece that stands behind it or nothing.

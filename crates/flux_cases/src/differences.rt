@@ -9,7 +9,7 @@ use std::alloc::Global;
 const SHOWN: usize = 160;
 
 /// A line for each thing that differs.
-#[derive(Debug, Drop)]
+#[derive(Drop)]
 pub struct Differences {
     alloc: Global,
     lines: List<Bytes>,

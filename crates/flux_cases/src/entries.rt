@@ -5,14 +5,14 @@ use flux_outside::FileBytes;
 use flux_values::{Bytes, List};
 
 /// The stream that is printed on, or the one for lines about what went wrong.
-#[derive(Clone, Copy, Debug, PartialEq, Eq)]
+#[derive(Clone, Copy, PartialEq, Eq)]
 pub enum Stream {
     Out,
     Err,
 }
 
 /// What has calls that may fail.
-#[derive(Clone, Copy, Debug, PartialEq, Eq)]
+#[derive(Clone, Copy, PartialEq, Eq)]
 pub enum Part {
     Store,
     Folder,
@@ -20,7 +20,7 @@ pub enum Part {
 }
 
 /// What a stream has to gain: all of a text, or a front of it.
-#[derive(Debug, Drop)]
+#[derive(Drop)]
 pub struct Gain {
     pub front: bool,
     pub text: Bytes,
@@ -33,7 +33,7 @@ impl Gain {
     }
 }
 
-#[derive(Debug, Drop)]
+#[derive(Drop)]
 pub enum Entry {
     /// What follows up to the first case holds for each case up to the next such line.
     Shared,
@@ -59,7 +59,7 @@ pub enum Entry {
 }
 
 /// An entry, and the number of the line that it begins with.
-#[derive(Debug, Drop)]
+#[derive(Drop)]
 pub struct Line {
     pub number: usize,
     pub entry: Entry,

@@ -68,7 +68,7 @@ fn judge_lines<Rt: Threads + Wait + Sync>(
     if tell_faulty(alloc, report, file, own)? {
         return Ok(());
     }
-    let differences = judge(rt, alloc, &Case { own, shared })?;
+    let differences = judge(rt, alloc, &Case::of(own, shared))?;
     if !differences.lines().is_empty() {
         report.add_wrong(alloc, file, head.number, name.as_str())?;
         for line in differences.lines() {
@@ -85,13 +85,13 @@ fn judge<Rt: Threads + Wait + Sync>(
     case: &Case,
 ) -> Result<Differences, Memory> {
     let mut differences = Differences::new(alloc);
-    let Some(words) = case.words() else {
+    let Some(words) = case.words else {
         differences.tell(b"it has no words")?;
         return Ok(differences);
     };
     let mut world = world_of(alloc, case)?;
     let status = top(rt, alloc, words, &mut world, &OpenGate);
-    differences.compare_status(status.code(), case.status())?;
+    differences.compare_status(status.code(), case.status.unwrap_or(0))?;
     differences.compare_gain(
         b"out",
         Stream::Out,
@@ -104,7 +104,7 @@ fn judge<Rt: Threads + Wait + Sync>(
         world.err.written(),
         case.gains(Stream::Err),
     )?;
-    differences.compare_names(b"asked", world.store.names.all(), case.asked())?;
-    differences.compare_names(b"opened", world.folder.names.all(), case.opened())?;
+    differences.compare_names(b"asked", world.store.names.all(), case.asked)?;
+    differences.compare_names(b"opened", world.folder.names.all(), case.opened)?;
     Ok(differences)
 }

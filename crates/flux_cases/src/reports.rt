@@ -5,7 +5,7 @@ use flux_values::{Bytes, Memory};
 use std::alloc::Global;
 
 /// The lines about wrong cases, and how many cases there were and how many were wrong.
-#[derive(Debug, Drop)]
+#[derive(Drop)]
 pub struct Report {
     text: Bytes,
     cases: u64,

@@ -5,7 +5,7 @@ use std::alloc::{AllocError, AllocFailed};
 use std::io::{self, ErrorKind};
 
 /// Why the program came to no end.
-#[derive(Clone, Copy, Debug, PartialEq, Eq)]
+#[derive(Clone, Copy)]
 pub enum Trouble {
     /// A case file was not read, or the output failed.
     System,
@@ -50,7 +50,7 @@ impl From<io::Error> for Trouble {
 }
 
 /// Why a line was not read.
-#[derive(Clone, Copy, Debug, PartialEq, Eq)]
+#[derive(Clone, Copy)]
 pub enum LineFault {
     /// It is no line of a case file.
     NoLine,

@@ -5,7 +5,7 @@ use flux_values::{Bytes, List};
 use std::alloc::Global;
 
 /// Names in the order in which they were asked for.
-#[derive(Debug, Drop)]
+#[derive(Drop)]
 pub struct Names {
     alloc: Global,
     names: List<Bytes>,
@@ -42,7 +42,7 @@ impl Names {
     }
 }
 
-#[derive(Debug, Drop)]
+#[derive(Drop)]
 pub struct WatchedStore {
     pub store: MemoryStore,
     pub names: Names,
@@ -64,7 +64,7 @@ impl Store for WatchedStore {
     }
 }
 
-#[derive(Debug, Drop)]
+#[derive(Drop)]
 pub struct WatchedFolder {
     pub folder: MemoryFolder,
     pub names: Names,

@@ -2,7 +2,7 @@
 
 ghost use Rattle.std.specs.Prelude.{◌<◌};
 
-use crate::cases::Case;
+use crate::cases::{Case, Shape};
 use crate::entries::{Entry, Part, Stream};
 use crate::watched::{Names, WatchedFolder, WatchedStore};
 use flux_driver::World;
@@ -40,17 +40,17 @@ fn folder(alloc: Global, case: &Case) -> Result<WatchedFolder, Memory> {
         }
     }
     // A folder without a name is asked for by no words.
-    let dir = Bytes::copy(alloc, case.folder().unwrap_or(b""))?;
+    let dir = Bytes::copy(alloc, case.folder.unwrap_or(b""))?;
     Ok(WatchedFolder {
         folder: MemoryFolder::new(dir, docs, case.fails(alloc, Part::Folder)?),
         names: Names::new(alloc),
     })
 }
 
-fn sink(alloc: Global, case: &Case, stream: Stream) -> Result<MemorySink, Memory> {
-    let room = case.room(stream).unwrap_or(ROOM);
-    let piece = case.piece(stream).unwrap_or(ROOM).max(1);
-    MemorySink::new(alloc, room, piece, case.fails(alloc, Part::Stream(stream))?)
+fn sink(alloc: Global, shape: Shape, fails: List<u64>) -> Result<MemorySink, Memory> {
+    let room = shape.room.unwrap_or(ROOM);
+    let piece = shape.piece.unwrap_or(ROOM).max(1);
+    MemorySink::new(alloc, room, piece, fails)
 }
 
 /// The world that a case's command line meets.
@@ -58,7 +58,15 @@ pub fn world_of(alloc: Global, case: &Case) -> Result<Memories, Memory> {
     Ok(World {
         store: store(alloc, case)?,
         folder: folder(alloc, case)?,
-        out: sink(alloc, case, Stream::Out)?,
-        err: sink(alloc, case, Stream::Err)?,
+        out: sink(
+            alloc,
+            case.out,
+            case.fails(alloc, Part::Stream(Stream::Out))?,
+        )?,
+        err: sink(
+            alloc,
+            case.err,
+            case.fails(alloc, Part::Stream(Stream::Err))?,
+        )?,
     })
 }
