@@ -10,4 +10,3 @@ pub mod Exclusion
 pub mod Waits
 pub mod Legal
 pub mod Texts
-pub mod Examples

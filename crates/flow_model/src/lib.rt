@@ -6,7 +6,5 @@
 #![tactic(auto)]
 
 mod journals;
-mod laws;
 
 pub use journals::{CallMade, Entry, Event, Journal, Key, Outcome};
-pub use laws::worked_examples;

@@ -6,5 +6,6 @@ pub mod Ends
 pub mod Descending
 pub mod ClearingLemmas
 pub mod Back
+pub mod LeaderLists
 pub mod Depths
 pub mod Fillings

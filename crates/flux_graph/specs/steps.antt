@@ -4,4 +4,4 @@ pub mod Stops
 pub mod Returning
 pub mod Clearing
 pub mod Descending
-pub mod Plain
+pub mod Leaders

@@ -2,10 +2,12 @@
 //!
 //! Where a node leads on to another that doesn't lead back, the other, or a node on a cycle with it, is left after all
 //! nodes on a cycle with the first. So `clearing`, which goes through this order from its end, is fast and clears each
-//! node that is on no cycle. No answer rests on that: contracts say nothing of the order.
+//! node that is on no cycle. No answer rests on that: contracts say nothing of the order, but that each node is among
+//! those that lead to what it leads to.
 
-ghost use Rattle.std.specs.Prelude.{◌≤◌, length};
+ghost use Rattle.std.specs.Prelude.{◌≡◌, ◌≤◌, length, IfOk, OnOk};
 ghost use Rattle.flux_model.specs.declared.programs.TheConstants.{COUNT_LIMIT};
+ghost use Rattle.flux_graph.specs.steps.Leaders.{with_leader, LeadsToAll, HaveLeaders};
 
 use crate::steps::{Step, enter_all, enter_below};
 use flux_model::{Node, NodeNo, Visits};
@@ -22,7 +24,7 @@ struct Leaving {
 
 impl Leaving {
     /// Goes from a node to those that lead to it.
-    fn enter(&mut self, leaders: &[Vec<NodeNo>], node: NodeNo) -> Result<(), Memory> {
+    fn enter(&mut self, leaders: &[List<NodeNo>], node: NodeNo) -> Result<(), Memory> {
         self.entered.add(node.0)?;
         self.steps.add(Step::Leave(node))?;
         match leaders.get(node.0 as usize) {
@@ -47,20 +49,51 @@ impl Leaving {
     }
 }
 
-/// For each node those that lead to it.
-fn leaders(alloc: Global, nodes: &[Node]) -> Result<Vec<Vec<NodeNo>>, Memory>
-    requires few { length nodes.now ≤ COUNT_LIMIT }
+fn no_leaders(alloc: Global, count: usize) -> Result<Vec<List<NodeNo>>, Memory>
+    ensures { IfOk result (λ leaders. length leaders.items ≡ count) }
 {
     let mut leaders = Vec::new(alloc);
-    for _ in nodes {
-        leaders.push(Vec::new(alloc))?;
+    for _ in 0..count {
+        leaders.push(List::new(alloc))?;
     }
+    Ok(leaders)
+}
+
+/// Adds a node to those that lead to another, if there is such a one.
+fn add_leader(leaders: &mut Vec<List<NodeNo>>, led: NodeNo, node: NodeNo) -> Result<(), Memory>
+    ensures { OnOk result
+        (leaders.new.items ≡ with_leader leaders.old.items led.0 node) }
+{
+    let place = led.0 as usize;
+    if place < leaders.len() {
+        leaders[place].add(node)?;
+    }
+    Ok(())
+}
+
+/// Adds a node to those that lead to each of the nodes that it leads to.
+fn add_leader_of_all(
+    leaders: &mut Vec<List<NodeNo>>,
+    led: &[NodeNo],
+    node: NodeNo,
+) -> Result<(), Memory>
+    ensures { OnOk result (LeadsToAll node led.now leaders.old.items leaders.new.items) }
+{
+    for number in led {
+        add_leader(leaders, *number, node)?;
+    }
+    Ok(())
+}
+
+/// For each node those that lead to it.
+fn leaders(alloc: Global, nodes: &[Node]) -> Result<Vec<List<NodeNo>>, Memory>
+    requires few { length nodes.now ≤ COUNT_LIMIT }
+    ensures { IfOk result (λ leaders. HaveLeaders nodes.now leaders.items) }
+{
+    let mut leaders = no_leaders(alloc, nodes.len())?;
     for (number, node) in nodes.iter().enumerate() {
-        for led in node.leads_to(alloc)?.as_slice() {
-            if let Some(list) = leaders.get_mut(led.0 as usize) {
-                list.push(NodeNo(number as u32))?;
-            }
-        }
+        let led = node.leads_to(alloc)?;
+        add_leader_of_all(&mut leaders, led.as_slice(), NodeNo(number as u32))?;
     }
     Ok(leaders)
 }

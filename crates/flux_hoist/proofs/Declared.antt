@@ -22,7 +22,8 @@ use Rattle.flux_hoist.specs.steps.Joining.{AreJoined}
 use Rattle.flux_hoist.specs.steps.Lowest.{lowest_among, IsLowest, Finds, AreLowest, IsCausal}
 use Rattle.flux_hoist.specs.steps.Declaring.{AreOwn, AreFewer, AreTables, KnowsAll, table_of}
 use Rattle.flux_hoist.proofs.Grown.{grown}
-use Rattle.flux_hoist.proofs.Joins.{has_itself, has_on}
+use Rattle.flux_constraints.proofs.Joins.{has_itself}
+use Rattle.flux_hoist.proofs.Joins.{has_on}
 use Rattle.flux_hoist.proofs.Hoisted.{under_below, below_path}
 use Rattle.flux_hoist.proofs.LowestNodes.{IsAmong, among_is, lowest_like}
 
@@ -75,6 +76,12 @@ fewer_next sets i d count more lt below le own number hold low c = elim (cases_o
   | inr (inl less) ↦ let few = below number hold less c in omega (arith, few, le)
   | inr (inr high) ↦ absurd (omega (arith, high, low))
 ]
+
+-- the classes of one set are below what all are below
+pub fewer_here : (sets : List (List Hold)) (i : ℕ) (d : List Hold) (count : ℕ) → i < length sets → AreFewer sets count
+    → (hold : Hold) → Contains (get_or sets i d) hold → hold.class.0 < count
+fewer_here sets i d count lt fewer hold is =
+    fewer i hold (subst (λ (found : Option (List Hold)). Contains (unwrap_or found []) hold) (sym (slice_get-get_or sets i d lt)) is)
 
 pub fewer_end : (sets : List (List Hold)) (i count : ℕ) → length sets ≤ i → AreFirstFewer sets i count → (number : ℕ) (hold : Hold) → Contains (held_by sets number) hold → hold.class.0 < count
 fewer_end sets i count le below number hold c = one (ltb number i) refl

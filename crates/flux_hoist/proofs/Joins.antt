@@ -1,29 +1,20 @@
 -- Holds that join a set, part by part.
-use Rattle.std.proofs.Common.{◌≡◌, ◌<◌, ◌+◌, ℕ, zero, suc, true, inl, inr, List, [], ◌∷◌, ◌++◌, length, get_or, take, refl, sym, ap, subst, ◌∙◌, arith}
+use Rattle.std.proofs.Common.{◌≡◌, ◌<◌, ◌+◌, ℕ, zero, suc, inl, inr, List, [], ◌∷◌, ◌++◌, length, get_or, take, refl, sym, ap, subst, ◌∙◌, arith}
 use Rattle.std.specs.List.{Contains, flat_map}
 use Rattle.std.proofs.lemmas.List.{take_more, append-nil}
 use Rattle.std.proofs.lemmas.Grind.{flat_map-append}
 use Rattle.std.proofs.lemmas.List.Elements.{Contains-append_left, Contains-append_right, Contains-append_cases}
-use Rattle.flux_values.specs.declared.answers.Mode.{Mode}
-use Rattle.flux_values.specs.declared.answers.Mode.TheVariants.{Reader, Writer}
 use Rattle.flux_model.specs.declared.programs.Hold.{Hold}
 use Rattle.flux_model.specs.declared.programs.NodeNo.{NodeNo}
 use Rattle.flux_model.specs.declared.programs.Case.{Case}
-use Rattle.flux_model.specs.Modes.{at_least}
 use Rattle.flux_model.specs.Locks.{AreRising, HasAtLeast}
 use Rattle.flux_model.specs.Children.{IsIn}
 use Rattle.flux_model.proofs.Hoisting.{at_least_on}
 use Rattle.flux_model.proofs.RisingHolds.{contains_none}
 use Rattle.flux_constraints.specs.ClassSets.{IsJoined}
+use Rattle.flux_constraints.proofs.Joins.{has_itself}
 use Rattle.flux_hoist.specs.Sets.{held_by}
 use Rattle.flux_hoist.specs.steps.Joining.{AreJoined, held_at, held_by_all, held_by_cases}
-
-at_least_itself : (m : Mode) → at_least m m ≡ true
-at_least_itself Reader = refl
-at_least_itself Writer = refl
-
-pub has_itself : (hs : List Hold) (h : Hold) → Contains hs h → HasAtLeast hs h
-has_itself hs h c = record { mode = h.mode; has = c; enough = at_least_itself h.mode }
 
 -- what has each hold of a set has what that set has
 pub has_on : (hs is : List Hold) (h : Hold) → ((x : Hold) → Contains hs x → HasAtLeast is x) → HasAtLeast hs h → HasAtLeast is h

@@ -10,5 +10,4 @@ pub mod SaidPieces
 pub mod ReportOnce
 pub mod PlanSizes
 pub mod SizesCounted
-pub mod Orders
-pub mod Lonely
+pub mod TypedKinds

@@ -18,7 +18,7 @@ use Rattle.flux_hoist.specs.Printed.{printed_hold}
 use Rattle.flux_hoist.specs.Reports.{IsCause, IsLine, line_of, IsSaid, ArePieces}
 use Rattle.flux_hoist.specs.steps.Appending.{HasGained}
 use Rattle.flux_hoist.specs.steps.Lowest.{lowest_among, IsLowest, AreLowest, IsCausal}
-use Rattle.flux_hoist.proofs.Joins.{has_itself}
+use Rattle.flux_constraints.proofs.Joins.{has_itself}
 use Rattle.flux_hoist.proofs.Declared.{lowest_below}
 
 -- ---- pieces in a row

@@ -6,10 +6,13 @@ use Rattle.flux_model.specs.declared.programs.Node.{Node}
 use Rattle.flux_model.specs.declared.programs.SourceLine.{SourceLine}
 use Rattle.flux_model.specs.Locks.{Holds}
 use Rattle.flux_model.specs.Sizes.{size_of}
-use Rattle.flux_hoist.specs.declared.checked.TheConstants.{SIZE_LIMIT}
+
+-- the most that the sizes of a program's sources sum to
+abbrev pub size_limit : ℕ
+size_limit = 65536
 
 abbrev pub capped : ℕ → ℕ
-capped size = min size (SIZE_LIMIT + 1)
+capped size = min size (size_limit + 1)
 
 -- the size at a node's number; what is no node has none
 abbrev pub size_at : List ℕ → ℕ → ℕ

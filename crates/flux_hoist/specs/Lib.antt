@@ -1,3 +1,4 @@
+pub mod Types
 pub mod Keeping
 pub mod Sets
 pub mod Counted

@@ -18,7 +18,7 @@ use Rattle.flux_model.specs.Kinds.{sig_at}
 use Rattle.flux_model.specs.Locks.{Holds}
 use Rattle.flux_model.specs.Sizes.{size_of, source_size}
 use Rattle.flux_model.specs.Texts.{node_name}
-use Rattle.flux_hoist.specs.declared.checked.TheConstants.{SIZE_LIMIT}
+use Rattle.flux_hoist.specs.Counted.{size_limit}
 use Rattle.flux_hoist.specs.Printed.{printed_hold}
 
 -- ---- the parts of a line
@@ -39,7 +39,7 @@ printed_holds p (hold ∷ holds) =
 
 -- a size, or `large` for one above 65,536
 abbrev pub printed_size : ℕ → List ℕ
-printed_size size = if nat_lt SIZE_LIMIT size then codes "large" else decimal size
+printed_size size = if nat_lt size_limit size then codes "large" else decimal size
 
 -- a session function's name, or `-`
 abbrev pub printed_function : Option (List ℕ) → List ℕ

@@ -5,5 +5,3 @@ pub mod Sizing
 pub mod Lowest
 pub mod Declaring
 pub mod Appending
-pub mod Orders
-pub mod Alone

@@ -2,7 +2,7 @@
 //!
 //! For each class and mode one pass along the order fills a table, in time near the number of nodes and of what they lead to.
 
-ghost use Rattle.std.specs.Prelude.{◌≡◌, ◌<◌, ◌≤◌, ◌^◌, ◌↔◌, [], IfOk, IsTrue, None, fold, length};
+ghost use Rattle.std.specs.Prelude.{◌≡◌, ℕ, ◌<◌, ◌≤◌, ◌^◌, ◌↔◌, [], IfOk, IsTrue, None, fold, length};
 ghost use Rattle.std.specs.List.{Contains};
 ghost use Rattle.flux_model.specs.declared.programs.Hold.{Hold};
 ghost use Rattle.flux_model.specs.Leading.{members_of, handlers_of, leads_to};
@@ -11,7 +11,7 @@ ghost use Rattle.flux_model.specs.Locks.{HasAtLeast};
 ghost use Rattle.flux_hoist.specs.Sets.{held_by};
 ghost use Rattle.flux_hoist.specs.steps.Joining.{AreJoined};
 ghost use Rattle.flux_hoist.specs.steps.Lowest.{lower, node_at, lowest_among, AreLowest};
-ghost use Rattle.flux_hoist.specs.steps.Declaring.{AreOwn, AreFewer, AreTables, KnowsAll, table_at, table_of};
+ghost use Rattle.flux_hoist.specs.steps.Declaring.{AreOwn, IsClassCount, AreTables, HasTables, KnowsAll, table_at, table_of};
 
 use crate::hoisting::join_holds;
 use flux_constraints::ClassSet;
@@ -172,7 +172,8 @@ fn tables(
     requires ordered { IsOrder nodes.now order.now }
     requires own { AreOwn nodes.now own.now }
     requires few { count ≤ 2 ^ 32 }
-    ensures { IfOk result (AreTables nodes.now mode count) }
+    ensures tables { IfOk result (AreTables nodes.now mode count) }
+    ensures many { IfOk result (λ tables. length tables ≡ count) }
 {
     let mut tables = List::new(alloc);
     for number in 0..count {
@@ -185,6 +186,8 @@ fn tables(
 /// One more than the number of a set's greatest class, and 0 for the empty set.
 fn past_greatest(set: &ClassSet) -> usize
     ensures all { (hold : Hold) → Contains set.now hold → hold.class.0 < result }
+    ensures least { (other : ℕ) → ((hold : Hold) → Contains set.now hold → hold.class.0 < other)
+        → result ≤ other }
     ensures few { result ≤ 2 ^ 32 }
 {
     match set.greatest() {
@@ -195,7 +198,7 @@ fn past_greatest(set: &ClassSet) -> usize
 
 /// How many classes there are up to the greatest that a set has.
 fn class_count(sets: &[ClassSet]) -> usize
-    ensures all { AreFewer sets.now result }
+    ensures count { IsClassCount sets.now result }
     ensures few { result ≤ 2 ^ 32 }
 {
     let mut count = 0;
@@ -217,7 +220,8 @@ impl Declarers {
         sets: &[ClassSet],
     ) -> Result<Declarers, Memory>
         requires ordered { IsOrder nodes.now order.now }
-        ensures { IfOk result (KnowsAll nodes.now sets.now) }
+        ensures known { IfOk result (KnowsAll nodes.now sets.now) }
+        ensures tables { IfOk result (HasTables sets.now) }
     {
         let count = class_count(sets);
         let own = declared_sets(alloc, nodes)?;

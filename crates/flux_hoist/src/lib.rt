@@ -14,8 +14,6 @@ mod plans;
 mod printing;
 mod reports;
 mod sizes;
-#[cfg(test)]
-mod tests;
 
 pub use checked::{Checked, SIZE_LIMIT};
 pub use hoisting::{Sets, hoist};

@@ -16,8 +16,8 @@ use crate::sizes::{size_of, sizes_along, source_size};
 use flux_constraints::ClassSet;
 use flux_library::Library;
 use flux_model::{Body, Hold, Node, NodeNo, NodeSig, Program, SourceLine, TypeText};
-use flux_values::{Bytes, Memory, Role, TextBytes};
 use flux_spelling::append_number;
+use flux_values::{Bytes, Memory, Role, TextBytes};
 use std::alloc::Global;
 
 fn append_other_types(out: &mut Bytes, types: &[TypeText]) -> Result<(), Memory>

@@ -2,7 +2,7 @@
 use Rattle.std.proofs.Common.{◌≡◌, ◌≤◌, ◌+◌, ◌-◌, ℕ, Bool, true, false, List, [], ◌∷◌, ◌++◌, length, length-take, drop, map, codes, Option, Some, None, refl, sym, ap, subst, ◌∙◌, arith}
 use Rattle.std.specs.List.{flat_map}
 use Rattle.std.specs.Option.{option_map}
-use Rattle.std.proofs.lemmas.List.{drop-drop}
+use Rattle.std.proofs.lemmas.List.{drop-drop, map-append}
 use Rattle.flux_lexer.specs.declared.kinds.Token.{Token}
 use Rattle.flux_lexer.specs.declared.reading.TheConstants.{PROGRAM_LIMIT}
 use Rattle.flux_lexer.specs.declared.kinds.TokenKind.{TokenKind}
@@ -54,14 +54,10 @@ seen_token text at n remark = refl
 seen_token text at n comment = refl
 seen_token text at n (token kind) = rw (same_length at n) refl
 
-map_append : (f : Token → Symbol) (a b : List Token) → map f (a ++ b) ≡ map f a ++ map f b
-map_append f [] b = refl
-map_append f (x ∷ a) b = ap (λ (l : List Symbol). f x ∷ l) (map_append f a b)
-
 seen_all : (text : List ℕ) (at : ℕ) (parts : List Part) → map (symbol_of text) (tokens_of at parts) ≡ seen at parts (drop at text)
 seen_all text at [] = refl
 seen_all text at (part ∷ parts) =
-    map_append (symbol_of text) (token_of part.piece at part.length) (tokens_of (at + part.length) parts)
+    map-append (symbol_of text) (token_of part.piece at part.length) (tokens_of (at + part.length) parts)
     ∙ ap (λ (l : List Symbol). l ++ map (symbol_of text) (tokens_of (at + part.length) parts)) (seen_token text at part.length part.piece)
     ∙ ap (λ (l : List Symbol). seen_at part.piece at part.length (drop at text) ++ l) (seen_all text (at + part.length) parts ∙ ap (seen (at + part.length) parts) (sym (drop-drop part.length at text ∙ ap (λ (i : ℕ). drop i text) (omega arith))))
 

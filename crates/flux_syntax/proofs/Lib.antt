@@ -17,3 +17,4 @@ pub mod Soonest
 pub mod Standing
 pub mod NumberedNames
 pub mod RowLemmas
+pub mod Found

@@ -4,7 +4,7 @@ use Rattle.std.specs.List.{prefix_len, list_all}
 use Rattle.std.proofs.Math.Seq.{take-append_seam, drop-append_seam}
 use Rattle.std.specs.Str.{bytes_eq}
 use Rattle.std.proofs.Math.Numerals.{one-add}
-use Rattle.std.proofs.lemmas.Bool.{or_left}
+use Rattle.std.proofs.lemmas.Bool.{or_left, and_parts}
 use Rattle.std.proofs.lemmas.Bool.Decides.{nat_tests}
 use Rattle.flux_values.specs.declared.texts.TheConstants.{TEXT_LIMIT}
 use Rattle.flux_lexer.specs.declared.kinds.TokenKind.{TokenKind}
@@ -147,11 +147,6 @@ digits_of_number text e = one (is_word text) refl (is_number text) refl
     one false i true j = j
     one false i false j = let h : mark_kind text ≡ Some Number = rw (i, j) at e in absurd (no_mark_number text h)
 
-both_true : (s t : Bool) → (s && t) ≡ true → (s ≡ true) × (t ≡ true)
-both_true true true e = (refl, refl)
-both_true true false e = absurd cc
-both_true false t e = absurd cc
-
 counted : (p : ℕ → Bool) (bytes rest : List ℕ) → list_all p bytes ≡ true → Ends p rest → prefix_len p (bytes ++ rest) ≡ length bytes
 counted p [] [] e ends = refl
 counted p [] (b ∷ rest) e ends = rw ends refl
@@ -171,7 +166,7 @@ name_front : (text rest : List ℕ) → IsName text → EndsWord rest → front_
 name_front [] rest is ends = let h : ◌≡◌ {A = Option TokenKind} None (Some Identifier) = is.kind in absurd cc
 name_front (b ∷ bytes) rest is ends =
     let word = word_of_name (b ∷ bytes) is.kind in
-    let start = both_true (is_word_start b) (list_all is_word_byte bytes) word.0 in
+    let start = and_parts (is_word_start b) (list_all is_word_byte bytes) word.0 in
     let all : list_all is_word_byte (b ∷ bytes) ≡ true = rw (or_left _ _ start.0) start.1 in
     let whole = b ∷ (bytes ++ rest) in
     front_word b (bytes ++ rest) start.0
@@ -183,7 +178,7 @@ number_front : (text rest : List ℕ) → IsDigits text → EndsWord rest → fr
 number_front [] rest is ends = let h : ◌≡◌ {A = Option TokenKind} None (Some Number) = is.kind in absurd cc
 number_front (b ∷ bytes) rest is ends =
     let number = digits_of_number (b ∷ bytes) is.kind in
-    let start = both_true (is_digit b) (list_all is_digit bytes) number in
+    let start = and_parts (is_digit b) (list_all is_digit bytes) number in
     let all : list_all is_digit (b ∷ bytes) ≡ true = rw start.0 start.1 in
     front_number b (bytes ++ rest) start.0
     ∙ ap (limited Number) (counted is_digit (b ∷ bytes) rest all (ends_number rest ends))

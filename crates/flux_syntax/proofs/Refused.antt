@@ -1,6 +1,6 @@
 -- Where the parser is stuck is the one place of the fault.
 use Rattle.std.proofs.Common.{◌≡◌, ◌≤◌, ◌-◌, ℕ, suc, List, [], ◌∷◌, ◌++◌, length, drop, map, ◌⊎◌, inl, inr, refl, sym, ap, subst, ◌∙◌, arith, append_assoc, length-append}
-use Rattle.std.proofs.lemmas.List.{append-nil}
+use Rattle.std.proofs.lemmas.List.{append-nil, map-append}
 use Rattle.flux_lexer.specs.declared.kinds.Token.{Token}
 use Rattle.flux_syntax.specs.declared.declarations.Decl.{Decl}
 use Rattle.flux_syntax.specs.Symbols.{Symbol, symbol_of}
@@ -12,10 +12,6 @@ use Rattle.flux_syntax.proofs.Told.{Told_of}
 use Rattle.flux_syntax.proofs.Programs.{told_program, program_whole, at_end}
 
 -- ---- one place
-
-map_append : (f : Token → Symbol) (a b : List Token) → map f (a ++ b) ≡ map f a ++ map f b
-map_append f [] b = refl
-map_append f (x ∷ a) b = ap (λ (l : List Symbol). f x ∷ l) (map_append f a b)
 
 abbrev Split : List Token → List Token → List Token → List Token → Type 0
 Split a b c d = ((e : List Token) × (c ≡ a ++ e) × (b ≡ e ++ d)) ⊎ ((e : List Token) × (a ≡ c ++ e) × (d ≡ e ++ b))
@@ -31,7 +27,7 @@ split (x ∷ a) b (y ∷ c) d e = longer (split a b c d cc) cc
 
 fewer : (text : List ℕ) (before more : List Token) → CanBegin text (before ++ more) → CanBegin text before
 fewer text before more (decls, rest, is) =
-    (decls, map (symbol_of text) more ++ rest, subst (IsProgram decls) (ap (λ (l : List Symbol). l ++ rest) (map_append (symbol_of text) before more) ∙ append_assoc (map (symbol_of text) before) (map (symbol_of text) more) rest) is)
+    (decls, map (symbol_of text) more ++ rest, subst (IsProgram decls) (ap (λ (l : List Symbol). l ++ rest) (map-append (symbol_of text) before more) ∙ append_assoc (map (symbol_of text) before) (map (symbol_of text) more) rest) is)
 
 same_stop : (at other : ℕ) (text : List ℕ) (before rest : List Token) → StopsAt at text before rest → StopsAt other text before rest → at ≡ other
 same_stop at other text before [] a b = a.0 ∙ sym b.0
@@ -123,7 +119,7 @@ stuck_of text tokens left (used, is, (decls, more, program), steady) stuck_there
     stops before (t ∷ rest) split first second = (
       refl,
       λ begun. let (ds, behind, program) = begun in
-          let spelled : IsProgram ds (used ++ symbol_of text t ∷ behind) = subst (IsProgram ds) (ap (λ (l : List Symbol). l ++ behind) (map_append (symbol_of text) before (t ∷ []) ∙ ap (λ (l : List Symbol). l ++ symbol_of text t ∷ []) first) ∙ append_assoc used (symbol_of text t ∷ []) behind) program in
+          let spelled : IsProgram ds (used ++ symbol_of text t ∷ behind) = subst (IsProgram ds) (ap (λ (l : List Symbol). l ++ behind) (map-append (symbol_of text) before (t ∷ []) ∙ ap (λ (l : List Symbol). l ++ symbol_of text t ∷ []) first) ∙ append_assoc used (symbol_of text t ∷ []) behind) program in
           never ds [] (symbol_of text t ∷ behind) (sym (program_whole ds (used ++ symbol_of text t ∷ behind) spelled) ∙ steady (symbol_of text t) (map (symbol_of text) rest) behind (sym second)),
     )
 

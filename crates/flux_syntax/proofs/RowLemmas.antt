@@ -1,9 +1,9 @@
 -- Rows that don't stand: no word stands in them.
-use Rattle.std.proofs.Common.{◌≡◌, ℕ, Bool, true, false, if◌then◌else◌, List, [], ◌∷◌, ◌++◌, Option, Some, None, refl}
+use Rattle.std.proofs.Common.{◌≡◌, ℕ, Bool, true, false, if◌then◌else◌, List, [], ◌∷◌, ◌++◌, Option, Some, None, refl, ap, ◌∙◌}
 use Rattle.std.specs.List.{flat_map, AllByRecursion}
 use Rattle.flux_faults.specs.declared.faults.FaultKind.{FaultKind}
 use Rattle.flux_syntax.specs.declared.declarations.Word.{Word}
-use Rattle.flux_syntax.specs.Least.{sooner, soonest, fault_or}
+use Rattle.flux_syntax.specs.Least.{Row, sooner, soonest, fault_or, first_fault}
 
 some_soonest : (at : ℕ) (words : List Word) → soonest (Some at) words ≡ None → ⊥
 some_soonest at [] e = absurd cc
@@ -19,10 +19,25 @@ pub no_fault : (kind : FaultKind) (place : Option ℕ) (other : Option (FaultKin
 no_fault kind None other e = (refl, e)
 no_fault kind (Some at) other e = absurd cc
 
--- no words in both of two lists
-pub none_either : (a b : List Word) → a ++ b ≡ [] → (a ≡ []) × (b ≡ [])
+-- where no row of two lists stands, none of either does
+pub none_of_both : (a b : List Row) → first_fault (a ++ b) ≡ None → (first_fault a ≡ None) × (first_fault b ≡ None)
+none_of_both [] b e = (refl, e)
+none_of_both (row ∷ a) b e =
+    let both = no_fault row.0 (soonest None row.1) (first_fault (a ++ b)) e in
+    let rest = none_of_both a b both.1 in
+    (ap (λ (place : Option ℕ). fault_or row.0 place (first_fault a)) both.0 ∙ rest.0, rest.1)
+
+-- two lists that are empty together
+pub none_either : {A : Type 0} (a b : List A) → a ++ b ≡ [] → (a ≡ []) × (b ≡ [])
 none_either [] b e = (refl, e)
-none_either (w ∷ a) b e = absurd cc
+none_either (x ∷ a) b e = absurd cc
+
+-- rows of which none stands have no words
+pub wordless : (rs : List Row) → first_fault rs ≡ None → AllByRecursion (λ row. row.1 ≡ []) rs
+wordless [] e = tt
+wordless (row ∷ rs) e =
+    let both = no_fault row.0 (soonest None row.1) (first_fault rs) e in
+    (none_soonest row.1 both.0, wordless rs both.1)
 
 -- no words of all of them
 pub none_each : {A : Type 0} (of : A → List Word) (xs : List A) → flat_map of xs ≡ [] → AllByRecursion (λ x. of x ≡ []) xs

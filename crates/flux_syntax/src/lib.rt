@@ -13,8 +13,6 @@ mod lists;
 mod names;
 mod parsing;
 mod reading;
-#[cfg(test)]
-mod tests;
 
 pub use declarations::{Constraint, Decl, Param, Word};
 pub use formatting::format;

@@ -7,7 +7,6 @@ use Rattle.std.proofs.lemmas.Bool.{cases_order}
 use Rattle.std.proofs.lemmas.Bool.Decides.{nat_tests}
 use Rattle.std.proofs.lemmas.Option.{slice_get_within, slice_get-get_or}
 use Rattle.flux_model.specs.declared.programs.NodeNo.{NodeNo}
-use Rattle.flux_model.specs.declared.programs.ClassNo.{ClassNo}
 use Rattle.flux_model.specs.declared.programs.Hold.{Hold}
 use Rattle.flux_model.specs.Modes.{at_least}
 use Rattle.flux_model.specs.Locks.{HasAtLeast}
@@ -18,8 +17,7 @@ use Rattle.flux_plan.specs.declared.plans.Instr.TheVariants.{Take, Go}
 use Rattle.flux_plan.specs.Moves.{code_of}
 use Rattle.flux_plan.specs.Leading.{led_by, taken_by, takes_of, Reaches, IsOpen}
 use Rattle.flux_plan.specs.Faulty.{IsFault, misshapen, into_nothing, into_cycle, not_closed, IsMisshapen}
-use Rattle.flux_verify.specs.steps.Checks.{covers, has_past, lacks, lacks_in, lacks_from, lacks_at, IsAstray, HasAstray, IsOpenTo, IsGoOpen, IsMisled, IsMisledAt, IsFirstPlace, earlier}
-use Rattle.flux_model.specs.Visits.{IsKnown}
+use Rattle.flux_verify.specs.steps.Checks.{covers, has_past, lacks, lacks_in, lacks_from, lacks_at, IsAstray, HasAstray, IsOpenTo, IsMisled, IsMisledAt, IsFirstPlace, earlier}
 use Rattle.flux_verify.specs.steps.Visits.{IsReachedFrom, IsReach}
 
 -- ---- tests of lists

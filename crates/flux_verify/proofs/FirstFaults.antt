@@ -5,11 +5,10 @@ use Rattle.std.specs.Borrow.{Bor}
 use Rattle.std.specs.List.{slice_get, list_any}
 use Rattle.std.proofs.lemmas.Bool.{cases_order}
 use Rattle.std.proofs.lemmas.Option.{slice_get_within}
-use Rattle.flux_model.specs.declared.programs.NodeNo.{NodeNo}
 use Rattle.flux_model.specs.Children.{IsIn}
 use Rattle.flux_plan.specs.declared.plans.Plan.{Plan}
 use Rattle.flux_plan.specs.declared.plans.Segment.{Segment}
-use Rattle.flux_plan.specs.Leading.{leads_from, IsWay, Reaches}
+use Rattle.flux_plan.specs.Leading.{IsWay, Reaches}
 use Rattle.flux_plan.specs.Faulty.{IsFault, IsFaultIn, IsFaulty, IsVerified}
 use Rattle.flux_verify.specs.Faults.{IsFirstFault}
 use Rattle.flux_verify.specs.steps.Checks.{IsFirstPlace}

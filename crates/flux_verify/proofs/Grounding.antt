@@ -1,5 +1,5 @@
 -- What one search in depth tells of nodes: takes that are closed.
-use Rattle.std.proofs.Common.{◌≡◌, ◌↔◌, ◌⊎◌, inl, inr, ◌<◌, ◌≤◌, ◌+◌, ℕ, zero, suc, Bool, true, false, not, ◌&&◌, ◌||◌, eqb, List, [], ◌∷◌, ◌++◌, length, Option, Some, None, refl, sym, ap, subst, ◌∙◌, arith}
+use Rattle.std.proofs.Common.{◌≡◌, ◌⊎◌, inl, inr, ℕ, zero, suc, Bool, true, false, not, ◌&&◌, ◌||◌, eqb, List, [], ◌∷◌, Option, Some, None, refl, sym, ap, subst, ◌∙◌, arith}
 use Rattle.std.specs.List.{list_any, slice_get, Contains}
 use Rattle.std.proofs.lemmas.List.Folds.{list_any-append}
 use Rattle.std.proofs.lemmas.Bool.Decides.{nat_tests}
@@ -9,20 +9,17 @@ use Rattle.flux_model.specs.declared.programs.NodeNo.{NodeNo}
 use Rattle.flux_model.specs.declared.programs.ClassNo.{ClassNo}
 use Rattle.flux_model.specs.declared.programs.Hold.{Hold}
 use Rattle.flux_model.specs.Modes.{at_least}
-use Rattle.flux_model.specs.Locks.{HasAtLeast}
 use Rattle.flux_model.specs.Children.{IsIn}
 use Rattle.flux_plan.specs.declared.plans.Segment.{Segment}
-use Rattle.flux_plan.specs.declared.plans.Instr.{Instr}
 use Rattle.flux_plan.specs.declared.plans.Instr.TheVariants.{Go}
-use Rattle.flux_plan.specs.Moves.{code_of}
-use Rattle.flux_plan.specs.Leading.{led_by, leads_from, takes_of}
+use Rattle.flux_plan.specs.Leading.{leads_from, takes_of}
 use Rattle.flux_verify.specs.steps.Checks.{covers, has_past, lacks, IsOpenTo, IsMisled, IsMisledAt, IsFirstPlace}
 use Rattle.flux_verify.specs.steps.Orders.{IsSettled, AreKnown, with_take, with_takes, with_if, AreCovered, AreClosed, IsGround, OpenAlike}
 use Rattle.flux_model.specs.Visits.{IsKnown, with_number}
 use Rattle.flux_model.proofs.Visiting.{known_or, known_place, place_known}
 use Rattle.flux_verify.proofs.Settling.{settled_more, follow}
 use Rattle.flux_plan.proofs.Placing.{led_from}
-use Rattle.flux_verify.proofs.Checking.{both, any_item, item_any, covers_it, it_covers, closed_without}
+use Rattle.flux_verify.proofs.Checking.{both, item_any, covers_it, it_covers, closed_without}
 
 -- ---- modes
 

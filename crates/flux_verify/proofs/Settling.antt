@@ -1,8 +1,6 @@
 -- A node that comes after all that it leads to is on no cycle, where all before it do so too.
-use Rattle.std.proofs.Common.{◌≡◌, ◌⊎◌, inl, inr, ◌<◌, ◌≤◌, ◌+◌, ℕ, zero, suc, Bool, true, false, ◌&&◌, eqb, List, [], ◌∷◌, ◌++◌, length, Option, Some, None, refl, sym, ap, subst, ◌∙◌, arith}
+use Rattle.std.proofs.Common.{◌≡◌, inl, inr, ◌<◌, ◌+◌, ℕ, zero, suc, Bool, true, false, eqb, List, [], ◌∷◌, ◌++◌, length, Some, refl, sym, ap, subst, ◌∙◌, arith}
 use Rattle.std.specs.List.{slice_get, list_any, list_all}
-use Rattle.std.proofs.lemmas.Bool.{cases_order}
-use Rattle.std.proofs.lemmas.Option.{slice_get_within}
 use Rattle.flux_model.specs.declared.programs.NodeNo.{NodeNo}
 use Rattle.flux_model.specs.Children.{IsIn}
 use Rattle.flux_plan.specs.declared.plans.Segment.{Segment}
@@ -15,18 +13,10 @@ use Rattle.flux_model.proofs.Visiting.{known_place, place_append}
 pub none_settled : (segments : List Segment) → IsSettled segments []
 none_settled segments place node led is on = absurd cc
 
-all_at : (p q : Bool) → (p && q) ≡ true → (p ≡ true) × (q ≡ true)
-all_at true q e = (refl, e)
-all_at false q e = absurd cc
-
-pub all_known : (visits : List ℕ) (nodes : List NodeNo) → list_all (λ node. list_any (eqb node.0) visits) nodes ≡ true → AreKnown visits nodes
-all_known visits [] e node is = absurd is
-all_known visits (n ∷ nodes) e node is = one is (all_at (list_any (eqb n.0) visits) (list_all (λ node. list_any (eqb node.0) visits) nodes) e) (λ more on. all_known visits nodes more node on)
-  where
-    one : IsIn node (n ∷ nodes) → (list_any (eqb n.0) visits ≡ true) × (list_all (λ node. list_any (eqb node.0) visits) nodes ≡ true)
-        → (list_all (λ node. list_any (eqb node.0) visits) nodes ≡ true → IsIn node nodes → IsKnown node visits) → IsKnown node visits
-    one (inl same) (own, more) later = subst (λ (m : ℕ). IsKnown m visits) (sym same) own
-    one (inr is) (own, more) later = later more is
+-- numbers that are known are all known
+pub known_all : (visits : List ℕ) (nodes : List NodeNo) → AreKnown visits nodes → list_all (λ node. list_any (eqb node.0) visits) nodes ≡ true
+known_all visits [] known = refl
+known_all visits (n ∷ nodes) known = rw (known n.0 (inl refl)) (known_all visits nodes (λ node is. known node (inr is)))
 
 module _ (segments : List Segment) where
   -- a place of a list with one number more at its end

@@ -1,5 +1,5 @@
 -- What the code has read of a segment.
-use Rattle.std.proofs.Common.{◌≡◌, ℕ, zero, suc, ◌-◌, ◌<◌, true, nat_lt, List, [], ◌∷◌, length, get_or, take, reverse, Option, Some, None, refl, sym, ap, ◌∙◌, subst, arith}
+use Rattle.std.proofs.Common.{◌≡◌, ℕ, zero, suc, ◌-◌, ◌<◌, true, nat_lt, List, [], ◌∷◌, length, reverse, Some, None, refl, sym, ap, arith}
 use Rattle.std.specs.List.{slice_get}
 use Rattle.std.proofs.lemmas.Option.{slice_get_within, get_or_from_slice_get}
 use Rattle.flux_model.specs.declared.programs.ClassNo.{ClassNo}

@@ -1,17 +1,16 @@
 -- Visits grow by what is visited, and reach what is led to.
-use Rattle.std.proofs.Common.{◌≡◌, ◌<◌, ℕ, zero, suc, Bool, true, false, eqb, ◌||◌, ◌⊎◌, inl, inr, List, [], ◌∷◌, ◌++◌, ◌≤◌, ◌+◌, length, get_or, take, Option, Some, refl, sym, ap, subst, ◌∙◌, arith}
-use Rattle.std.specs.List.{list_any, flat_map, slice_get}
+use Rattle.std.proofs.Common.{◌≡◌, ◌<◌, ℕ, ◌⊎◌, inl, inr, List, [], ◌∷◌, ◌++◌, ◌≤◌, ◌+◌, length, get_or, take, Option, Some, refl, sym, ap, subst, ◌∙◌, arith}
+use Rattle.std.specs.List.{flat_map, slice_get}
 use Rattle.std.proofs.lemmas.List.{take_more, map-append, append-nil}
 use Rattle.std.proofs.lemmas.Grind.{flat_map-append}
 use Rattle.std.proofs.lemmas.Bool.{cases_order}
-use Rattle.std.proofs.lemmas.Bool.Decides.{nat_tests}
 use Rattle.flux_model.specs.declared.programs.NodeNo.{NodeNo}
 use Rattle.flux_model.specs.declared.programs.HandleArm.{HandleArm}
 use Rattle.flux_model.specs.Leading.{handlers_of}
 use Rattle.flux_model.specs.Children.{IsIn}
 use Rattle.flux_plan.specs.declared.plans.Segment.{Segment}
 use Rattle.flux_plan.specs.declared.plans.Instr.{Instr}
-use Rattle.flux_plan.specs.Leading.{led_by, leads_from, IsWay, Reaches}
+use Rattle.flux_plan.specs.Leading.{led_by, leads_from, IsWay}
 use Rattle.flux_model.specs.Visits.{IsKnown, with_number, with_all}
 use Rattle.flux_verify.specs.steps.Visits.{leads_at, IsReachedFrom, IsReaching, IsReach}
 use Rattle.flux_model.proofs.Visiting.{all_more, all_new, all_or, place_all, known_place, place_known, at_place}

@@ -1,9 +1,10 @@
 //! What one search in depth tells of nodes.
 
-ghost use Rattle.std.specs.Prelude.{◌≡◌, [], IfOk, OnOk, nat_eq};
-ghost use Rattle.std.specs.List.{list_any, list_all};
+ghost use Rattle.std.specs.Prelude.{◌≡◌, ◌++◌, [], IfOk, OnOk};
+ghost use Rattle.flux_model.specs.Visits.{IsKnown, with_number};
+ghost use Rattle.flux_plan.specs.Leading.{leads_from};
 ghost use Rattle.flux_verify.specs.steps.Checks.{AreOffCycles};
-ghost use Rattle.flux_verify.specs.steps.Orders.{IsGround, AreClosed, with_if};
+ghost use Rattle.flux_verify.specs.steps.Orders.{IsGround, AreClosed, AreKnown, IsNew, tasks_of, with_if};
 
 use crate::reaching::{leads_from, takes_of};
 use crate::takes::{add_takes, lacks_any};
@@ -37,13 +38,6 @@ struct Search {
     tasks: List<Task>,
 }
 
-/// Whether all nodes are among those that were visited.
-fn are_known(visits: &Visits, nodes: &[NodeNo]) -> bool
-    ensures { result ≡ list_all (λ node. list_any (nat_eq node.0) visits.now) nodes.now }
-{
-    nodes.iter().all(|node| visits.has(node.0))
-}
-
 /// Adds a number, where a test holds.
 fn add_if(visits: &mut Visits, number: u32, test: bool) -> Result<(), Memory>
     ensures { OnOk result (visits.new ≡ with_if test visits.old number) }
@@ -68,11 +62,13 @@ impl Known {
     /// before take.
     fn settle(&mut self, alloc: Global, segments: &Segments, node: NodeNo) -> Result<(), Memory>
         requires { IsGround segments.now self.old.straight self.old.closed self.old.taken }
-        ensures { OnOk result
+        ensures ground { OnOk result
             (IsGround segments.now self.new.straight self.new.closed self.new.taken) }
+        ensures settled { AreKnown self.old.straight (leads_from segments.now node.0)
+            → OnOk result (IsKnown node.0 self.new.straight) }
     {
         let led = leads_from(alloc, segments, node.0)?;
-        if !are_known(&self.straight, led.as_slice()) {
+        if !self.straight.has_all(led.as_slice()) {
             return Ok(());
         }
         let takes = takes_of(alloc, segments, node.0)?;
@@ -85,13 +81,13 @@ impl Known {
 }
 
 impl Search {
-    /// Enters a node that hasn't been entered yet: what it leads to is to be settled, and then the node.
+    /// Enters a node: what it leads to is to be settled, and then the node.
     fn enter(&mut self, alloc: Global, segments: &Segments, node: NodeNo) -> Result<(), Memory>
-        ensures { OnOk result (self.new.known ≡ self.old.known) }
+        ensures known { OnOk result (self.new.known ≡ self.old.known) }
+        ensures entered { OnOk result (self.new.entered ≡ with_number self.old.entered node.0) }
+        ensures tasks { OnOk result
+            (self.new.tasks ≡ self.old.tasks ++ tasks_of segments.now node) }
     {
-        if self.entered.has(node.0) {
-            return Ok(());
-        }
         self.entered.add(node.0)?;
         self.tasks.add(Task::Settle(node))?;
         for led in leads_from(alloc, segments, node.0)?.as_slice() {
@@ -100,20 +96,31 @@ impl Search {
         Ok(())
     }
 
-    fn turn(&mut self, alloc: Global, segments: &Segments, task: Task) -> Result<(), Memory>
+    /// The next node that is to be entered, and hasn't been. Nodes all of whose others are settled are settled on the way.
+    fn next(&mut self, alloc: Global, segments: &Segments) -> Result<Option<NodeNo>, Memory>
         requires { let known = self.old.known in
             IsGround segments.now known.straight known.closed known.taken }
-        ensures { let known = self.new.known in
-            OnOk result (IsGround segments.now known.straight known.closed known.taken) }
+        ensures ground { let known = self.new.known in
+            IfOk result (λ _. IsGround segments.now known.straight known.closed known.taken) }
+        ensures entered { self.new.entered ≡ self.old.entered }
+        ensures found { IfOk result (IsNew self.old.entered self.new.tasks) }
     {
-        match task {
-            Task::Enter(node) => self.enter(alloc, segments, node),
-            Task::Settle(node) => self.known.settle(alloc, segments, node),
+        while let Some(task) = self.tasks.pop() {
+            match task {
+                Task::Settle(node) => self.known.settle(alloc, segments, node)?,
+                Task::Enter(node) => {
+                    if !self.entered.has(node.0) {
+                        return Ok(Some(node));
+                    }
+                }
+            }
         }
+        Ok(None)
     }
 }
 
-/// What is known of the nodes that a node reaches: of all of them, if there is no cycle among these.
+/// What is known of the nodes that a node reaches: of all of them, if each has a segment and there is no cycle among them.
+/// Each turn enters a node that hasn't been entered, so there is one turn for each segment.
 pub fn survey(alloc: Global, segments: &Segments, start: NodeNo) -> Result<Known, Memory>
     ensures straight { IfOk result (λ known. AreOffCycles segments.now known.straight) }
     ensures closed { IfOk result (λ known. AreClosed segments.now known.closed) }
@@ -124,11 +131,11 @@ pub fn survey(alloc: Global, segments: &Segments, start: NodeNo) -> Result<Known
         tasks: List::new(alloc),
     };
     search.tasks.add(Task::Enter(start))?;
-    for _ in 0..u64::MAX {
-        match search.tasks.pop() {
-            Some(task) => search.turn(alloc, segments, task)?,
-            None => break,
+    for _ in segments.as_slice() {
+        if let Some(node) = search.next(alloc, segments)? {
+            search.enter(alloc, segments, node)?;
         }
     }
+    search.next(alloc, segments)?;
     Ok(search.known)
 }

@@ -9,8 +9,8 @@ ghost use Rattle.nodes_counter.specs.Calls as calls;
 use crate::commands::amount;
 use crate::nodes::Node;
 use flux_library::answers::{copies, emits, fails, good, text_in, word};
-use flux_values::{Answer, Bytes, Cell, List, Memory, Put, Value};
 use flux_spelling::append_value;
+use flux_values::{Answer, Bytes, Cell, List, Memory, Put, Value};
 use std::alloc::Global;
 
 impl Node {

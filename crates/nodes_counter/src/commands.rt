@@ -6,8 +6,8 @@ ghost use Rattle.flux_values.specs.declared.values.Value.TheVariants.{Int};
 ghost use Rattle.nodes_counter.specs.Numbers.{int_spelled, number_of};
 ghost use Rattle.nodes_counter.specs.Calls.{added};
 
-use flux_values::{Memory, Value, ValueFault};
 use flux_spelling::read_value;
+use flux_values::{Memory, Value, ValueFault};
 use std::alloc::Global;
 
 /// The number in the text `add`, one space and an Int spelling up to the end.

@@ -1,5 +1,5 @@
 -- Steps of the report: what is looked up for it.
-use Rattle.std.specs.Prelude.{ℕ, ◌<◌, ◌↔◌, List, [], Option, unwrap_or}
+use Rattle.std.specs.Prelude.{ℕ, ◌<◌, ◌≤◌, ◌↔◌, List, [], length, Option, unwrap_or}
 use Rattle.std.specs.List.{Contains, slice_get}
 use Rattle.flux_values.specs.declared.answers.Mode.{Mode}
 use Rattle.flux_values.specs.declared.answers.Mode.TheVariants.{Reader, Writer}
@@ -22,6 +22,11 @@ abbrev pub AreFewer : List (List Hold) → ℕ → Type 0
 AreFewer sets count = (number : ℕ) (hold : Hold) → Contains (held_by sets number) hold
     → hold.class.0 < count
 
+-- how many classes there are up to the greatest that sets have: the least count that all are below
+pub record IsClassCount (sets : List (List Hold)) (count : ℕ) : Type 0 where
+  pub all : AreFewer sets count
+  pub least : (other : ℕ) → AreFewer sets other → count ≤ other
+
 -- the table of a class
 abbrev pub table_at : List (List (Option NodeNo)) → ClassNo → List (Option NodeNo)
 table_at tables class = unwrap_or (slice_get tables class.0) []
@@ -37,6 +42,11 @@ tables_of declarers Writer = declarers.writers
 
 abbrev pub table_of : Declarers → Hold → List (Option NodeNo)
 table_of declarers hold = table_at (tables_of declarers hold.mode) hold.class
+
+-- in each mode a table for each class up to the greatest that sets have, and no more
+pub record HasTables (sets : List (List Hold)) (declarers : Declarers) : Type 0 where
+  pub readers : IsClassCount sets (length declarers.readers)
+  pub writers : IsClassCount sets (length declarers.writers)
 
 -- what nodes declare, and the tables of all that a list holds
 pub record Knows (nodes : List Node) (holds : List Hold) (declarers : Declarers) : Type 0 where

@@ -1,5 +1,5 @@
 -- Nodes in an order in which each comes after all that it leads to.
-use Rattle.std.specs.Prelude.{◌≡◌, ◌↔◌, ℕ, ◌<◌, Bool, true, false, if◌then◌else◌, List, [], ◌∷◌, ◌++◌, Some}
+use Rattle.std.specs.Prelude.{◌≡◌, ◌↔◌, ℕ, ◌<◌, Bool, true, false, if◌then◌else◌, List, [], ◌∷◌, ◌++◌, map, Option, Some, None}
 use Rattle.std.specs.List.{fold, slice_get, Contains}
 use Rattle.flux_model.specs.declared.programs.NodeNo.{NodeNo}
 use Rattle.flux_model.specs.declared.programs.Hold.{Hold}
@@ -7,6 +7,8 @@ use Rattle.flux_model.specs.Children.{IsIn}
 use Rattle.flux_plan.specs.declared.plans.Segment.{Segment}
 use Rattle.flux_plan.specs.Leading.{leads_from, takes_of}
 use Rattle.flux_model.specs.Visits.{IsKnown, with_number}
+use Rattle.flux_verify.specs.declared.orders.Task.{Task}
+use Rattle.flux_verify.specs.declared.orders.Task.TheVariants.{Enter, Settle}
 use Rattle.flux_verify.specs.steps.Checks.{covers, IsOpenTo}
 
 -- a number stands before a place
@@ -56,3 +58,12 @@ pub record IsGround (segments : List Segment) (straight closed : List ℕ) (take
 abbrev pub OpenAlike : List Segment → ℕ → List Hold → Type 0
 OpenAlike segments node takes = (led : ℕ) → IsIn led (leads_from segments node)
     → IsOpenTo segments takes led ↔ IsOpenTo segments (takes_of segments node) led
+
+-- what is to be done for a node that is entered: all that it leads to is entered, and then it is settled
+abbrev pub tasks_of : List Segment → NodeNo → List Task
+tasks_of segments node = Settle node ∷ map Enter (leads_from segments node.0)
+
+-- a node that comes next hasn't been entered yet; where there is none, nothing is left to do
+abbrev pub IsNew : List ℕ → List Task → Option NodeNo → Type 0
+IsNew entered tasks (Some node) = IsKnown node.0 entered → ⊥
+IsNew entered tasks None = tasks ≡ []

@@ -1,6 +1,5 @@
 -- What the code has read of a segment.
-use Rattle.std.specs.Prelude.{reverse, List}
-use Rattle.std.specs.Borrow.{Bor}
+use Rattle.std.specs.Prelude.{reverse}
 use Rattle.flux_verify.specs.declared.shapes.Reading as code
 use Rattle.flux_verify.specs.declared.shapes.Reading.TheVariants.{Taking, Entered, Between, Within, Dropping, Handling, Closing, Whole}
 use Rattle.flux_plan.specs.Reading.{Reading, taking, entered, between, within, dropping, handling, closing, whole}

@@ -1,11 +1,11 @@
-use Rattle.std.proofs.Common.{ℕ, ◌<◌, ◌≤◌, ◌^◌}
-use Rattle.std.specs.List.{Contains}
-use Rattle.flux_model.specs.declared.programs.Hold.{Hold}
-use Rattle.flux_hoist.specs.Sets.{held_by}
+use Rattle.std.proofs.Common.{ℕ, ◌≤◌, ◌^◌}
+use Rattle.flux_hoist.specs.steps.Declaring.{AreFewer}
+use Rattle.flux_hoist.proofs.Declared.{AreFirstFewer}
 use Rattle.flux_hoist.proofs.declarers.class_count.Given as goal
 
 abbrev pub invariant-loop-set : goal.invariant-loop-set
 invariant-loop-set l = record {
-  below : (number : ℕ) (hold : Hold) → number < l.set-index → Contains (held_by l.sets number) hold → hold.class.0 < l.count;
+  below : AreFirstFewer l.sets l.set-index l.count;
+  least : (other : ℕ) → AreFewer l.sets other → l.count ≤ other;
   few : l.count ≤ 2 ^ 32;
 }

@@ -10,7 +10,7 @@ append_all_said-requires-clause-locks c =
 
 pub append_all_said-requires-clause-known : goal.append_all_said-requires-clause-known
 append_all_said-requires-clause-known c =
-    rw (c.holds_of.ensures, ← c.as_slice-nodes.ensures) (c.in_ok-declarers.ensures c.loop-number.number)
+    rw (c.holds_of.ensures, ← c.as_slice-nodes.ensures) (c.in_ok-declarers.ensures.known c.loop-number.number)
 
 pub loop-number-preserved : goal.loop-number-preserved
 loop-number-preserved c =

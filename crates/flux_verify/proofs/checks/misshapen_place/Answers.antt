@@ -1,4 +1,4 @@
-use Rattle.std.proofs.Common.{◌≡◌, Some, arith, length, ap, ◌∙◌, sym}
+use Rattle.std.proofs.Common.{◌≡◌, Some, arith, length, ap}
 use Rattle.std.specs.List.{slice_get}
 use Rattle.flux_verify.proofs.Checking.{item_stands}
 use Rattle.flux_verify.proofs.Stopping.{code_stops, code_goes_on, code_ends_whole, code_ends_early}

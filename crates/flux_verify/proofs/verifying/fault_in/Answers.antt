@@ -1,4 +1,4 @@
-use Rattle.std.proofs.Common.{◌≡◌, true, false, not, Bool, eqb, refl, sym, ◌∙◌}
+use Rattle.std.proofs.Common.{◌≡◌, true, eqb}
 use Rattle.std.specs.List.{list_any}
 use Rattle.flux_verify.proofs.Checking.{ok_then}
 use Rattle.flux_verify.proofs.FirstFaults.{first_reached}

@@ -1,4 +1,4 @@
-use Rattle.std.proofs.Common.{◌≡◌, ◌≤◌, ℕ, Option, Some, None, length, ap, sym, subst, ◌∙◌, arith}
+use Rattle.std.proofs.Common.{◌≡◌, ◌≤◌, ℕ, Option, Some, length, ap, subst, arith}
 use Rattle.std.specs.List.{slice_get}
 use Rattle.flux_plan.specs.Faulty.{IsFaultIn}
 use Rattle.flux_verify.specs.steps.Checks.{IsFirstPlace}

@@ -1,0 +1,4 @@
+mod Ends
+mod Held
+mod Waiting
+mod Legality

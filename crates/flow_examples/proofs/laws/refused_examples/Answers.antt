@@ -1,0 +1,17 @@
+use Rattle.flow_examples.proofs.Held.{takes_apart, sections_apart}
+use Rattle.flow_examples.proofs.Waiting.{own_take, only_blocked, once, not_passed, cycle_found}
+use Rattle.flow_examples.proofs.Legality.{answers_refused, begun_not_whole}
+use Rattle.flow_examples.proofs.laws.refused_examples.Goals as goal
+
+pub returns : goal.returns
+returns c = record {
+  takes = takes_apart;
+  sections = sections_apart;
+  own_take = own_take;
+  blocked = only_blocked;
+  once = once;
+  kept = not_passed;
+  cycles = cycle_found;
+  answers = answers_refused;
+  begun = begun_not_whole;
+}

@@ -1,0 +1,19 @@
+use Rattle.std.proofs.Common.{refl}
+use Rattle.flow_examples.proofs.Held.{may_follow, keys_differ}
+use Rattle.flow_examples.proofs.Legality.{failed_whole}
+use Rattle.std.specs.FinMap.{gets}
+use Rattle.flow_examples.proofs.laws.worked_examples.Goals as goal
+
+pub returns : goal.returns
+returns c = record {
+  handler_follows_drops = refl;
+  first_case_is_taken = (refl, refl, refl);
+  handlers_go_by_code = (refl, refl);
+  stops_before_call = refl;
+  readers_share = (refl, refl, refl);
+  cells_follow_puts = (simp gets, simp gets);
+  failures_pass_outward = refl;
+  keys_go_by_session = ((λ same. keys_differ same), refl);
+  takes_may_follow = may_follow;
+  failed_is_whole = failed_whole;
+}

@@ -1,0 +1,28 @@
+-- All examples: those that fit a definition, and those that it refuses.
+use Rattle.flow_examples.specs.Walks.{HandlerFollowsDrops, FirstCaseIsTaken, HandlersGoByCode, StopsBeforeCall, FailuresPassOutward}
+use Rattle.flow_examples.specs.Held.{ReadersShare, CellsFollowPuts, KeysGoBySession, TakesAreKeptApart, SectionsAreKeptApart, TakesMayFollow}
+use Rattle.flow_examples.specs.Waiting.{WaitsForItsOwnTake, WaitsOnlyWhereBlocked, WaitsOnce, IsNotPassedBy, CyclesAreFound}
+use Rattle.flow_examples.specs.Legality.{FailedIsWhole, OthersAnswersAreRefused, BegunIsNotWhole}
+
+pub record Examples : Type 0 where
+  pub handler_follows_drops : HandlerFollowsDrops
+  pub first_case_is_taken : FirstCaseIsTaken
+  pub handlers_go_by_code : HandlersGoByCode
+  pub stops_before_call : StopsBeforeCall
+  pub failures_pass_outward : FailuresPassOutward
+  pub readers_share : ReadersShare
+  pub cells_follow_puts : CellsFollowPuts
+  pub keys_go_by_session : KeysGoBySession
+  pub takes_may_follow : TakesMayFollow
+  pub failed_is_whole : FailedIsWhole
+
+pub record Refused : Type 0 where
+  pub takes : TakesAreKeptApart
+  pub sections : SectionsAreKeptApart
+  pub own_take : WaitsForItsOwnTake
+  pub blocked : WaitsOnlyWhereBlocked
+  pub once : WaitsOnce
+  pub kept : IsNotPassedBy
+  pub cycles : CyclesAreFound
+  pub answers : OthersAnswersAreRefused
+  pub begun : BegunIsNotWhole

@@ -1,0 +1,6 @@
+pub mod Small
+pub mod Walks
+pub mod Held
+pub mod Waiting
+pub mod Legality
+pub mod Examples
