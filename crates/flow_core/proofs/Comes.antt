@@ -24,7 +24,8 @@ some-of : {X : Type 0} (o : Option X) → IsSome o → (x : X) × (o ≡ Some x)
 some-of None is = absurd (false≢true is)
 some-of (Some x) is = (x, refl)
 
-module _ {L : Type 0} (meaning : L → LibraryMeaning) (old new : CoreState L) (flow : FlowNo) (kept : IsKept meaning old) (within : flow.0 < length old.items) where
+module _ {L : Type 0} (meaning : L → LibraryMeaning) (old new : CoreState L) (flow : FlowNo) (kept : IsKept meaning old)
+    (within : flow.0 < length old.setup.items) where
   abbrev setup : Setup
   setup = setup_in meaning old
 
@@ -39,7 +40,8 @@ module _ {L : Type 0} (meaning : L → LibraryMeaning) (old new : CoreState L) (
   call-no_end node args call ended = call-goes_on setup old.entries kept.legal flow.0 within node args call ended
 
   begun-call : IsSome (begun_by old flow.0) → IsAtCall setup old.entries flow.0
-  begun-call some = let (inputs, is) = some-of (begun_by old flow.0) some in let begun = kept.calls flow.0 inputs is in (inputs.node, inputs.args, begun.next)
+  begun-call some = let (inputs, is) = some-of (begun_by old flow.0) some in let begun =
+      kept.calls flow.0 inputs is in (inputs.node, inputs.args, begun.next)
 
   not-at_both : (event : Event) → IsNext setup old.entries flow.0 event → IsAtCall setup old.entries flow.0 → ⊥
   not-at_both event next (node, args, call) = not-both setup old.entries flow.0 event node args next call
@@ -91,6 +93,7 @@ module _ {L : Type 0} (meaning : L → LibraryMeaning) (old new : CoreState L) (
         job = λ at idle. absurd (not-at_both event may.next at);
       }
 
-  pub comes-if_ok : {E : Type 0} (r : Result (Step L) E) → IfOk r (HasStepped meaning old new flow) → IfOk r (ComesWherever meaning old flow)
+  pub comes-if_ok : {E : Type 0} (r : Result (Step L) E) → IfOk r (HasStepped meaning old new flow)
+      → IfOk r (ComesWherever meaning old flow)
   comes-if_ok (Ok step) h = comes-wherever step h
   comes-if_ok (Err e) h = tt

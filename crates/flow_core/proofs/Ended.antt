@@ -36,20 +36,25 @@ in-ended (event ∷ list) outcome (inr is) = by (is_end event) (in-ended list ou
 module _ (setup : Setup) (entries : List Entry) where
   -- a whole path has its end
   pub whole-has_ended : (flow : ℕ) → IsWholePath setup entries flow → has_ended entries flow ≡ true
-  whole-has_ended flow whole = let walked : Walked = flow_walk setup flow (own_answers entries flow) in by walked.stop refl whole.finished
+  whole-has_ended flow whole = let walked : Walked = flow_walk setup flow (own_answers entries flow) in by walked.stop
+      refl whole.finished
     where
-      by : (stop : Stop) → (let walked = flow_walk setup flow (own_answers entries flow) in walked.stop ≡ stop) → HasEnded stop → has_ended entries flow ≡ true
+      by : (stop : Stop) → (let walked = flow_walk setup flow (own_answers entries flow) in walked.stop ≡ stop)
+          → HasEnded stop → has_ended entries flow ≡ true
       by (finished ended) is h =
           let walked : Walked = flow_walk setup flow (own_answers entries flow) in
           let there : In (End ended.outcome) (walked.events ++ ending walked.stop) =
-          subst (λ (s : Stop). In (End ended.outcome) (walked.events ++ ending s)) (sym is) (in-right walked.events (End ended.outcome ∷ []) (End ended.outcome) (inl refl)) in
+          subst (λ (s : Stop). In (End ended.outcome) (walked.events ++ ending s)) (sym is)
+          (in-right walked.events (End ended.outcome ∷ []) (End ended.outcome) (inl refl)) in
           in-ended (events_by flow entries) ended.outcome
-          (in-from_own (End ended.outcome) (events_by flow entries) (subst (λ (es : List Event). In (End ended.outcome) es) (sym whole.all) there))
+          (in-from_own (End ended.outcome) (events_by flow entries)
+          (subst (λ (es : List Event). In (End ended.outcome) es) (sym whole.all) there))
       by (before_call node args) is h = absurd h
       by nowhere is h = absurd h
 
   module _ (legal : IsLegal setup entries) (flow : ℕ) (within : flow < length setup.items) where
-    has_ended-whole : has_ended entries flow ≡ true → IsWholePath setup entries flow
+    -- a flow that has its end is a whole path
+    pub has_ended-whole : has_ended entries flow ≡ true → IsWholePath setup entries flow
     has_ended-whole ended =
         let (outcome, is) = ended-in (events_by flow entries) ended in
         whole-ended setup entries legal flow within outcome (contains-from_in (events_by flow entries) (End outcome) is)
@@ -58,11 +63,13 @@ module _ (setup : Setup) (entries : List Entry) where
     pub next-goes_on : (event : Event) → IsNext setup entries flow event → has_ended entries flow ≡ true → ⊥
     next-goes_on event next ended =
         let whole = has_ended-whole ended in
-        let same : own_events entries flow ++ event ∷ next.rest ≡ own_events entries flow ++ [] = sym next.next ∙ sym whole.all ∙ sym (append-nil (own_events entries flow)) in
+        let same : own_events entries flow ++ event ∷ next.rest ≡ own_events entries flow ++ [] =
+        sym next.next ∙ sym whole.all ∙ sym (append-nil (own_events entries flow)) in
         let none : event ∷ next.rest ≡ [] = append_cancel_left (own_events entries flow) (event ∷ next.rest) [] same in
         cc
 
-    pub call-goes_on : (node : NodeNo) (args : List Value) → CallIsNext setup entries flow node args → has_ended entries flow ≡ true → ⊥
+    pub call-goes_on : (node : NodeNo) (args : List Value) → CallIsNext setup entries flow node args
+        → has_ended entries flow ≡ true → ⊥
     call-goes_on node args call ended =
         let whole = has_ended-whole ended in
         subst HasEnded call.stops whole.finished
@@ -73,8 +80,10 @@ not-true false never = refl
 
 -- ---- one entry more
 
-ended-last : (list : List Event) (event : Event) → list_any is_end (list ++ event ∷ []) ≡ (list_any is_end list || is_end event)
-ended-last list event = list_any-append is_end list (event ∷ []) ∙ ap (λ (b : Bool). list_any is_end list || b) (or-false (is_end event))
+ended-last : (list : List Event) (event : Event) → list_any is_end (list ++ event ∷ [])
+    ≡ (list_any is_end list || is_end event)
+ended-last list event = list_any-append is_end list (event ∷ []) ∙ ap (λ (b : Bool). list_any is_end list || b)
+    (or-false (is_end event))
   where
     or-false : (b : Bool) → (b || false) ≡ b
     or-false true = refl
@@ -84,8 +93,11 @@ pub ended-other : (entries : List Entry) (flow : FlowNo) (event : Event) (other 
     → has_ended (entries ++ record { flow = flow; event = event } ∷ []) other ≡ has_ended entries other
 ended-other entries flow event other apart = ap (list_any is_end) (events-other entries flow event other apart)
 
-pub ended-own : (entries : List Entry) (flow : FlowNo) (event : Event) → has_ended (entries ++ record { flow = flow; event = event } ∷ []) flow.0 ≡ (has_ended entries flow.0 || is_end event)
-ended-own entries flow event = ap (list_any is_end) (events-own entries flow.0 event) ∙ ended-last (events_by flow.0 entries) event
+pub ended-own : (entries : List Entry) (flow : FlowNo) (event : Event)
+    → has_ended (entries ++ record { flow = flow; event = event } ∷ []) flow.0
+    ≡ (has_ended entries flow.0 || is_end event)
+ended-own entries flow event = ap (list_any is_end) (events-own entries flow.0 event) ∙ ended-last
+    (events_by flow.0 entries) event
 
 -- ---- how many have not ended
 
@@ -97,23 +109,31 @@ live_in entries count = sum_below (one_live entries) count
 
 module _ (entries : List Entry) (flow : FlowNo) (event : Event) (count : ℕ) where
   -- an event that is no end leaves as many
-  pub live-still : is_end event ≡ false → live_in (entries ++ record { flow = flow; event = event } ∷ []) count ≡ live_in entries count
-  live-still no_end = sum-same (one_live entries) (one_live (entries ++ record { flow = flow; event = event } ∷ [])) count (λ other lt. ap (λ (b : Bool). cond b 0 1) (by other (cases_eq flow.0 other)))
+  pub live-still : is_end event ≡ false → live_in (entries ++ record { flow = flow; event = event } ∷ []) count
+      ≡ live_in entries count
+  live-still no_end = sum-same (one_live entries) (one_live (entries ++ record { flow = flow; event = event } ∷ []))
+      count (λ other lt. ap (λ (b : Bool). cond b 0 1) (by other (cases_eq flow.0 other)))
     where
       or-false : (b : Bool) → (b || false) ≡ b
       or-false true = refl
       or-false false = refl
 
-      by : (other : ℕ) → (flow.0 ≡ other) ⊎ (flow.0 ≡ other → ⊥) → has_ended (entries ++ record { flow = flow; event = event } ∷ []) other ≡ has_ended entries other
+      by : (other : ℕ) → (flow.0 ≡ other) ⊎ (flow.0 ≡ other → ⊥)
+          → has_ended (entries ++ record { flow = flow; event = event } ∷ []) other ≡ has_ended entries other
       by other (inr apart) = ended-other entries flow event other apart
-      by other (inl same) = subst (λ (f : ℕ). has_ended (entries ++ record { flow = flow; event = event } ∷ []) f ≡ has_ended entries f) same
-          (ended-own entries flow event ∙ ap (λ (b : Bool). has_ended entries flow.0 || b) no_end ∙ or-false (has_ended entries flow.0))
+      by other (inl same) = subst (λ (f : ℕ). has_ended (entries ++ record { flow = flow; event = event } ∷ []) f
+          ≡ has_ended entries f) same
+          (ended-own entries flow event ∙ ap (λ (b : Bool). has_ended entries flow.0 || b) no_end ∙ or-false
+          (has_ended entries flow.0))
 
   -- an end of a flow that goes on leaves one less
-  pub live-less : is_end event ≡ true → flow.0 < count → has_ended entries flow.0 ≡ false → live_in entries count ≡ live_in (entries ++ record { flow = flow; event = event } ∷ []) count + 1
+  pub live-less : is_end event ≡ true → flow.0 < count → has_ended entries flow.0 ≡ false
+      → live_in entries count ≡ live_in (entries ++ record { flow = flow; event = event } ∷ []) count + 1
   live-less is lt goes_on =
       sum-one (one_live (entries ++ record { flow = flow; event = event } ∷ [])) (one_live entries) flow.0 count lt
-      (ap (λ (b : Bool). cond b 0 1) goes_on ∙ sym (ap (λ (b : Bool). cond b 0 1 + 1) (ended-own entries flow event ∙ ap (λ (b : Bool). has_ended entries flow.0 || b) is ∙ or-true (has_ended entries flow.0))))
+      (ap (λ (b : Bool). cond b 0 1) goes_on ∙ sym (ap (λ (b : Bool). cond b 0 1 + 1)
+      (ended-own entries flow event ∙ ap (λ (b : Bool). has_ended entries flow.0 || b) is ∙ or-true
+      (has_ended entries flow.0))))
       (λ other apart. ap (λ (b : Bool). cond b 0 1) (sym (ended-other entries flow event other apart)))
     where
       or-true : (b : Bool) → (b || true) ≡ true
@@ -126,7 +146,8 @@ live-all zero = refl
 live-all (suc count) = let more = live-all count in omega (arith, more)
 
 -- where a flow goes on, some are live
-pub live-some : (entries : List Entry) (flow count : ℕ) → flow < count → has_ended entries flow ≡ false → 1 ≤ live_in entries count
+pub live-some : (entries : List Entry) (flow count : ℕ) → flow < count → has_ended entries flow ≡ false
+    → 1 ≤ live_in entries count
 live-some entries flow count lt goes_on =
     let one : one_live entries flow ≡ 1 = ap (λ (b : Bool). cond b 0 1) goes_on in
     by count lt one
@@ -135,6 +156,18 @@ live-some entries flow count lt goes_on =
     by zero lt one = absurd (omega (arith, lt))
     by (suc n) lt one = here (cases_eq flow n) (λ less. by n less one)
       where
-        here : (flow ≡ n) ⊎ (flow ≡ n → ⊥) → (flow < n → 1 ≤ live_in entries n) → 1 ≤ live_in entries n + one_live entries n
-        here (inl same) more = let e : one_live entries n ≡ 1 = subst (λ (f : ℕ). one_live entries f ≡ 1) same one in omega (arith, e)
-        here (inr apart) more = let ne : flow ≢ n = apart in let some = more (omega (arith, lt, ne)) in omega (arith, some)
+        here : (flow ≡ n) ⊎ (flow ≡ n → ⊥) → (flow < n → 1 ≤ live_in entries n)
+            → 1 ≤ live_in entries n + one_live entries n
+        here (inl same) more = let e : one_live entries n ≡ 1 =
+            subst (λ (f : ℕ). one_live entries f ≡ 1) same one in omega (arith, e)
+        here (inr apart) more = let ne : flow ≢ n = apart in let some =
+            more (omega (arith, lt, ne)) in omega (arith, some)
+
+-- where none is live, each has ended
+pub none-all : (entries : List Entry) (flow count : ℕ) → flow < count → live_in entries count ≡ 0
+    → has_ended entries flow ≡ true
+none-all entries flow count lt none = by (has_ended entries flow) refl
+  where
+    by : (b : Bool) → has_ended entries flow ≡ b → b ≡ true
+    by true e = refl
+    by false e = let some = live-some entries flow count lt e in absurd (omega (arith, some, none))

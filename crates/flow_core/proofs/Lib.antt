@@ -14,3 +14,4 @@ pub mod Opened
 pub mod Comes
 pub mod LegalRuns
 pub mod Stops
+pub mod Sequels

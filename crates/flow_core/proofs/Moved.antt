@@ -35,19 +35,23 @@ use Rattle.flow_core.specs.declared.places.Place.{Place}
 use Rattle.flow_core.specs.States.{IsBegun}
 use Rattle.flow_core.specs.steps.Places.{matches_in, HasPlan, is_wait, ends_waiting, IsPlaceOf, IsComing, IsQuiet, IsEventComing}
 use Rattle.flow_core.specs.steps.Table.{IsTable}
-use Rattle.flow_core.specs.steps.Running.{IsGiven, IsAfter}
+use Rattle.flow_core.specs.steps.Fields.{IsGiven, IsAfter}
 use Rattle.flow_core.proofs.Entries.{events-own, waiting-last, not_waiting-last, not_waiting-nowhere}
 use Rattle.flow_core.proofs.Tables.{not-both, nowhere-by, nowhere-calling, table-quiet, table-taken, table-dropped, table-waited}
 use Rattle.flow_core.proofs.AtPlaces.{one-plan, place-next, place-calls, place-later, place-advanced, place-answered, place-nowhere, places-replaced, places-more}
 
 -- ---- cells
 
-after-append : (setup : Setup) (cells : Cells) (a b : List Entry) → after_entries setup cells (a ++ b) ≡ after_entries setup (after_entries setup cells a) b
+after-append : (setup : Setup) (cells : Cells) (a b : List Entry)
+    → after_entries setup cells (a ++ b) ≡ after_entries setup (after_entries setup cells a) b
 after-append setup cells [] b = refl
 after-append setup cells (entry ∷ a) b = after-append setup (after_event setup entry.flow.0 cells entry.event) a b
 
-pub cells-more : (setup : Setup) (entries : List Entry) (flow : FlowNo) (event : Event) → cells_after setup (entries ++ record { flow = flow; event = event } ∷ []) ≡ after_event setup flow.0 (cells_after setup entries) event
-cells-more setup entries flow event = after-append setup setup.opening entries (record { flow = flow; event = event } ∷ [])
+pub cells-more : (setup : Setup) (entries : List Entry) (flow : FlowNo) (event : Event)
+    → cells_after setup (entries ++ record { flow = flow; event = event } ∷ []) ≡ after_event setup flow.0
+    (cells_after setup entries) event
+cells-more setup entries flow event = after-append setup setup.opening entries
+    (record { flow = flow; event = event } ∷ [])
 
 -- ---- what comes next
 
@@ -64,7 +68,8 @@ quiet-no_wait (End outcome) quiet = refl
 quiet-no_take : (event : Event) → IsQuiet event → (key : Key) (mode : Mode) → event ≡ Take key mode → ⊥
 quiet-no_take event quiet key mode e = subst IsQuiet e quiet
 
-module _ (setup : Setup) (plans : List Plan) (given : IsGiven setup plans) (entries : List Entry) (places : List Place) (locks : Locks) (cells : Cells)
+module _ (setup : Setup) (plans : List Plan) (given : IsGiven setup plans) (entries : List Entry) (places : List Place)
+    (locks : Locks) (cells : Cells)
     (after : IsAfter setup plans entries places locks cells) (flow : FlowNo) where
   abbrev more : Event → List Entry
   more event = entries ++ record { flow = flow; event = event } ∷ []
@@ -80,31 +85,39 @@ module _ (setup : Setup) (plans : List Plan) (given : IsGiven setup plans) (entr
   here place at = let are = after.places_ in are.each flow.0 place at
 
   -- what comes at its place comes in the plan that is known
-  pub coming-there : (next : Next) (coming : IsComing setup plans places flow.0 next) → let place = coming.place in let own = here coming.place coming.is_place in
+  pub coming-there : (next : Next) (coming : IsComing setup plans places flow.0 next)
+      → let place = coming.place in let own = here coming.place coming.is_place in
       next_in own.plan (matches_in setup) place.local ≡ Some next
   coming-there next coming =
       let place = coming.place in
       let own = here coming.place coming.is_place in
-      subst (λ (p : Plan). next_in p (matches_in setup) place.local ≡ Some next) (one-plan plans (item_of setup flow.0) coming.plan own.plan coming.is_plan own.is_plan) coming.coming
+      subst (λ (p : Plan). next_in p (matches_in setup) place.local ≡ Some next)
+      (one-plan plans (item_of setup flow.0) coming.plan own.plan coming.is_plan own.is_plan) coming.coming
 
   pub event-next : (event : Event) → Coming event → IsNext setup entries flow.0 event
   event-next event is =
       let coming = is.coming in
-      place-next setup plans entries legal flow.0 coming.place (here coming.place coming.is_place) is.next (coming-there is.next coming) event is.event_
+      place-next setup plans entries legal flow.0 coming.place (here coming.place coming.is_place) is.next
+      (coming-there is.next coming) event is.event_
 
-  pub call-next : (node : NodeNo) (coming : IsComing setup plans places flow.0 (nexts.Call node)) → let place = coming.place in CallIsNext setup entries flow.0 node (values_at place.local)
-  call-next node coming = place-calls setup plans entries legal flow.0 coming.place (here coming.place coming.is_place) (nexts.Call node) (coming-there (nexts.Call node) coming) node refl
+  pub call-next : (node : NodeNo) (coming : IsComing setup plans places flow.0 (nexts.Call node))
+      → let place = coming.place in CallIsNext setup entries flow.0 node (values_at place.local)
+  call-next node coming = place-calls setup plans entries legal flow.0 coming.place (here coming.place coming.is_place)
+      (nexts.Call node) (coming-there (nexts.Call node) coming) node refl
 
   -- a flow with a next event has no begun call
-  pub not-begun : (event : Event) → IsNext setup entries flow.0 event → (place : Place) → slice_get places flow.0 ≡ Some place → (inputs : Inputs) → place.begun ≡ Some inputs → ⊥
+  pub not-begun : (event : Event) → IsNext setup entries flow.0 event → (place : Place)
+      → slice_get places flow.0 ≡ Some place → (inputs : Inputs) → place.begun ≡ Some inputs → ⊥
   not-begun event next place at inputs begun =
       let own = here place at in
       let call = own.call inputs begun in
       not-both setup entries flow.0 event inputs.node inputs.args next call.next
 
   -- only takes are blocked
-  pub not-blocked : (event : Event) → IsNext setup entries flow.0 event → ((key : Key) (mode : Mode) → event ≡ Take key mode → ⊥) → IsBlocked setup entries flow.0 → ⊥
-  not-blocked event next away (other, waits) = away waits.key waits.mode (next-unique setup entries flow.0 event (Take waits.key waits.mode) next waits.next)
+  pub not-blocked : (event : Event) → IsNext setup entries flow.0 event
+      → ((key : Key) (mode : Mode) → event ≡ Take key mode → ⊥) → IsBlocked setup entries flow.0 → ⊥
+  not-blocked event next away (other, waits) = away waits.key waits.mode
+      (next-unique setup entries flow.0 event (Take waits.key waits.mode) next waits.next)
 
   -- ---- moves
 
@@ -121,8 +134,10 @@ module _ (setup : Setup) (plans : List Plan) (given : IsGiven setup plans) (entr
   abbrev OldPlace : (event : Event) → Coming event → Place
   OldPlace event is = let coming = is.coming in coming.place
 
-  module _ (event : Event) (is : Coming event) (new : Place) (made : IsMadeAt (OldPlace event is) new) (stands : new.stands ≡ false) (no_wait : is_wait event ≡ false)
-      (free : IsBlocked setup entries flow.0 → ⊥) (new_locks : Locks) (table : IsTable (more event) new_locks) (same_cells : cells_after setup (more event) ≡ cells_after setup entries) where
+  module _ (event : Event) (is : Coming event) (new : Place) (made : IsMadeAt (OldPlace event is) new)
+      (stands : new.stands ≡ false) (no_wait : is_wait event ≡ false)
+      (free : IsBlocked setup entries flow.0 → ⊥) (new_locks : Locks) (table : IsTable (more event) new_locks)
+      (same_cells : cells_after setup (more event) ≡ cells_after setup entries) where
     step-may : MayStep setup entries flow event
     step-may = record { next = event-next event is; free = free }
 
@@ -133,29 +148,36 @@ module _ (setup : Setup) (plans : List Plan) (given : IsGiven setup plans) (entr
         record {
           legal = after_legal;
           places_ = places-more setup plans given entries places after.places_ flow event legal after_legal new
-              (place-advanced setup plans entries legal flow.0 coming.place (here coming.place coming.is_place) is.next (coming-there is.next coming) event is.event_ new made.made made.session
-              (λ inputs begun. not-begun event (event-next event is) coming.place coming.is_place inputs (sym made.begun ∙ begun)) stands no_wait);
+              (place-advanced setup plans entries legal flow.0 coming.place (here coming.place coming.is_place) is.next
+              (coming-there is.next coming) event is.event_ new made.made made.session
+              (λ inputs begun. not-begun event (event-next event is) coming.place coming.is_place inputs
+              (sym made.begun ∙ begun)) stands no_wait);
           table = table;
           cells_ = after.cells_ ∙ sym same_cells;
         }
 
   -- an event that changes no keys
-  pub moved-quiet : (event : Event) (is : Coming event) (new : Place) → IsMadeAt (OldPlace event is) new → IsQuiet event → ((made : CallMade) → event ≡ Call made → ⊥)
+  pub moved-quiet : (event : Event) (is : Coming event) (new : Place) → IsMadeAt (OldPlace event is) new → IsQuiet event
+      → ((made : CallMade) → event ≡ Call made → ⊥)
       → (let old = OldPlace event is in new.stands ≡ old.stands) → HasMoved event new locks cells
   moved-quiet event is new made quiet no_call stands =
       let next = event-next event is in
       let coming = is.coming in
       let away = quiet-no_take event quiet in
       let nowhere = nowhere-by setup entries legal flow.0 event next away in
-      let still : new.stands ≡ false = stands ∙ place-nowhere setup plans entries legal flow.0 coming.place (here coming.place coming.is_place) nowhere in
+      let still : new.stands ≡ false = stands ∙ place-nowhere setup plans entries legal flow.0 coming.place
+      (here coming.place coming.is_place) nowhere in
       let free = not-blocked event next away in
       let same = cells-more setup entries flow event ∙ no_change event quiet no_call in
       record {
-        holds = step-holds event is new made still (quiet-no_wait event quiet) free locks (table-quiet setup entries legal locks after.table flow event quiet nowhere) same;
-        may = step-may event is new made still (quiet-no_wait event quiet) free locks (table-quiet setup entries legal locks after.table flow event quiet nowhere) same;
+        holds = step-holds event is new made still (quiet-no_wait event quiet) free locks
+            (table-quiet setup entries legal locks after.table flow event quiet nowhere) same;
+        may = step-may event is new made still (quiet-no_wait event quiet) free locks
+            (table-quiet setup entries legal locks after.table flow event quiet nowhere) same;
       }
     where
-      no_change : (e : Event) → IsQuiet e → ((m : CallMade) → e ≡ Call m → ⊥) → after_event setup flow.0 (cells_after setup entries) e ≡ cells_after setup entries
+      no_change : (e : Event) → IsQuiet e → ((m : CallMade) → e ≡ Call m → ⊥)
+          → after_event setup flow.0 (cells_after setup entries) e ≡ cells_after setup entries
       no_change (Take key mode) q n = refl
       no_change (Wait key mode) q n = refl
       no_change (Enter node) q n = refl
@@ -166,14 +188,16 @@ module _ (setup : Setup) (plans : List Plan) (given : IsGiven setup plans) (entr
       no_change (End outcome) q n = refl
 
   -- a drop
-  pub moved-drop : (key : Key) (is : Coming (Drop key)) (new : Place) → IsMadeAt (OldPlace (Drop key) is) new → (let old = OldPlace (Drop key) is in new.stands ≡ old.stands)
+  pub moved-drop : (key : Key) (is : Coming (Drop key)) (new : Place) → IsMadeAt (OldPlace (Drop key) is) new
+      → (let old = OldPlace (Drop key) is in new.stands ≡ old.stands)
       → (new_locks : Locks) → Releases locks new_locks flow.0 key → HasMoved (Drop key) new new_locks cells
   moved-drop key is new made stands new_locks releases =
       let next = event-next (Drop key) is in
       let coming = is.coming in
       let away : (k : Key) (mode : Mode) → Drop key ≡ Take k mode → ⊥ = λ k mode e. cc in
       let nowhere = nowhere-by setup entries legal flow.0 (Drop key) next away in
-      let still : new.stands ≡ false = stands ∙ place-nowhere setup plans entries legal flow.0 coming.place (here coming.place coming.is_place) nowhere in
+      let still : new.stands ≡ false = stands ∙ place-nowhere setup plans entries legal flow.0 coming.place
+      (here coming.place coming.is_place) nowhere in
       let free = not-blocked (Drop key) next away in
       let table = table-dropped setup entries legal locks after.table flow key new_locks next releases in
       let same = cells-more setup entries flow (Drop key) in
@@ -183,16 +207,20 @@ module _ (setup : Setup) (plans : List Plan) (given : IsGiven setup plans) (entr
       }
 
   -- a take that nobody blocks
-  pub moved-take : (key : Key) (mode : Mode) (is : Coming (Take key mode)) (new : Place) → IsMadeAt (OldPlace (Take key mode) is) new → new.stands ≡ false
-      → ((other : ℕ) → Blocks entries other flow.0 key mode → ⊥) → (new_locks : Locks) → Takes locks new_locks flow.0 key mode → HasMoved (Take key mode) new new_locks cells
+  pub moved-take : (key : Key) (mode : Mode) (is : Coming (Take key mode)) (new : Place)
+      → IsMadeAt (OldPlace (Take key mode) is) new → new.stands ≡ false
+      → ((other : ℕ) → Blocks entries other flow.0 key mode → ⊥) → (new_locks : Locks)
+      → Takes locks new_locks flow.0 key mode → HasMoved (Take key mode) new new_locks cells
   moved-take key mode is new made stands nobody new_locks takes =
       let next = event-next (Take key mode) is in
       let free : IsBlocked setup entries flow.0 → ⊥ = λ blocked.
       let waits = blocked.1 in
-      let same : Take key mode ≡ Take waits.key waits.mode = next-unique setup entries flow.0 (Take key mode) (Take waits.key waits.mode) next waits.next in
+      let same : Take key mode ≡ Take waits.key waits.mode =
+      next-unique setup entries flow.0 (Take key mode) (Take waits.key waits.mode) next waits.next in
       let keys : key ≡ waits.key = cc in
       let modes : mode ≡ waits.mode = cc in
-      nobody blocked.0 (subst (λ (k : Key). Blocks entries blocked.0 flow.0 k mode) (sym keys) (subst (λ (m : Mode). Blocks entries blocked.0 flow.0 waits.key m) (sym modes) waits.blocked)) in
+      nobody blocked.0 (subst (λ (k : Key). Blocks entries blocked.0 flow.0 k mode) (sym keys)
+      (subst (λ (m : Mode). Blocks entries blocked.0 flow.0 waits.key m) (sym modes) waits.blocked)) in
       let table = table-taken setup entries legal locks after.table flow key mode new_locks next takes in
       let same = cells-more setup entries flow (Take key mode) in
       record {
@@ -205,8 +233,10 @@ module _ (setup : Setup) (plans : List Plan) (given : IsGiven setup plans) (entr
     pub holds : IsAfter setup plans (more (Wait key mode)) (slice_set places flow.0 new) after_locks cells
     pub may : MayStand setup entries flow key mode
 
-  pub moved-wait : (key : Key) (mode : Mode) (is : Coming (Take key mode)) (other : ℕ) → Blocks entries other flow.0 key mode
-      → (new : Place) → (let old = OldPlace (Take key mode) is in (old.stands ≡ false) × (new.local ≡ old.local) × (new.session ≡ old.session) × (new.begun ≡ old.begun)) → new.stands ≡ true
+  pub moved-wait : (key : Key) (mode : Mode) (is : Coming (Take key mode)) (other : ℕ)
+      → Blocks entries other flow.0 key mode
+      → (new : Place) → (let old = OldPlace (Take key mode) is in (old.stands ≡ false) × (new.local ≡ old.local) ×
+      (new.session ≡ old.session) × (new.begun ≡ old.begun)) → new.stands ≡ true
       → (new_locks : Locks) → Waits locks new_locks flow key mode → HasStood key mode new new_locks
   moved-wait key mode is other blocks new (idle, local, session, begun) stands new_locks waits =
       let next = event-next (Take key mode) is in
@@ -222,51 +252,65 @@ module _ (setup : Setup) (plans : List Plan) (given : IsGiven setup plans) (entr
       record {
         holds = record {
           legal = after_legal;
-          places_ = places-more setup plans given entries places after.places_ flow (Wait key mode) legal after_legal new
+          places_ = places-more setup plans given entries places after.places_ flow (Wait key mode) legal after_legal
+              new
               (place-later setup plans entries legal flow.0 coming.place own (more (Wait key mode)) new
               (own_answers-more entries flow.0 (Wait key mode) ∙ append-nil (own_answers entries flow.0))
               (own_events-more entries flow.0 (Wait key mode) ∙ append-nil (own_events entries flow.0))
               local session
-              (λ inputs is_begun. absurd (not-begun (Take key mode) next coming.place coming.is_place inputs (sym begun ∙ is_begun)))
-              (stands ∙ sym (ap (ends_waiting false) (events-own entries flow.0 (Wait key mode)) ∙ waiting-last false (events_by flow.0 entries) (Wait key mode))));
-          table = table-waited setup entries legal locks after.table flow key mode new_locks (not_waiting-nowhere entries flow.0 no_wait) waits;
+              (λ inputs is_begun. absurd (not-begun (Take key mode) next coming.place coming.is_place inputs
+              (sym begun ∙ is_begun)))
+              (stands ∙ sym (ap (ends_waiting false) (events-own entries flow.0 (Wait key mode)) ∙ waiting-last false
+              (events_by flow.0 entries) (Wait key mode))));
+          table = table-waited setup entries legal locks after.table flow key mode new_locks
+              (not_waiting-nowhere entries flow.0 no_wait) waits;
           cells_ = after.cells_ ∙ sym (cells-more setup entries flow (Wait key mode));
         };
         may = may;
       }
 
   -- a call is begun
-  pub moved-begin : (place new : Place) → slice_get places flow.0 ≡ Some place → new.local ≡ place.local → new.session ≡ place.session → new.stands ≡ place.stands
-      → (inputs : Inputs) → new.begun ≡ Some inputs → IsBegun setup entries flow.0 inputs → IsAfter setup plans entries (slice_set places flow.0 new) locks cells
+  pub moved-begin : (place new : Place) → slice_get places flow.0 ≡ Some place → new.local ≡ place.local
+      → new.session ≡ place.session → new.stands ≡ place.stands
+      → (inputs : Inputs) → new.begun ≡ Some inputs → IsBegun setup entries flow.0 inputs
+      → IsAfter setup plans entries (slice_set places flow.0 new) locks cells
   moved-begin place new at local session stands inputs begun call =
       let own = here place at in
       record {
         legal = legal;
         places_ = places-replaced setup plans given entries places after.places_ flow.0 new
             (place-later setup plans entries legal flow.0 place own entries new refl refl local session
-            (λ other is. let same : inputs ≡ other = let e = sym begun ∙ is in cc in subst (IsBegun setup entries flow.0) same call) (stands ∙ own.stands));
+            (λ other is. let same : inputs ≡ other = let e =
+            sym begun ∙ is in cc in subst (IsBegun setup entries flow.0) same call) (stands ∙ own.stands));
         table = after.table;
         cells_ = after.cells_;
       }
 
   -- a call is finished
-  pub moved-finish : (place new : Place) → slice_get places flow.0 ≡ Some place → (inputs : Inputs) → place.begun ≡ Some inputs → (answer : Answer)
-      → HasPlan plans setup.items flow.0 (λ plan. IsAnswered plan place.local answer new.local) → new.session ≡ place.session → new.begun ≡ None → new.stands ≡ place.stands
-      → (made : CallMade) → made ≡ record { node = inputs.node; args = inputs.args; answer = answer } → MayCall setup entries flow made
-      → (own : IsPlaceOf setup plans entries flow.0 place) → called_in own.plan place.local ≡ Some inputs.node → values_at place.local ≡ inputs.args
+  pub moved-finish : (place new : Place) → slice_get places flow.0 ≡ Some place → (inputs : Inputs)
+      → place.begun ≡ Some inputs → (answer : Answer)
+      → HasPlan plans setup.items flow.0 (λ plan. IsAnswered plan place.local answer new.local)
+      → new.session ≡ place.session → new.begun ≡ None → new.stands ≡ place.stands
+      → (made : CallMade) → made ≡ record { node = inputs.node; args = inputs.args; answer = answer }
+      → MayCall setup entries flow made
+      → (own : IsPlaceOf setup plans entries flow.0 place) → called_in own.plan place.local ≡ Some inputs.node
+      → values_at place.local ≡ inputs.args
       → (new_cells : Cells) → new_cells ≡ after_event setup flow.0 (cells_after setup entries) (Call made)
       → IsAfter setup plans (more (Call made)) (slice_set places flow.0 new) locks new_cells
-  moved-finish place new at inputs begun answer answered session ended stands made is_made may own called args new_cells changed =
+  moved-finish place new at inputs begun answer answered session ended stands made is_made may own called args new_cells
+      changed =
       let call = own.call inputs begun in
       let nowhere = nowhere-calling setup entries legal flow.0 inputs.node inputs.args call.next in
       let after_legal = call_is_legal setup entries flow made legal may in
-      let as_made : record { node = inputs.node; args = values_at place.local; answer = answer } ≡ made = ap (λ (vs : List Value). record { node = inputs.node; args = vs; answer = answer }) args ∙ sym is_made in
+      let as_made : record { node = inputs.node; args = values_at place.local; answer = answer } ≡ made =
+      ap (λ (vs : List Value). record { node = inputs.node; args = vs; answer = answer }) args ∙ sym is_made in
       record {
         legal = after_legal;
         places_ = places-more setup plans given entries places after.places_ flow (Call made) legal after_legal new
             (subst (λ (m : CallMade). IsPlaceOf setup plans (more (Call m)) flow.0 new) as_made
             (place-answered setup plans entries legal flow.0 place own inputs.node answer called new answered session
-            (λ other is. let e : None ≡ Some other = sym ended ∙ is in cc) (stands ∙ place-nowhere setup plans entries legal flow.0 place own nowhere)));
+            (λ other is. let e : None ≡ Some other = sym ended ∙ is in cc)
+            (stands ∙ place-nowhere setup plans entries legal flow.0 place own nowhere)));
         table = table-quiet setup entries legal locks after.table flow (Call made) tt nowhere;
         cells_ = changed ∙ sym (cells-more setup entries flow (Call made));
       }

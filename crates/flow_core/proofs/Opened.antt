@@ -26,68 +26,82 @@ use Rattle.std.proofs.lemmas.Option.{slice_get_within}
 use Rattle.flux_plan.proofs.Following.{reached-fresh}
 use Rattle.flux_cells.specs.Kept.{cells_of}
 use Rattle.flow_core.specs.declared.places.Place.{Place}
-use Rattle.flow_core.specs.declared.running.Running.{Running}
+use Rattle.flow_core.specs.declared.fields.Fields.{Fields}
 use Rattle.flow_core.specs.States.{setup_in, MayRun}
-use Rattle.flow_core.specs.steps.Opening.{IsFreshPlace, AreFreshPlaces}
+use Rattle.flow_core.specs.steps.Starts.{IsFreshPlace, AreFreshPlaces}
 use Rattle.flow_core.specs.steps.Places.{IsPlaceOf, ArePlaces}
 use Rattle.flow_core.specs.steps.Table.{IsTable}
-use Rattle.flow_core.specs.steps.Running.{core_of, plans_of, IsGiven, IsAfter, IsRunning}
+use Rattle.flow_core.specs.steps.Fields.{core_of, plans_of, IsGiven, IsAfter, AreFields}
 use Rattle.flow_core.proofs.Ended.{live_in, live-all}
 use Rattle.flow_core.proofs.AtPlaces.{has-line, line-plan}
 
 -- ---- lists of places
 
-pub fresh-more : (meaning : LibraryMeaning) (p : Program) (items : List Item) (places : List Place) (item : Item) (place : Place) → AreFreshPlaces meaning p items places → IsFreshPlace meaning p item place
+pub fresh-more : (meaning : LibraryMeaning) (p : Program) (items : List Item) (places : List Place) (item : Item)
+    (place : Place) → AreFreshPlaces meaning p items places → IsFreshPlace meaning p item place
     → AreFreshPlaces meaning p (items ++ item ∷ []) (places ++ place ∷ [])
 fresh-more meaning p [] [] item place are is = (is, tt)
 fresh-more meaning p [] (q ∷ places) item place are is = absurd are
 fresh-more meaning p (i ∷ items) [] item place are is = absurd are
-fresh-more meaning p (i ∷ items) (q ∷ places) item place (own, are) is = (own, fresh-more meaning p items places item place are is)
+fresh-more meaning p (i ∷ items) (q ∷ places) item place (own, are) is =
+    (own, fresh-more meaning p items places item place are is)
 
-take-next : (items : List Item) (i : ℕ) (item : Item) → i < length items → item ≡ get_or items i item → take (i + 1) items ≡ take i items ++ item ∷ []
+take-next : (items : List Item) (i : ℕ) (item : Item) → i < length items → item ≡ get_or items i item
+    → take (i + 1) items ≡ take i items ++ item ∷ []
 take-next [] i item lt is = absurd (omega (arith, lt))
 take-next (x ∷ items) zero item lt is = ap (λ (y : Item). y ∷ []) (sym is)
 take-next (x ∷ items) (suc i) item lt is =
     let next : suc i + 1 ≡ suc (i + 1) = omega arith in
-    ap (λ (n : ℕ). take n (x ∷ items)) next ∙ ap (λ (xs : List Item). x ∷ xs) (take-next items i item (omega (arith, lt)) is)
+    ap (λ (n : ℕ). take n (x ∷ items)) next ∙ ap (λ (xs : List Item). x ∷ xs)
+    (take-next items i item (omega (arith, lt)) is)
 
-pub fresh-next : (meaning : LibraryMeaning) (p : Program) (items read : List Item) (places new : List Place) (i : ℕ) (item : Item) (place : Place) → read ≡ items → i < length read → item ≡ get_or read i item
-    → AreFreshPlaces meaning p (take i items) places → IsFreshPlace meaning p item place → new ≡ places ++ place ∷ [] → AreFreshPlaces meaning p (take (i + 1) items) new
+pub fresh-next : (meaning : LibraryMeaning) (p : Program) (items read : List Item) (places new : List Place) (i : ℕ)
+    (item : Item) (place : Place) → read ≡ items → i < length read → item ≡ get_or read i item
+    → AreFreshPlaces meaning p (take i items) places → IsFreshPlace meaning p item place → new ≡ places ++ place ∷ []
+    → AreFreshPlaces meaning p (take (i + 1) items) new
 fresh-next meaning p items read places new i item place same lt is are own added =
     let lt_ : i < length items = subst (λ (xs : List Item). i < length xs) same lt in
     let is_ : item ≡ get_or items i item = subst (λ (xs : List Item). item ≡ get_or xs i item) same is in
     subst (λ (ps : List Place). AreFreshPlaces meaning p (take (i + 1) items) ps) (sym added)
-    (subst (λ (xs : List Item). AreFreshPlaces meaning p xs (places ++ place ∷ [])) (sym (take-next items i item lt_ is_)) (fresh-more meaning p (take i items) places item place are own))
+    (subst (λ (xs : List Item). AreFreshPlaces meaning p xs (places ++ place ∷ []))
+    (sym (take-next items i item lt_ is_)) (fresh-more meaning p (take i items) places item place are own))
 
-fresh-count : (meaning : LibraryMeaning) (p : Program) (items : List Item) (places : List Place) → AreFreshPlaces meaning p items places → length places ≡ length items
+fresh-count : (meaning : LibraryMeaning) (p : Program) (items : List Item) (places : List Place)
+    → AreFreshPlaces meaning p items places → length places ≡ length items
 fresh-count meaning p [] [] are = refl
 fresh-count meaning p [] (q ∷ places) are = absurd are
 fresh-count meaning p (i ∷ items) [] are = absurd are
 fresh-count meaning p (i ∷ items) (q ∷ places) (own, are) = ap suc (fresh-count meaning p items places are)
 
-pub fresh-begun : (meaning : LibraryMeaning) (p : Program) (items : List Item) (places : List Place) → AreFreshPlaces meaning p items places
+pub fresh-begun : (meaning : LibraryMeaning) (p : Program) (items : List Item) (places : List Place)
+    → AreFreshPlaces meaning p items places
     → map (λ (place : Place). place.begun) places ≡ map (λ (item : Item). None) items
 fresh-begun meaning p [] [] are = refl
 fresh-begun meaning p [] (q ∷ places) are = absurd are
 fresh-begun meaning p (i ∷ items) [] are = absurd are
 fresh-begun meaning p (i ∷ items) (q ∷ places) (own, are) = λ k. own.begun k ∷ fresh-begun meaning p items places are k
 
-fresh-at : (meaning : LibraryMeaning) (p : Program) (items : List Item) (places : List Place) → AreFreshPlaces meaning p items places → (flow : ℕ) (place : Place) → slice_get places flow ≡ Some place
+fresh-at : (meaning : LibraryMeaning) (p : Program) (items : List Item) (places : List Place)
+    → AreFreshPlaces meaning p items places → (flow : ℕ) (place : Place) → slice_get places flow ≡ Some place
     → (item : Item) × (slice_get items flow ≡ Some item) × IsFreshPlace meaning p item place
 fresh-at meaning p [] [] are flow place at = absurd cc
 fresh-at meaning p [] (q ∷ places) are flow place at = absurd are
 fresh-at meaning p (i ∷ items) [] are flow place at = absurd are
-fresh-at meaning p (i ∷ items) (q ∷ places) (own, are) zero place at = let same : q ≡ place = cc in (i, refl, subst (IsFreshPlace meaning p i) same own)
-fresh-at meaning p (i ∷ items) (q ∷ places) (own, are) (suc flow) place at = fresh-at meaning p items places are flow place at
+fresh-at meaning p (i ∷ items) (q ∷ places) (own, are) zero place at = let same : q ≡ place =
+    cc in (i, refl, subst (IsFreshPlace meaning p i) same own)
+fresh-at meaning p (i ∷ items) (q ∷ places) (own, are) (suc flow) place at =
+    fresh-at meaning p items places are flow place at
 
 -- ---- no entries
 
 module _ (setup : Setup) (plans : List Plan) (given : IsGiven setup plans) where
-  opened-place : (flow : ℕ) (item : Item) (place : Place) → item_of setup flow ≡ Some item → flow < length setup.items → IsFreshPlace setup.meaning setup.program item place → IsPlaceOf setup plans [] flow place
+  opened-place : (flow : ℕ) (item : Item) (place : Place) → item_of setup flow ≡ Some item → flow < length setup.items
+      → IsFreshPlace setup.meaning setup.program item place → IsPlaceOf setup plans [] flow place
   opened-place flow item place is_item within own =
       let has = has-line setup plans given flow within in
       let item_same : has.item ≡ item = let e = sym has.is_item ∙ is_item in cc in
-      let line_same : has.line ≡ own.line = let e = sym has.is_line ∙ ap (λ (i : Item). slice_get setup.program.sources i.source.0) item_same ∙ own.is_line in cc in
+      let line_same : has.line ≡ own.line = let e = sym has.is_line ∙ ap
+      (λ (i : Item). slice_get setup.program.sources i.source.0) item_same ∙ own.is_line in cc in
       let given_ = given_for setup item own.line in
       let at : IsAt setup has.plan [] flow (fresh item.values) = record {
         item = item;
@@ -110,7 +124,8 @@ module _ (setup : Setup) (plans : List Plan) (given : IsGiven setup plans) where
         stands = own.stands;
       }
 
-  pub opened-places : (places : List Place) → AreFreshPlaces setup.meaning setup.program setup.items places → ArePlaces setup plans [] places
+  pub opened-places : (places : List Place) → AreFreshPlaces setup.meaning setup.program setup.items places
+      → ArePlaces setup plans [] places
   opened-places places are = record {
     count = fresh-count setup.meaning setup.program setup.items places are;
     each = λ flow place at.
@@ -121,7 +136,10 @@ module _ (setup : Setup) (plans : List Plan) (given : IsGiven setup plans) where
 no-stand : (flow : ℕ) (key : Key) (mode : Mode) (place : ℕ) → StandsAt [] flow key mode place → ⊥
 no-stand flow key mode place stands = by stands.before stands.after stands.stands
   where
-    by : (before after : List Entry) → [] ≡ before ++ record { flow = record { 0 = flow }; event = Wait key mode } ∷ after → ⊥
+    by : (before after : List Entry) → [] ≡ before ++ record {
+      flow = record { 0 = flow };
+      event = Wait key mode;
+    } ∷ after → ⊥
     by [] after e = cc
     by (x ∷ before) after e = cc
 
@@ -131,7 +149,8 @@ opened-table = record {
   lines = λ key. record { all = λ flow mode place stands. absurd (no-stand flow.0 key mode place stands); order = tt };
 }
 
-pub opened-given : (meaning : LibraryMeaning) (setup : Setup) (plans : List Plan) → setup.meaning ≡ meaning → IsLawful meaning → MayRun meaning setup.program plans setup.items → IsGiven setup plans
+pub opened-given : (meaning : LibraryMeaning) (setup : Setup) (plans : List Plan) → setup.meaning ≡ meaning
+    → IsLawful meaning → MayRun meaning setup.program plans setup.items → IsGiven setup plans
 opened-given meaning setup plans same lawful may = record {
   lawful = subst IsLawful (sym same) lawful;
   kinds = may.kinds;
@@ -141,9 +160,12 @@ opened-given meaning setup plans same lawful may = record {
   plans_ = may.plans_;
 }
 
-pub opened-running : {L : Type 0} (meaning : L → LibraryMeaning) (r : Running L) → IsGiven (setup_in meaning (core_of r)) (plans_of r) → (let journal = r.journal in journal.entries ≡ [])
-    → (let setup = setup_in meaning (core_of r) in let places = r.places in AreFreshPlaces setup.meaning setup.program setup.items places.items) → r.table ≡ []
-    → (let setup = r.setup in cells_of r.cells ≡ cells_of setup.opening) → (let setup = r.setup in r.live ≡ length setup.items) → IsRunning meaning r
+pub opened-running : {L : Type 0} (meaning : L → LibraryMeaning) (r : Fields L)
+    → IsGiven (setup_in meaning (core_of r)) (plans_of r) → (let journal = r.journal in journal.entries ≡ [])
+    → (let setup = setup_in meaning (core_of r) in let places =
+    r.places in AreFreshPlaces setup.meaning setup.program setup.items places.items) → r.table ≡ []
+    → (let setup = r.setup in cells_of r.cells ≡ cells_of setup.opening)
+    → (let setup = r.setup in r.live ≡ length setup.items) → AreFields meaning r
 opened-running {L} meaning r given none are_fresh no_locks same live =
     let setup : Setup = setup_in meaning (core_of r) in
     let places = r.places in
@@ -151,17 +173,22 @@ opened-running {L} meaning r given none are_fresh no_locks same live =
     let own = r.setup in
     record {
       given = given;
-      after = subst (λ (es : List Entry). IsAfter setup (plans_of r) es places.items r.table (cells_of r.cells)) (sym none) (record {
-        legal = nothing_is_legal setup (locks_are_there setup.program sound.numbered sound.acyclic);
-        places_ = opened-places setup (plans_of r) given places.items are_fresh;
-        table = subst (IsTable []) (sym no_locks) opened-table;
-        cells_ = same;
-      });
-      live = live ∙ sym (live-all (length own.items)) ∙ ap (λ (es : List Entry). live_in es (length own.items)) (sym none);
+      after = subst (λ (es : List Entry). IsAfter setup (plans_of r) es places.items r.table (cells_of r.cells))
+          (sym none) (record {
+            legal = nothing_is_legal setup (locks_are_there setup.program sound.numbered sound.acyclic);
+            places_ = opened-places setup (plans_of r) given places.items are_fresh;
+            table = subst (IsTable []) (sym no_locks) opened-table;
+            cells_ = same;
+          });
+      live = live ∙ sym (live-all (length own.items)) ∙ ap (λ (es : List Entry). live_in es (length own.items))
+          (sym none);
     }
 
-pub may-sources : (meaning : LibraryMeaning) (p : Program) (plans : List Plan) (items : List Item) → MayRun meaning p plans items → (flow : ℕ) (item : Item) → slice_get items flow ≡ Some item → IsSome (slice_get p.sources item.source.0)
-may-sources meaning p plans items may flow item at = by (slice_get p.sources item.source.0) (all-get (IsItemFor p may.kinds) items flow item may.fit at)
+pub may-sources : (meaning : LibraryMeaning) (p : Program) (plans : List Plan) (items : List Item)
+    → MayRun meaning p plans items → (flow : ℕ) (item : Item) → slice_get items flow ≡ Some item
+    → IsSome (slice_get p.sources item.source.0)
+may-sources meaning p plans items may flow item at = by (slice_get p.sources item.source.0)
+    (all-get (IsItemFor p may.kinds) items flow item may.fit at)
   where
     by : (found : Option SourceLine) → IsItemOf may.kinds found item.values → IsSome found
     by None fits = absurd fits

@@ -25,12 +25,14 @@ equal-is q name is = fin.slice_cmp-IsAntisymmetric fin.nat_cmp-IsAntisymmetric q
     told Greater e = absurd (false≢true e)
 
 -- a name among keys stands at a place
-found-at : (names : List (List ℕ)) (q : List ℕ) → list_any (eq_by_cmp by_name q) names ≡ true → (k : ℕ) × (slice_get names k ≡ Some q)
+found-at : (names : List (List ℕ)) (q : List ℕ) → list_any (eq_by_cmp by_name q) names ≡ true
+    → (k : ℕ) × (slice_get names k ≡ Some q)
 found-at [] q is = absurd cc
 found-at (name ∷ names) q is = by (eq_by_cmp by_name q name) refl is (found-at names q)
   where
     by : (b : Bool) → eq_by_cmp by_name q name ≡ b → (b || list_any (eq_by_cmp by_name q) names) ≡ true
-        → (list_any (eq_by_cmp by_name q) names ≡ true → (k : ℕ) × (slice_get names k ≡ Some q)) → (k : ℕ) × (slice_get (name ∷ names) k ≡ Some q)
+        → (list_any (eq_by_cmp by_name q) names ≡ true → (k : ℕ) × (slice_get names k ≡ Some q))
+        → (k : ℕ) × (slice_get (name ∷ names) k ≡ Some q)
     by true same is more = (zero, ap Some (sym (equal-is q name same)))
     by false apart is more = let (k, at) = more is in (suc k, at)
 
@@ -41,14 +43,19 @@ none-past (y ∷ xs) zero (suc n) x none at = omega arith
 none-past (y ∷ xs) (suc k) (suc n) x none at = let lt = none-past xs k n x none at in omega (arith, lt)
 
 -- a value under a name stands with it
-key-at : (m : CellMap) (q : List ℕ) (value : Value) → fin.get m q ≡ Some value → (k : ℕ) × (slice_get (fin.keys m) k ≡ Some q)
-key-at m q value is = found-at (fin.keys m) q (sym (fin.contains_key-keys m q) ∙ ap (λ (o : Option Value). is_some o) is)
+key-at : (m : CellMap) (q : List ℕ) (value : Value) → fin.get m q ≡ Some value
+    → (k : ℕ) × (slice_get (fin.keys m) k ≡ Some q)
+key-at m q value is = found-at (fin.keys m) q (sym (fin.contains_key-keys m q) ∙ ap (λ (o : Option Value). is_some o)
+    is)
 
-pub same-cells : (a b : CellMap) (place : ℕ) → AreSameBelow a b place → slice_get (fin.keys a) place ≡ None → slice_get (fin.keys b) place ≡ None → a ≡ b
+pub same-cells : (a b : CellMap) (place : ℕ) → AreSameBelow a b place → slice_get (fin.keys a) place ≡ None
+    → slice_get (fin.keys b) place ≡ None → a ≡ b
 same-cells a b place same end_a end_b =
-    fin.same_map nat_list_cmp_total (fin.slice_cmp-IsAntisymmetric fin.nat_cmp-IsAntisymmetric) a b (λ q. by q (fin.get a q) refl (fin.get b q) refl)
+    fin.same_map nat_list_cmp_total (fin.slice_cmp-IsAntisymmetric fin.nat_cmp-IsAntisymmetric) a b
+    (λ q. by q (fin.get a q) refl (fin.get b q) refl)
   where
-    by : (q : List ℕ) (x : Option Value) → fin.get a q ≡ x → (y : Option Value) → fin.get b q ≡ y → fin.get a q ≡ fin.get b q
+    by : (q : List ℕ) (x : Option Value) → fin.get a q ≡ x → (y : Option Value) → fin.get b q ≡ y
+        → fin.get a q ≡ fin.get b q
     by q None is None their = is ∙ sym their
     by q (Some value) is y their =
         let (k, at) = key-at a q value is in
@@ -60,7 +67,10 @@ same-cells a b place same end_a end_b =
         here.values_ q (here.names ∙ at)
 
 pub same-at : (a b : CellMap) (place : ℕ) → a ≡ b → IsSameAt a b place
-same-at a b place e = record { names = ap (λ (m : CellMap). slice_get (fin.keys m) place) e; values_ = λ name at. ap (λ (m : CellMap). fin.get m name) e }
+same-at a b place e = record {
+  names = ap (λ (m : CellMap). slice_get (fin.keys m) place) e;
+  values_ = λ name at. ap (λ (m : CellMap). fin.get m name) e;
+}
 
 -- ---- names that were looked for
 

@@ -20,20 +20,21 @@ use Rattle.flux_plan.specs.declared.locals.Next.TheVariants as nexts
 use Rattle.flux_table.specs.declared.locks.Waiter.{Waiter}
 use Rattle.flux_table.specs.Tables.{lines_of}
 use Rattle.flow_core.specs.declared.places.Place.{Place}
-use Rattle.flow_core.specs.declared.cores.waiting.Stop.{Stop}
-use Rattle.flow_core.specs.declared.running.Running.{Running}
+use Rattle.flow_core.specs.declared.cores.stops.Stop.{Stop}
+use Rattle.flow_core.specs.declared.fields.Fields.{Fields}
 use Rattle.flow_core.specs.States.{setup_in}
 use Rattle.flow_core.specs.Runs.{IsBlockedAt}
 use Rattle.flow_core.specs.Lines.{IsStop, StandBehind, StandInOrder, IsLineAt}
 use Rattle.flow_core.specs.steps.Places.{ends_waiting, IsPlaceOf, IsComing}
 use Rattle.flow_core.specs.steps.Table.{AreInOrder, IsLine}
-use Rattle.flow_core.specs.steps.Running.{core_of, plans_of, IsRunning}
+use Rattle.flow_core.specs.steps.Fields.{core_of, plans_of, AreFields}
 use Rattle.flow_core.proofs.Asked.{take-is_next}
 use Rattle.flow_core.proofs.Entries.{StandsAnywhere, waiting-stands, not_waiting-last}
 use Rattle.flow_core.proofs.Moved.{here}
 use Rattle.flow_core.proofs.Tables.{stands-next}
 
-module _ {L : Type 0} (meaning : L → LibraryMeaning) (r : Running L) (is : IsRunning meaning r) (flow : FlowNo) (within : (let setup = setup_in meaning (core_of r) in flow.0 < length setup.items)) where
+module _ {L : Type 0} (meaning : L → LibraryMeaning) (r : Fields L) (is : AreFields meaning r) (flow : FlowNo)
+    (within : (let setup = setup_in meaning (core_of r) in flow.0 < length setup.items)) where
   abbrev setup : Setup
   setup = setup_in meaning (core_of r)
 
@@ -46,10 +47,12 @@ module _ {L : Type 0} (meaning : L → LibraryMeaning) (r : Running L) (is : IsR
   legal : IsLegal setup entries
   legal = let after = is.after in after.legal
 
-  module _ (next : Next) (coming : IsComing setup (plans_of r) items flow.0 next) (class : ClassNo) (mode : Mode) (takes : next ≡ nexts.Take class mode)
+  module _ (next : Next) (coming : IsComing setup (plans_of r) items flow.0 next) (class : ClassNo) (mode : Mode)
+      (takes : next ≡ nexts.Take class mode)
       (key : Key) (is_key : key_for setup (item_of setup flow.0) class ≡ Some key) where
     -- the flow's place tells whether it stands there
-    pub stop-is : (blocker : ℕ) → Blocks entries blocker flow.0 key mode → (place : Place) → slice_get items flow.0 ≡ Some place
+    pub stop-is : (blocker : ℕ) → Blocks entries blocker flow.0 key mode → (place : Place)
+        → slice_get items flow.0 ≡ Some place
         → IsStop setup entries flow.0 (record { key = key; mode = mode; stands = place.stands })
     stop-is blocker blocks place read = record {
       next = take-next;
@@ -66,17 +69,27 @@ module _ {L : Type 0} (meaning : L → LibraryMeaning) (r : Running L) (is : IsR
 
         there : StandsAnywhere entries flow.0 → (at : ℕ) × StandsAt entries flow.0 key mode at
         there (k, m, at, stands) =
-            let e : Take key mode ≡ Take k m = stands-next setup entries legal flow.0 (Take key mode) take-next k m at stands in
+            let e : Take key mode ≡ Take k m = stands-next setup entries legal flow.0 (Take key mode) take-next k m at
+            stands in
             let keys : k ≡ key = cc in
-            let modes : m ≡ mode = cc in
-            (at, subst (λ (x : Mode). StandsAt entries flow.0 key x at) modes (subst (λ (x : Key). StandsAt entries flow.0 x m at) keys stands))
+            let modes : m ≡ mode = cc in (
+              at,
+              subst (λ (x : Mode). StandsAt entries flow.0 key x at) modes
+                  (subst (λ (x : Key). StandsAt entries flow.0 x m at) keys stands),
+            )
 
 -- a line of the table is the line at its key
-in-order : (entries : List Entry) (key : Key) (line : List Waiter) → AreInOrder entries key line → StandInOrder entries key line
+in-order : (entries : List Entry) (key : Key) (line : List Waiter) → AreInOrder entries key line
+    → StandInOrder entries key line
 in-order entries key [] order = tt
-in-order entries key (waiter ∷ line) (first, order) = ((first.place, first.stands, first.behind), in-order entries key line order)
+in-order entries key (waiter ∷ line) (first, order) = (
+  (first.place, first.stands, first.behind),
+  in-order entries key
+      line order,
+)
 
-pub line-is : {L : Type 0} (meaning : L → LibraryMeaning) (r : Running L) → IsRunning meaning r → (key : Key) → (let journal = r.journal in IsLineAt journal.entries key (lines_of r.table key))
+pub line-is : {L : Type 0} (meaning : L → LibraryMeaning) (r : Fields L) → AreFields meaning r → (key : Key)
+    → (let journal = r.journal in IsLineAt journal.entries key (lines_of r.table key))
 line-is meaning r is key =
     let after = is.after in
     let table = after.table in

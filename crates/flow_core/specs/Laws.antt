@@ -18,6 +18,8 @@ use Rattle.flux_plan.specs.declared.plans.Plan.{Plan}
 use Rattle.flux_cells.specs.Kept.{Kept}
 use Rattle.flow_core.specs.declared.calls.Inputs.{Inputs}
 use Rattle.flow_core.specs.States.{CoreState, setup_in, begun_by, opened, IsAnswerOf, MayRun, IsKept}
+use Rattle.flow_model.specs.Legal.{IsWhole}
+use Rattle.flow_core.specs.Runs.{live_count}
 use Rattle.flow_core.specs.declared.cores.Step.{Step}
 use Rattle.flow_core.specs.declared.cores.Finish.{Finish}
 use Rattle.flow_core.specs.Moves.{with_entry, with_begun, MakesEvent, AddsWait, BeginsCall, HasStepped, HasFinished}
@@ -31,13 +33,13 @@ made_of inputs answer = record { node = inputs.node; args = inputs.args; answer 
 module _ {L : Type 0} (meaning : L → LibraryMeaning) (core : CoreState L) where
   -- the answer is the library's on the cells that the call was begun on
   abbrev pub IsAnswerAtBegin : Inputs → Answer → Type 0
-  IsAnswerAtBegin inputs answer = IsAnswerOf (meaning core.library) core.program inputs answer
+  IsAnswerAtBegin inputs answer = IsAnswerOf (meaning core.setup.library) core.setup.program inputs answer
 
   -- the answer is the library's on the cells that the journal leaves
   abbrev pub IsAnswerNow : FlowNo → Inputs → Answer → Type 0
   IsAnswerNow flow inputs answer = let setup = setup_in meaning core in
       IsNodeAnswer setup flow.0 (cells_after setup core.entries)
-      (slice_get core.program.nodes inputs.node.0) (made_of inputs answer)
+      (slice_get core.setup.program.nodes inputs.node.0) (made_of inputs answer)
 
 -- ---- runs
 
@@ -84,6 +86,11 @@ RunsAreLegal {L} meaning = (p : Program) (plans : List Plan) (items : List Item)
     (library : L) → IsLawful (meaning library) → MayRun (meaning library) p plans items
     → (states : List (CoreState L)) (last : CoreState L)
     → IsRun meaning (opened p plans items opening library) states last → IsRight meaning last
+
+-- a journal in which no flow is live is whole
+abbrev pub NoneLiveIsWhole : {L : Type 0} → (L → LibraryMeaning) → Type 0
+NoneLiveIsWhole {L} meaning = (core : CoreState L) → IsKept meaning core → live_count core ≡ 0
+    → IsWhole (setup_in meaning core) core.entries
 
 -- what a step does is one move of its flow, or none
 abbrev pub StepsAreMoves : {L : Type 0} → (L → LibraryMeaning) → Type 0

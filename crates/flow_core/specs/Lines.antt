@@ -11,7 +11,7 @@ use Rattle.flow_model.specs.Events.{IsNext}
 use Rattle.flow_model.specs.Waits.{StandsAt, IsNoWaitLast}
 use Rattle.flux_laws.specs.Going.{IsBlocked}
 use Rattle.flux_table.specs.declared.locks.Waiter.{Waiter}
-use Rattle.flow_core.specs.declared.cores.waiting.Stop.{Stop}
+use Rattle.flow_core.specs.declared.cores.stops.Stop.{Stop}
 
 -- a flow is blocked at a take, and stands there or has no wait yet
 pub record IsStop (setup : Setup) (entries : List Entry) (flow : ℕ) (stop : Stop) : Type 0 where

@@ -65,7 +65,8 @@ module _ {L : Type 0} (meaning : L → LibraryMeaning) (old new : CoreState L) (
   -- the job of a begun call
   abbrev pub job_of : Inputs → JobState L
   job_of inputs =
-      record { flow = flow; inputs = inputs; program = old.program; library = old.library }
+      let setup = old.setup in
+      record { flow = flow; inputs = inputs; program = setup.program; library = setup.library }
 
   -- the flow's next event is a take that other flows block: its key and the lowest of them are named, and its wait is
   -- added, unless the flow stands there already

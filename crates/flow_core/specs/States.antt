@@ -38,13 +38,17 @@ use Rattle.flow_core.specs.contracts.calls.Inputs as inputs
 
 -- ---- what is seen
 
--- a core: what its flows run in, its journal, the call that each flow has begun, and the flag
-pub record CoreState (L : Type 0) : Type 0 where
+-- what flows run in: a program with its plans, an item for each flow, the cells at the start, and the library
+pub record CoreSetup (L : Type 0) : Type 0 where
   pub program : Program
   pub plans : List Plan
   pub items : List Item
   pub opening : Kept
   pub library : L
+
+-- a core: what its flows run in, its journal, the call that each flow has begun, and the flag
+pub record CoreState (L : Type 0) : Type 0 where
+  pub setup : CoreSetup L
   pub entries : List Entry
   pub begun : List (Option Inputs)
   pub halted : Bool
@@ -65,26 +69,27 @@ pub record DoneState (L : Type 0) : Type 0 where
   pub library : L
 
 -- their codes, as pairs
-abbrev pub core_code : {L : Type 0} → Coded L → Coded (CoreState L)
-core_code {L} library = code_by
-    (Program × (List Plan × (List Item × (Kept × (L × (List Entry × (List (Option Inputs) × Bool)))))))
+abbrev pub setup_code : {L : Type 0} → Coded L → Coded (CoreSetup L)
+setup_code {L} library = code_by (Program × (List Plan × (List Item × (Kept × L))))
     (coded× program.the_row.coded (coded× (coded_list plan.the_row.coded)
     (coded× (coded_list item.the_row.coded)
-    (coded× (coded_list (coded× key.the_row.coded cell.the_row.coded)) (coded× library
-    (coded× (coded_list entry.the_row.coded)
-    (coded× (coded_list (coded_option inputs.the_row.coded)) coded_bool)))))))
-    (λ c. (c.program, (c.plans, (c.items, (c.opening, (c.library, (c.entries, (c.begun, c.halted))))))))
+    (coded× (coded_list (coded× key.the_row.coded cell.the_row.coded)) library))))
+    (λ s. (s.program, (s.plans, (s.items, (s.opening, s.library)))))
     (λ t. record {
       program = t.0;
       plans = t.1.0;
       items = t.1.1.0;
       opening = t.1.1.1.0;
-      library = t.1.1.1.1.0;
-      entries = t.1.1.1.1.1.0;
-      begun = t.1.1.1.1.1.1.0;
-      halted = t.1.1.1.1.1.1.1;
+      library = t.1.1.1.1;
     })
     (λ _. refl)
+
+abbrev pub core_code : {L : Type 0} → Coded L → Coded (CoreState L)
+core_code {L} library = code_by (CoreSetup L × (List Entry × (List (Option Inputs) × Bool)))
+    (coded× (setup_code library) (coded× (coded_list entry.the_row.coded)
+    (coded× (coded_list (coded_option inputs.the_row.coded)) coded_bool)))
+    (λ c. (c.setup, (c.entries, (c.begun, c.halted))))
+    (λ t. record { setup = t.0; entries = t.1.0; begun = t.1.1.0; halted = t.1.1.1 }) (λ _. refl)
 
 abbrev pub job_code : {L : Type 0} → Coded L → Coded (JobState L)
 job_code {L} library = code_by (FlowNo × (Inputs × (Program × L)))
@@ -106,16 +111,19 @@ done_code {L} library = code_by (FlowNo × (Inputs × (Answer × (Program × L))
     })
     (λ _. refl)
 
--- what a core's definitions speak of: its program with the locks of its nodes, its items and opening cells, and what
--- its library means
-abbrev pub setup_in : {L : Type 0} → (L → LibraryMeaning) → CoreState L → Setup
-setup_in meaning core = record {
-  program = core.program;
-  locks = locks_of core.program;
-  items = core.items;
-  opening = cells_of core.opening;
-  meaning = meaning core.library;
+-- what journals are judged by: a program with the locks of its nodes, its items and opening cells, and what its
+-- library means
+abbrev pub setup_by : {L : Type 0} → (L → LibraryMeaning) → CoreSetup L → Setup
+setup_by meaning setup = record {
+  program = setup.program;
+  locks = locks_of setup.program;
+  items = setup.items;
+  opening = cells_of setup.opening;
+  meaning = meaning setup.library;
 }
+
+abbrev pub setup_in : {L : Type 0} → (L → LibraryMeaning) → CoreState L → Setup
+setup_in meaning core = setup_by meaning core.setup
 
 -- the call that a flow has begun
 abbrev pub begun_by : {L : Type 0} → CoreState L → ℕ → Option Inputs
@@ -124,11 +132,13 @@ begun_by core flow = option_flatten (slice_get core.begun flow)
 -- a core whose flows have done nothing
 abbrev pub opened : {L : Type 0} → Program → List Plan → List Item → Kept → L → CoreState L
 opened program plans items opening library = record {
-  program = program;
-  plans = plans;
-  items = items;
-  opening = opening;
-  library = library;
+  setup = record {
+    program = program;
+    plans = plans;
+    items = items;
+    opening = opening;
+    library = library;
+  };
   entries = [];
   begun = map (λ item. None) items;
   halted = false;
@@ -184,13 +194,13 @@ pub record IsBegun (setup : Setup) (entries : List Entry) (flow : ℕ) (inputs :
 -- at every moment: the program is sound for its lawful library and has these plans, the items have their sources'
 -- kinds, the journal is legal, and each begun call is its flow's next
 pub record IsKept {L : Type 0} (meaning : L → LibraryMeaning) (core : CoreState L) : Type 0 where
-  pub lawful : IsLawful (meaning core.library)
+  pub lawful : IsLawful (meaning core.setup.library)
   pub kinds : ℕ → NodeKinds
-  pub sound : IsSound (meaning core.library) core.program kinds
-  pub fit : AllByRecursion (IsItemFor core.program kinds) core.items
-  pub few : length core.items ≤ 4096
-  pub plans_ : ArePlansOf core.program core.plans
+  pub sound : IsSound (meaning core.setup.library) core.setup.program kinds
+  pub fit : AllByRecursion (IsItemFor core.setup.program kinds) core.setup.items
+  pub few : length core.setup.items ≤ 4096
+  pub plans_ : ArePlansOf core.setup.program core.setup.plans
   pub legal : IsLegal (setup_in meaning core) core.entries
-  pub each : length core.begun ≡ length core.items
+  pub each : length core.begun ≡ length core.setup.items
   pub calls : (flow : ℕ) (inputs : Inputs) → begun_by core flow ≡ Some inputs
       → IsBegun (setup_in meaning core) core.entries flow inputs

@@ -1,7 +1,7 @@
 pub mod Places
 pub mod Table
 pub mod Cells
-pub mod Running
+pub mod Fields
 pub mod Sameness
-pub mod Opening
-pub mod Calling
+pub mod Starts
+pub mod Calls

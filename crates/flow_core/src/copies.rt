@@ -3,9 +3,9 @@
 ghost use Rattle.std.specs.Prelude.{◌≡◌, IfOk};
 ghost use Rattle.flow_model.specs.declared.journals.Event.TheVariants as events;
 
+use flow_model::{CallMade, Entry, Event};
 use flux_library::answers::copies;
 use flux_model::{FlowNo, NodeNo};
-use flow_model::{CallMade, Entry, Event};
 use flux_values::{Answer, Bytes, CallResult, List, Memory, Put, Value};
 use std::alloc::Global;
 

@@ -8,21 +8,21 @@ ghost use Rattle.flux_laws.specs.Growth.{has_ended};
 ghost use Rattle.flux_cells.specs.Kept.{cells_of};
 ghost use Rattle.flow_core.specs.States.{setup_in, begun_by, opened, library_name, MayRun, IsKept};
 ghost use Rattle.flow_core.specs.Moves.{HasStepped, HasFinished, ComesWherever, job_of};
-ghost use Rattle.flow_core.specs.Runs.{live_count, IsBlockedAt};
+ghost use Rattle.flow_core.specs.Runs.{live_count, IsBlockedAt, GoesOn, LeavesOthers};
 
-mod waiting;
+mod stops;
 
 use crate::calls::{CallDone, Job};
-use crate::running::Running;
+use crate::fields::Fields;
 use crate::setups::Setup;
+use flow_model::{Journal, Key};
 use flux_cells::Cells;
 use flux_library::Library;
 use flux_model::FlowNo;
-use flow_model::{Journal, Key};
 use flux_values::Memory;
 use std::alloc::Global;
 use std::marker::Model;
-pub use waiting::Stop;
+pub use stops::Stop;
 
 /// What a step did.
 #[derive(Drop)]
@@ -50,7 +50,7 @@ pub enum Finish {
 /// Flows over a setup, and the journal of what they did. What it keeps at every moment is told by `journal`.
 #[derive(Drop)]
 pub struct Core<L: Library> {
-    running: Running<L>,
+    fields: Fields<L>,
 }
 
 impl<L: Library> Model for Core<L> {
@@ -60,11 +60,11 @@ impl<L: Library> Model for Core<L> {
 
     ghost coded = { core_code L.code };
 
-    ghost use Rattle.flow_core.specs.steps.Running.{core_of, IsRunning};
+    ghost use Rattle.flow_core.specs.steps.Fields.{core_of, AreFields};
 
-    ghost view = { λ c. core_of c.running };
+    ghost view = { λ c. core_of c.fields };
 
-    ghost invariant = { λ c. IsRunning L.meaning c.running };
+    ghost invariant = { λ c. AreFields L.meaning c.fields };
 }
 
 impl<L: Library> Core<L> {
@@ -76,72 +76,76 @@ impl<L: Library> Core<L> {
             setup.items setup.opening (arc_value setup.library)) }
     {
         Ok(Core {
-            running: Running::new(alloc, setup)?,
+            fields: Fields::new(alloc, setup)?,
         })
     }
 
     /// Lets a flow do what comes next.
     pub fn step(&mut self, flow: FlowNo) -> Result<Step<L>, Memory>
-        requires { flow.0 < length self.old.items }
+        requires { flow.0 < length self.old.setup.items }
         ensures ok { IfOk result (HasStepped L.meaning self.old self.new flow) }
         ensures each { IfOk result (ComesWherever L.meaning self.old flow) }
         ensures err { OnErr result (self.new ≡ self.old) }
+        ensures on { GoesOn self.old self.new }
+        ensures others { LeavesOthers self.old self.new flow }
     {
-        self.running.step(flow)
+        self.fields.step(flow)
     }
 
     /// Takes the answer of a begun call, which may have been made anywhere.
     pub fn finish(&mut self, done: &CallDone<L>) -> Result<Finish, Memory>
-        requires library { L.meaning done.now.library ≡ L.meaning self.old.library }
+        requires library { L.meaning done.now.library ≡ L.meaning self.old.setup.library }
         requires name { library_name done.now.program done.now.inputs.node
-            ≡ library_name self.old.program done.now.inputs.node }
+            ≡ library_name self.old.setup.program done.now.inputs.node }
         ensures ok { IfOk result (HasFinished L.meaning self.old self.new done.now.flow done.now.inputs
             done.now.answer) }
         ensures err { OnErr result (self.new ≡ self.old) }
+        ensures on { GoesOn self.old self.new }
+        ensures others { LeavesOthers self.old self.new done.now.flow }
     {
         let flow = done.flow();
         let inputs = done.inputs();
-        if !self.running.has_begun(flow, inputs)? {
+        if !self.fields.has_begun(flow, inputs)? {
             return Ok(Finish::Late);
         }
-        self.running.answer(flow, inputs, done.answer())?;
+        self.fields.answer(flow, inputs, done.answer())?;
         Ok(Finish::Went)
     }
 
     /// The call that a flow has begun, once more.
     pub fn recall(&self, flow: FlowNo) -> Result<Option<Job<L>>, Memory>
-        requires { flow.0 < length self.now.items }
+        requires { flow.0 < length self.now.setup.items }
         ensures { IfOk result (λ job. job
             ≡ option_map (job_of L.meaning self.now self.now flow) (begun_by self.now flow.0)) }
     {
-        self.running.recall(flow)
+        self.fields.recall(flow)
     }
 }
 
 impl<L: Library> Core<L> {
     /// The number of flows.
     pub fn flows(&self) -> u32
-        ensures { result ≡ length self.now.items }
+        ensures { result ≡ length self.now.setup.items }
     {
-        self.running.setup.items.len() as u32
+        self.fields.setup.items.len() as u32
     }
 
     /// The number of flows without `end`.
     pub fn live(&self) -> u32
         ensures { result ≡ live_count self.now }
     {
-        self.running.live
+        self.fields.live
     }
 
     pub fn is_ended(&self, flow: FlowNo) -> bool
-        requires { flow.0 < length self.now.items }
+        requires { flow.0 < length self.now.setup.items }
         ensures { result ≡ has_ended self.now.entries flow.0 }
     {
-        self.running.is_ended(flow)
+        self.fields.is_ended(flow)
     }
 
     pub fn blocked(&self, flow: FlowNo) -> bool
-        requires { flow.0 < length self.now.items }
+        requires { flow.0 < length self.now.setup.items }
         ensures { IsTrue result ↔ IsBlocked (setup_in L.meaning self.now) self.now.entries flow.0 }
     {
         self.waits_at(flow).is_some()
@@ -149,19 +153,19 @@ impl<L: Library> Core<L> {
 
     /// The key of the take at which a flow is blocked.
     pub fn waits_at(&self, flow: FlowNo) -> Option<Key>
-        requires { flow.0 < length self.now.items }
+        requires { flow.0 < length self.now.setup.items }
         ensures { MatchOption result (IsBlocked (setup_in L.meaning self.now) self.now.entries flow.0 → ⊥)
             (IsBlockedAt (setup_in L.meaning self.now) self.now.entries flow.0) }
     {
-        self.running.waits_at(flow)
+        self.fields.waits_at(flow)
     }
 
     /// Whether a flow's next event is a call, begun or not.
     pub fn at_call(&self, flow: FlowNo) -> bool
-        requires { flow.0 < length self.now.items }
+        requires { flow.0 < length self.now.setup.items }
         ensures { IsTrue result ↔ IsAtCall (setup_in L.meaning self.now) self.now.entries flow.0 }
     {
-        self.running.at_call(flow)
+        self.fields.at_call(flow)
     }
 }
 
@@ -170,19 +174,19 @@ impl<L: Library> Core<L> {
     pub fn halt(&mut self)
         ensures { self.new ≡ record self.old { halted = true } }
     {
-        self.running.halted = true;
+        self.fields.halted = true;
     }
 
     pub fn resume(&mut self)
         ensures { self.new ≡ record self.old { halted = false } }
     {
-        self.running.halted = false;
+        self.fields.halted = false;
     }
 
     pub fn is_halted(&self) -> bool
         ensures { result ≡ self.now.halted }
     {
-        self.running.halted
+        self.fields.halted
     }
 }
 
@@ -192,13 +196,13 @@ impl<L: Library> Core<L> {
         ensures same { result.now.entries ≡ self.now.entries }
         ensures kept { IsKept L.meaning self.now }
     {
-        &self.running.journal
+        &self.fields.journal
     }
 
     pub fn cells(&self) -> &Cells
         ensures { cells_of result.now ≡ cells_after (setup_in L.meaning self.now) self.now.entries }
     {
-        &self.running.cells
+        &self.fields.cells
     }
 
     pub fn into_parts(self) -> (Journal, Cells)
@@ -206,7 +210,7 @@ impl<L: Library> Core<L> {
         ensures cells { cells_of result.1 ≡ cells_after (setup_in L.meaning self) self.entries }
         ensures kept { IsKept L.meaning self }
     {
-        let Running { journal, cells, .. } = self.running;
+        let Fields { journal, cells, .. } = self.fields;
         (journal, cells)
     }
 }

@@ -9,9 +9,9 @@ ghost use Rattle.flux_cells.specs.Kept.{cells_of};
 ghost use Rattle.flow_core.specs.steps.Places.{key_in};
 ghost use Rattle.flow_core.specs.steps.Cells.{declares_named, class_in, cells_by};
 
+use flow_model::Key;
 use flux_cells::Cells;
 use flux_model::{Class, ClassNo, Hold, Program};
-use flow_model::Key;
 use flux_values::{Cell, CellUse, List, Memory};
 use std::alloc::Global;
 

@@ -1,6 +1,6 @@
 //! What comes of every run of moves, and that a core's calls are such moves.
 
-ghost use Rattle.flow_core.specs.Laws.{RunsAreLegal, StepsAreMoves, FinishesAreMoves};
+ghost use Rattle.flow_core.specs.Laws.{RunsAreLegal, StepsAreMoves, FinishesAreMoves, NoneLiveIsWhole};
 
 use flux_library::Library;
 
@@ -14,4 +14,9 @@ pub fn runs_are_legal<L: Library>()
 pub fn calls_are_moves<L: Library>()
     ensures steps { StepsAreMoves L.meaning }
     ensures finishes { FinishesAreMoves L.meaning }
+{}
+
+/// A journal in which no flow is live is whole.
+pub fn none_live_is_whole<L: Library>()
+    ensures { NoneLiveIsWhole L.meaning }
 {}

@@ -5,27 +5,27 @@
 //! is seen as and what it keeps at every moment, and `specs/Moves` what each call does.
 #![tactic(auto)]
 
-mod adding;
-mod asking;
-mod calling;
+mod additions;
+mod call_moves;
 mod calls;
 mod copies;
 mod cores;
+mod fields;
 mod gates;
 mod keys;
 mod laws;
-mod moving;
-mod opening;
+mod moves;
 mod places;
-mod running;
+mod queries;
 mod runtimes;
 mod sameness;
 mod setups;
-mod stepping;
+mod starts;
+mod steps;
 
 pub use calls::{CallDone, Inputs, Job};
 pub use cores::{Core, Finish, Step, Stop};
 pub use gates::{Gate, OpenGate};
-pub use laws::{calls_are_moves, runs_are_legal};
+pub use laws::{calls_are_moves, none_live_is_whole, runs_are_legal};
 pub use runtimes::{Runtime, Stopped};
 pub use setups::Setup;

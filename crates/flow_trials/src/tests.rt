@@ -1,11 +1,14 @@
 //! Small programs, driven by calls in many orders.
 
 mod calls;
+mod cells;
 mod moves;
 mod plain;
 mod refused;
 mod rows;
+mod runtimes;
 mod sent;
+mod tables;
 
 use crate::building::{Given, checked_of, core_of};
 use crate::troubles::Trouble;

@@ -26,8 +26,8 @@ pub fn take_turn<L: Library>(
     core: &mut Core<L>,
     flow: FlowNo,
 ) -> Result<Turn, Memory>
-    requires { flow.0 < length core.old.items }
-    ensures { core.new.program ≡ core.old.program }
+    requires { flow.0 < length core.old.setup.items }
+    ensures { core.new.setup.program ≡ core.old.setup.program }
 {
     match core.step(flow)? {
         Step::Went => Ok(Turn::Went),

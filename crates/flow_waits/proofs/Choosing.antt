@@ -13,19 +13,21 @@ use Rattle.flow_model.specs.Legal.{IsLegal}
 use Rattle.flux_laws.specs.Going.{IsBlocked, CanGoOn}
 use Rattle.flux_laws.proofs.Living.{not_all_blocked}
 use Rattle.flux_laws.proofs.Standing.{next-unique}
-use Rattle.flow_core.specs.declared.cores.waiting.Stop.{Stop}
+use Rattle.flow_core.specs.declared.cores.stops.Stop.{Stop}
 use Rattle.flow_core.specs.Lines.{IsStop}
 use Rattle.flow_waits.specs.Turns.{IsBefore, IsInLine}
-use Rattle.flow_waits.specs.Staying.{IsFresh}
-use Rattle.flow_waits.specs.Waking.{has, IsLess, IsEarliest, room_at}
-use Rattle.flow_waits.specs.Covers.{Pools, IsReady, IsParked, IsInRoom, IsBehind, IsCovered, Covers, IsChosen, HasRoom, Parks, rooms_for}
+use Rattle.flow_waits.specs.steps.Staying.{IsFresh}
+use Rattle.flow_waits.specs.steps.Waking.{has, IsLess, IsEarliest, room_at}
+use Rattle.flow_waits.specs.steps.Covers.{Pools, IsReady, IsParked, IsInRoom, IsBehind, IsCovered, Covers, IsChosen, HasRoom, Parks, rooms_for}
 use Rattle.flow_waits.proofs.Orders.{before-itself, before-then, before-turned}
 use Rattle.flow_waits.proofs.Membership.{none_has, less_there, less_kept, less_own, more_at_cases, more_at_there, more_at_own}
 use Rattle.flow_waits.proofs.Blocked.{fresh_are_alike}
 
-module _ (setup : Setup) (entries : List Entry) (pools : Pools) (from : ℕ) (covers : Covers setup entries pools from) where
+module _ (setup : Setup) (entries : List Entry) (pools : Pools) (from : ℕ) (covers : Covers setup entries pools from)
+    where
   -- a flow before all others that are looked at is the first of all, if it can go on
-  pub chosen : (flow : ℕ) → IsEarliest pools.ready from flow → CanGoOn setup entries flow → IsChosen setup entries pools from flow
+  pub chosen : (flow : ℕ) → IsEarliest pools.ready from flow → CanGoOn setup entries flow
+      → IsChosen setup entries pools from flow
   chosen flow earliest can = record {
     first = record { can = can; first = none };
     earliest = earliest;
@@ -47,7 +49,8 @@ module _ (setup : Setup) (entries : List Entry) (pools : Pools) (from : ℕ) (co
             where
               cause : IsBlocked setup entries other ⊎ IsBehind setup entries pools from room.key room.mode other → ⊥
               cause (inl blocked) = goes.free blocked
-              cause (inr behind) = none-ready behind.other behind.ready (before-then from behind.other other flow behind.before before)
+              cause (inr behind) = none-ready behind.other behind.ready
+                  (before-then from behind.other other flow behind.before before)
 
           by : IsCovered setup entries pools from other → ⊥
           by (inl ready) = none-ready other ready before
@@ -64,7 +67,8 @@ module _ (setup : Setup) (entries : List Entry) (pools : Pools) (from : ℕ) (co
           in-room : IsInRoom setup entries pools from other → IsBlocked setup entries other
           in-room room = cause room.cause
             where
-              cause : IsBlocked setup entries other ⊎ IsBehind setup entries pools from room.key room.mode other → IsBlocked setup entries other
+              cause : IsBlocked setup entries other ⊎ IsBehind setup entries pools from room.key room.mode other
+                  → IsBlocked setup entries other
               cause (inl is) = is
               cause (inr behind) = absurd (none_has pools.ready behind.other none behind.ready)
 
@@ -89,8 +93,10 @@ no-room key flow is = by is
     by : false ≡ true → ⊥
     by e = cc
 
-pub all_ready : (setup : Setup) (entries : List Entry) (ready : List ℕ) → ((flow : ℕ) → flow < length setup.items → has ready flow ≡ true)
-    → ((flow : ℕ) → has ready flow ≡ true → flow < length setup.items) → (from : ℕ) → Covers setup entries (record { ready = ready; readers = []; writers = [] }) from
+pub all_ready : (setup : Setup) (entries : List Entry) (ready : List ℕ)
+    → ((flow : ℕ) → flow < length setup.items → has ready flow ≡ true)
+    → ((flow : ℕ) → has ready flow ≡ true → flow < length setup.items) → (from : ℕ)
+        → Covers setup entries (record { ready = ready; readers = []; writers = [] }) from
 all_ready setup entries ready all exist from = record {
   each = λ flow live. inl (all flow live.item);
   fresh = fresh;
@@ -98,11 +104,13 @@ all_ready setup entries ready all exist from = record {
   exist = exist;
 }
   where
-    fresh : (key : Key) (mode : Mode) (flow : ℕ) → IsParked (record { ready = ready; readers = []; writers = [] }) key mode flow → IsFresh setup entries flow key mode
+    fresh : (key : Key) (mode : Mode) (flow : ℕ) → IsParked (record { ready = ready; readers = []; writers = [] }) key
+        mode flow → IsFresh setup entries flow key mode
     fresh key Reader flow parked = absurd (no-room key flow parked)
     fresh key Writer flow parked = absurd (no-room key flow parked)
 
-    apart : (key : Key) (mode : Mode) (flow : ℕ) → IsParked (record { ready = ready; readers = []; writers = [] }) key mode flow → IsReady (record { ready = ready; readers = []; writers = [] }) flow → ⊥
+    apart : (key : Key) (mode : Mode) (flow : ℕ) → IsParked (record { ready = ready; readers = []; writers = [] }) key
+        mode flow → IsReady (record { ready = ready; readers = []; writers = [] }) flow → ⊥
     apart key Reader flow parked is = no-room key flow parked
     apart key Writer flow parked is = no-room key flow parked
 
@@ -112,23 +120,30 @@ all_ready setup entries ready all exist from = record {
 abbrev pub IsParkedSo : Pools → Pools → Key → Mode → ℕ → Type 0
 IsParkedSo old new key mode flow =
     ((k : Key) (m : Mode) (other : ℕ) → IsParked old k m other → IsParked new k m other)
-    × ((k : Key) (m : Mode) (other : ℕ) → IsParked new k m other → IsParked old k m other ⊎ ((key ≡ k) × (mode ≡ m) × (flow ≡ other)))
+    × ((k : Key) (m : Mode) (other : ℕ) → IsParked new k m other
+        → IsParked old k m other ⊎ ((key ≡ k) × (mode ≡ m) × (flow ≡ other)))
 
-module _ (setup : Setup) (entries : List Entry) (old new : Pools) (from flow : ℕ) (covers : Covers setup entries old from) (less : IsLess old.ready new.ready flow) where
+module _ (setup : Setup) (entries : List Entry) (old new : Pools) (from flow : ℕ)
+    (covers : Covers setup entries old from) (less : IsLess old.ready new.ready flow) where
   -- what becomes of the others, where those behind the flow are covered without it
   others : ((k : Key) (m : Mode) (other : ℕ) → IsParked old k m other → IsParked new k m other)
-      → ((k : Key) (m : Mode) (other : ℕ) → IsParked old k m other → IsFresh setup entries flow k m → IsBlocked setup entries other)
+      → ((k : Key) (m : Mode) (other : ℕ) → IsParked old k m other → IsFresh setup entries flow k m
+          → IsBlocked setup entries other)
       → (other : ℕ) → flow ≢ other → IsLive setup entries other → IsCovered setup entries new from other
   others stay alike other apart live = by (covers.each other live)
     where
       in-room : IsInRoom setup entries old from other → IsInRoom setup entries new from other
-      in-room room = record { key = room.key; mode = room.mode; parked = stay room.key room.mode other room.parked; cause = cause room.cause }
+      in-room room = record { key = room.key; mode = room.mode; parked = stay room.key room.mode other room.parked;
+          cause = cause room.cause }
         where
-          behind-it : IsBehind setup entries old from room.key room.mode other → IsBlocked setup entries other ⊎ IsBehind setup entries new from room.key room.mode other
+          behind-it : IsBehind setup entries old from room.key room.mode other
+              → IsBlocked setup entries other ⊎ IsBehind setup entries new from room.key room.mode other
           behind-it behind = one (cases_eq flow behind.other)
             where
-              one : (flow ≡ behind.other) ⊎ (flow ≡ behind.other → ⊥) → IsBlocked setup entries other ⊎ IsBehind setup entries new from room.key room.mode other
-              one (inl same) = inl (alike room.key room.mode other room.parked (subst (λ f. IsFresh setup entries f room.key room.mode) (sym same) behind.fresh))
+              one : (flow ≡ behind.other) ⊎ (flow ≡ behind.other → ⊥)
+                  → IsBlocked setup entries other ⊎ IsBehind setup entries new from room.key room.mode other
+              one (inl same) = inl (alike room.key room.mode other room.parked
+                  (subst (λ f. IsFresh setup entries f room.key room.mode) (sym same) behind.fresh))
               one (inr elsewhere) = inr (record {
                 other = behind.other;
                 ready = less_kept old.ready new.ready flow less behind.other elsewhere behind.ready;
@@ -136,7 +151,8 @@ module _ (setup : Setup) (entries : List Entry) (old new : Pools) (from flow : �
                 before = behind.before;
               })
 
-          cause : IsBlocked setup entries other ⊎ IsBehind setup entries old from room.key room.mode other → IsBlocked setup entries other ⊎ IsBehind setup entries new from room.key room.mode other
+          cause : IsBlocked setup entries other ⊎ IsBehind setup entries old from room.key room.mode other
+              → IsBlocked setup entries other ⊎ IsBehind setup entries new from room.key room.mode other
           cause (inl blocked) = inl blocked
           cause (inr behind) = behind-it behind
 
@@ -149,11 +165,13 @@ module _ (setup : Setup) (entries : List Entry) (old new : Pools) (from flow : �
   exist other ready = covers.exist other (less_there old.ready new.ready flow less other ready)
 
   -- one that has ended
-  pub without_ended : new.readers ≡ old.readers → new.writers ≡ old.writers → (IsLive setup entries flow → ⊥) → Covers setup entries new from
+  pub without_ended : new.readers ≡ old.readers → new.writers ≡ old.writers → (IsLive setup entries flow → ⊥)
+      → Covers setup entries new from
   without_ended readers writers ended = record {
     each = each;
     fresh = λ key mode other parked. covers.fresh key mode other (back key mode other parked);
-    apart = λ key mode other parked ready. covers.apart key mode other (back key mode other parked) (less_there old.ready new.ready flow less other ready);
+    apart = λ key mode other parked ready. covers.apart key mode other (back key mode other parked)
+        (less_there old.ready new.ready flow less other ready);
     exist = exist;
   }
     where
@@ -175,11 +193,13 @@ module _ (setup : Setup) (entries : List Entry) (old new : Pools) (from flow : �
           by (inr apart) = others stay (λ k m o parked fresh. absurd (ended fresh.live)) other apart live
 
   -- one that is blocked, and stands in a line
-  pub without_standing : new.readers ≡ old.readers → new.writers ≡ old.writers → IsInLine setup entries flow → Covers setup entries new from
+  pub without_standing : new.readers ≡ old.readers → new.writers ≡ old.writers → IsInLine setup entries flow
+      → Covers setup entries new from
   without_standing readers writers line = record {
     each = each;
     fresh = λ key mode other parked. covers.fresh key mode other (back key mode other parked);
-    apart = λ key mode other parked ready. covers.apart key mode other (back key mode other parked) (less_there old.ready new.ready flow less other ready);
+    apart = λ key mode other parked ready. covers.apart key mode other (back key mode other parked)
+        (less_there old.ready new.ready flow less other ready);
     exist = exist;
   }
     where
@@ -198,10 +218,12 @@ module _ (setup : Setup) (entries : List Entry) (old new : Pools) (from flow : �
         where
           by : (flow ≡ other) ⊎ (flow ≡ other → ⊥) → IsCovered setup entries new from other
           by (inl own) = inr (inl (subst (IsInLine setup entries) own line))
-          by (inr apart) = others stay (λ k m o parked fresh. absurd (fresh.stands_nowhere line.key line.mode line.place line.stands)) other apart live
+          by (inr apart) = others stay (λ k m o parked fresh. absurd
+              (fresh.stands_nowhere line.key line.mode line.place line.stands)) other apart live
 
   -- one that is blocked, and has a place in a room now
-  pub without_parked : (key : Key) (mode : Mode) → IsParkedSo old new key mode flow → IsParked new key mode flow → IsFresh setup entries flow key mode → IsBlocked setup entries flow
+  pub without_parked : (key : Key) (mode : Mode) → IsParkedSo old new key mode flow → IsParked new key mode flow
+      → IsFresh setup entries flow key mode → IsBlocked setup entries flow
       → Covers setup entries new from
   without_parked key mode (stay, back) parked own blocked = record {
     each = each;
@@ -214,8 +236,10 @@ module _ (setup : Setup) (entries : List Entry) (old new : Pools) (from flow : �
       each other live = by (cases_eq flow other)
         where
           by : (flow ≡ other) ⊎ (flow ≡ other → ⊥) → IsCovered setup entries new from other
-          by (inl same) = subst (λ f. IsCovered setup entries new from f) same (inr (inr (record { key = key; mode = mode; parked = parked; cause = inl blocked })))
-          by (inr elsewhere) = others stay (λ k m o there fresh. fresh_are_alike setup entries flow o k m fresh (covers.fresh k m o there) blocked) other elsewhere live
+          by (inl same) = subst (λ f. IsCovered setup entries new from f) same
+              (inr (inr (record { key = key; mode = mode; parked = parked; cause = inl blocked })))
+          by (inr elsewhere) = others stay (λ k m o there fresh. fresh_are_alike setup entries flow o k m fresh
+              (covers.fresh k m o there) blocked) other elsewhere live
 
       fresh : (k : Key) (m : Mode) (other : ℕ) → IsParked new k m other → IsFresh setup entries other k m
       fresh k m other there = by (back k m other there)
@@ -232,14 +256,18 @@ module _ (setup : Setup) (entries : List Entry) (old new : Pools) (from flow : �
           by (inr (same_key, same_mode, same)) = less_own old.ready new.ready flow less (rw same ready)
 
 -- a flow that is parked, blocked at a stop
-module _ (setup : Setup) (entries : List Entry) (old new : Pools) (from flow : ℕ) (stop : Stop) (legal : IsLegal setup entries) (covers : Covers setup entries old from)
-    (parks : Parks old new flow stop) (live : IsLive setup entries flow) (is_stop : IsStop setup entries flow stop) where
+module _ (setup : Setup) (entries : List Entry) (old new : Pools) (from flow : ℕ) (stop : Stop)
+    (legal : IsLegal setup entries) (covers : Covers setup entries old from)
+    (parks : Parks old new flow stop) (live : IsLive setup entries flow) (is_stop : IsStop setup entries flow stop)
+        where
   free : HoldsKey entries flow stop.key → ⊥
   free = by is_stop.blocked
     where
       by : IsBlocked setup entries flow → HoldsKey entries flow stop.key → ⊥
       by (other, waits) holds =
-          let same : Take waits.key waits.mode ≡ Take stop.key stop.mode = next-unique setup entries flow (Take waits.key waits.mode) (Take stop.key stop.mode) waits.next is_stop.next in
+          let same : Take waits.key waits.mode ≡ Take stop.key stop.mode =
+              next-unique setup entries flow (Take waits.key waits.mode) (Take stop.key stop.mode) waits.next
+              is_stop.next in
           let key_is : waits.key ≡ stop.key = cc same in
           let blocked = waits.blocked in
           blocked.free (subst (HoldsKey entries flow) (sym key_is) holds)
@@ -253,8 +281,10 @@ module _ (setup : Setup) (entries : List Entry) (old new : Pools) (from flow : �
           without_standing setup entries old new from flow covers parks.less readers writers
           (record { key = stop.key; mode = stop.mode; place = place; stands = there; blocked = is_stop.blocked })
       by false not (more, others) =
-          without_parked setup entries old new from flow covers parks.less stop.key stop.mode (kept, back) (own stop.mode refl)
-          (record { live = live; next = is_stop.next; free = free; stands_nowhere = λ line own place stands. is_stop.nowhere not line own place stands }) is_stop.blocked
+          without_parked setup entries old new from flow covers parks.less stop.key stop.mode (kept, back)
+              (own stop.mode refl)
+          (record { live = live; next = is_stop.next; free = free;
+              stands_nowhere = λ line own place stands. is_stop.nowhere not line own place stands }) is_stop.blocked
         where
           own : (m : Mode) → stop.mode ≡ m → IsParked new stop.key stop.mode flow
           own m is = more_at_own (rooms_for old stop.mode) (rooms_for new stop.mode) stop.key flow more
@@ -264,16 +294,21 @@ module _ (setup : Setup) (entries : List Entry) (old new : Pools) (from flow : �
             where
               told : (stop.mode ≡ m) ⊎ (stop.mode ≡ m → ⊥) → IsParked new k m other
               told (inl same) = subst (λ q. IsParked new k q other) same
-                  (more_at_there (rooms_for old stop.mode) (rooms_for new stop.mode) stop.key flow more k other (subst (λ q. IsParked old k q other) (sym same) was))
+                  (more_at_there (rooms_for old stop.mode) (rooms_for new stop.mode) stop.key flow more k other
+                      (subst (λ q. IsParked old k q other) (sym same) was))
               told (inr apart) = ap (λ rooms. has (room_at rooms k) other) (others m apart) ∙ was
 
-          back : (k : Key) (m : Mode) (other : ℕ) → IsParked new k m other → IsParked old k m other ⊎ ((stop.key ≡ k) × (stop.mode ≡ m) × (flow ≡ other))
+          back : (k : Key) (m : Mode) (other : ℕ) → IsParked new k m other
+              → IsParked old k m other ⊎ ((stop.key ≡ k) × (stop.mode ≡ m) × (flow ≡ other))
           back k m other is = told (mode_cases stop.mode m)
             where
-              told : (stop.mode ≡ m) ⊎ (stop.mode ≡ m → ⊥) → IsParked old k m other ⊎ ((stop.key ≡ k) × (stop.mode ≡ m) × (flow ≡ other))
+              told : (stop.mode ≡ m) ⊎ (stop.mode ≡ m → ⊥)
+                  → IsParked old k m other ⊎ ((stop.key ≡ k) × (stop.mode ≡ m) × (flow ≡ other))
               told (inr apart) = inl (ap (λ rooms. has (room_at rooms k) other) (sym (others m apart)) ∙ is)
-              told (inl same) = cases (more_at_cases (rooms_for old stop.mode) (rooms_for new stop.mode) stop.key flow more k other (subst (λ q. IsParked new k q other) (sym same) is))
+              told (inl same) = cases (more_at_cases (rooms_for old stop.mode) (rooms_for new stop.mode) stop.key flow
+                  more k other (subst (λ q. IsParked new k q other) (sym same) is))
                 where
-                  cases : ((stop.key ≡ k) × (flow ≡ other)) ⊎ IsParked old k stop.mode other → IsParked old k m other ⊎ ((stop.key ≡ k) × (stop.mode ≡ m) × (flow ≡ other))
+                  cases : ((stop.key ≡ k) × (flow ≡ other)) ⊎ IsParked old k stop.mode other
+                      → IsParked old k m other ⊎ ((stop.key ≡ k) × (stop.mode ≡ m) × (flow ≡ other))
                   cases (inl (key_is, own_is)) = inr (key_is, same, own_is)
                   cases (inr was) = inl (subst (λ q. IsParked old k q other) same was)

@@ -29,8 +29,10 @@ no-end (Drop key ∷ list) outcome none (inl same) = absurd cc
 no-end (Drop key ∷ list) outcome none (inr is) = no-end list outcome none is
 
 -- a flow without its end is live
-pub live-is : (setup : Setup) (entries : List Entry) (flow : ℕ) → flow < length setup.items → has_ended entries flow ≡ false → IsLive setup entries flow
+pub live-is : (setup : Setup) (entries : List Entry) (flow : ℕ) → flow < length setup.items
+    → has_ended entries flow ≡ false → IsLive setup entries flow
 live-is setup entries flow item none = record {
   item = item;
-  goes_on = λ outcome is. no-end (events_by flow entries) outcome none (in-from_contains (events_by flow entries) (End outcome) is);
+  goes_on = λ outcome is. no-end (events_by flow entries) outcome none
+      (in-from_contains (events_by flow entries) (End outcome) is);
 }

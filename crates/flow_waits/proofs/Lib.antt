@@ -11,4 +11,6 @@ pub mod Told
 pub mod Turning
 pub mod Lowest
 pub mod Ending
+pub mod Counting
+pub mod Schedules
 pub mod Driving

@@ -3,7 +3,7 @@ use Rattle.std.proofs.Common.{◌≡◌, ◌≢◌, ◌⊎◌, inl, inr, ℕ, Bo
 use Rattle.std.proofs.lemmas.Bool.{eqb-true, eq-eqb, ne_eqb, false≢true}
 use Rattle.flow_model.specs.declared.journals.Key.{Key}
 use Rattle.flow_model.proofs.Keys.{key_cases}
-use Rattle.flow_waits.specs.Waking.{has, IsMore, IsLess, Rooms, room_at, IsMoreAt, IsLessAt}
+use Rattle.flow_waits.specs.steps.Waking.{has, IsMore, IsLess, Rooms, room_at, IsMoreAt, IsLessAt}
 
 -- nothing is in an empty set
 pub none_has : (numbers : List ℕ) (flow : ℕ) → numbers ≡ [] → has numbers flow ≡ true → ⊥
@@ -60,34 +60,44 @@ module _ (old new : List ℕ) (flow : ℕ) where
   less_kept less other apart is = less other ∙ kept (eqb flow other) (has old other) (ne_eqb flow other apart) is
 
 module _ (old new : Rooms) (key : Key) (flow : ℕ) where
-  pub more_at_cases : IsMoreAt old new key flow → (k : Key) (other : ℕ) → has (room_at new k) other ≡ true → ((key ≡ k) × (flow ≡ other)) ⊎ (has (room_at old k) other ≡ true)
-  more_at_cases more k other is = key_cases key k (λ same _. here same) (λ apart _. inr (ap (λ room. has room other) (sym (more.others k apart)) ∙ is))
+  pub more_at_cases : IsMoreAt old new key flow → (k : Key) (other : ℕ) → has (room_at new k) other ≡ true
+      → ((key ≡ k) × (flow ≡ other)) ⊎ (has (room_at old k) other ≡ true)
+  more_at_cases more k other is = key_cases key k (λ same _. here same)
+      (λ apart _. inr (ap (λ room. has room other) (sym (more.others k apart)) ∙ is))
     where
       here : key ≡ k → ((key ≡ k) × (flow ≡ other)) ⊎ (has (room_at old k) other ≡ true)
-      here same = by (more_cases (room_at old key) (room_at new key) flow more.at other (ap (λ q. has (room_at new q) other) same ∙ is))
+      here same = by (more_cases (room_at old key) (room_at new key) flow more.at other
+          (ap (λ q. has (room_at new q) other) same ∙ is))
         where
-          by : (flow ≡ other) ⊎ (has (room_at old key) other ≡ true) → ((key ≡ k) × (flow ≡ other)) ⊎ (has (room_at old k) other ≡ true)
+          by : (flow ≡ other) ⊎ (has (room_at old key) other ≡ true)
+              → ((key ≡ k) × (flow ≡ other)) ⊎ (has (room_at old k) other ≡ true)
           by (inl own) = inl (same, own)
           by (inr there) = inr (ap (λ q. has (room_at old q) other) (sym same) ∙ there)
 
-  pub more_at_there : IsMoreAt old new key flow → (k : Key) (other : ℕ) → has (room_at old k) other ≡ true → has (room_at new k) other ≡ true
+  pub more_at_there : IsMoreAt old new key flow → (k : Key) (other : ℕ) → has (room_at old k) other ≡ true
+      → has (room_at new k) other ≡ true
   more_at_there more k other is = key_cases key k
-      (λ same _. ap (λ q. has (room_at new q) other) (sym same) ∙ more_there (room_at old key) (room_at new key) flow more.at other (ap (λ q. has (room_at old q) other) same ∙ is))
+      (λ same _. ap (λ q. has (room_at new q) other) (sym same) ∙ more_there (room_at old key) (room_at new key) flow
+          more.at other (ap (λ q. has (room_at old q) other) same ∙ is))
       (λ apart _. ap (λ room. has room other) (more.others k apart) ∙ is)
 
   pub more_at_own : IsMoreAt old new key flow → has (room_at new key) flow ≡ true
   more_at_own more = more_own (room_at old key) (room_at new key) flow more.at
 
-  pub less_at_there : IsLessAt old new key flow → (k : Key) (other : ℕ) → has (room_at new k) other ≡ true → has (room_at old k) other ≡ true
+  pub less_at_there : IsLessAt old new key flow → (k : Key) (other : ℕ) → has (room_at new k) other ≡ true
+      → has (room_at old k) other ≡ true
   less_at_there less k other is = key_cases key k
-      (λ same _. ap (λ q. has (room_at old q) other) (sym same) ∙ less_there (room_at old key) (room_at new key) flow less.at other (ap (λ q. has (room_at new q) other) same ∙ is))
+      (λ same _. ap (λ q. has (room_at old q) other) (sym same) ∙ less_there (room_at old key) (room_at new key) flow
+          less.at other (ap (λ q. has (room_at new q) other) same ∙ is))
       (λ apart _. ap (λ room. has room other) (sym (less.others k apart)) ∙ is)
 
   pub less_at_own : IsLessAt old new key flow → has (room_at new key) flow ≡ true → ⊥
   less_at_own less is = less_own (room_at old key) (room_at new key) flow less.at is
 
-  pub less_at_kept : IsLessAt old new key flow → (k : Key) (other : ℕ) → has (room_at old k) other ≡ true → (has (room_at new k) other ≡ true) ⊎ ((key ≡ k) × (flow ≡ other))
-  less_at_kept less k other is = key_cases key k (λ same _. here same) (λ apart _. inl (ap (λ room. has room other) (less.others k apart) ∙ is))
+  pub less_at_kept : IsLessAt old new key flow → (k : Key) (other : ℕ) → has (room_at old k) other ≡ true
+      → (has (room_at new k) other ≡ true) ⊎ ((key ≡ k) × (flow ≡ other))
+  less_at_kept less k other is = key_cases key k (λ same _. here same)
+      (λ apart _. inl (ap (λ room. has room other) (less.others k apart) ∙ is))
     where
       here : key ≡ k → (has (room_at new k) other ≡ true) ⊎ ((key ≡ k) × (flow ≡ other))
       here same = by (eqb flow other) refl

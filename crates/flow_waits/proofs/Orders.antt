@@ -24,7 +24,8 @@ before-turned from a b one other = before-itself from a (before-then from a b a 
 -- behind the first flow, the order of all others stays when it goes on from there
 pub before-later : (from first a b : ℕ) → IsBefore from first a → IsBefore from a b → IsBefore (first + 1) a b
 before-later from first a b (inl (le, inl lt)) (inl (more, inl less)) = inl (omega (arith, lt), inl less)
-before-later from first a b (inl (le, inl lt)) (inl (more, inr less)) = inl (omega (arith, lt), inr (omega (arith, le, less)))
+before-later from first a b (inl (le, inl lt)) (inl (more, inr less)) =
+    inl (omega (arith, lt), inr (omega (arith, le, less)))
 before-later from first a b (inl (le, inl lt)) (inr (less, below)) = absurd (omega (arith, le, lt, less, below))
 before-later from first a b (inl (le, inr lt)) (inl (more, later)) = absurd (omega (arith, lt, more))
 before-later from first a b (inl (le, inr lt)) (inr (less, below)) = inr (less, omega (arith, le, below))

@@ -11,7 +11,7 @@ use Rattle.std.proofs.lemmas.Bool.{cases_lt, ltb-false, eq-eqb, false≢true}
 use Rattle.std.proofs.lemmas.Map.Keys.{le_from_not_gt}
 use Rattle.flow_model.proofs.Keys.{cmp_eqb}
 use Rattle.flow_waits.specs.Turns.{IsBefore}
-use Rattle.flow_waits.specs.Waking.{has, IsMore, IsLess, IsEarliest}
+use Rattle.flow_waits.specs.steps.Waking.{has, IsMore, IsLess, IsEarliest}
 
 abbrev found : List ℕ → ℕ → Bool
 found numbers flow = list_any (λ n. is_eq (nat_cmp flow n)) numbers
@@ -27,12 +27,14 @@ and_cond : (b x : Bool) → cond b false x ≡ (not b && x)
 and_cond true x = refl
 and_cond false x = refl
 
-pub more_is : (old new : List ℕ) (flow : ℕ) → ((q : ℕ) → found new q ≡ cond (is_eq (nat_cmp flow q)) true (found old q)) → IsMore old new flow
+pub more_is : (old new : List ℕ) (flow : ℕ) → ((q : ℕ) → found new q ≡ cond (is_eq (nat_cmp flow q)) true (found old q))
+    → IsMore old new flow
 more_is old new flow says other =
     sym (has_is new other) ∙ says other ∙ ap (λ (b : Bool). cond b true (found old other)) (cmp_eqb flow other)
     ∙ ap (cond (eqb flow other) true) (has_is old other) ∙ or_cond (eqb flow other) (has old other)
 
-pub less_is : (old new : List ℕ) (flow : ℕ) → ((q : ℕ) → found new q ≡ cond (is_eq (nat_cmp flow q)) false (found old q)) → IsLess old new flow
+pub less_is : (old new : List ℕ) (flow : ℕ) → ((q : ℕ)
+    → found new q ≡ cond (is_eq (nat_cmp flow q)) false (found old q)) → IsLess old new flow
 less_is old new flow says other =
     sym (has_is new other) ∙ says other ∙ ap (λ (b : Bool). cond b false (found old other)) (cmp_eqb flow other)
     ∙ ap (cond (eqb flow other) false) (has_is old other) ∙ and_cond (eqb flow other) (has old other)
@@ -61,26 +63,32 @@ module _ (s : BTreeSet ℕ) (from : ℕ) (r : List ℕ) (range : IsKeyRangeOf na
   }
     where
       inside : IsKeyInRange nat_cmp (Included from) Unbounded s flow
-      inside = subst (λ (l : List ℕ). IfSome (slice_get l 0) (IsKeyInRange nat_cmp (Included from) Unbounded s)) is range.1
+      inside = subst (λ (l : List ℕ). IfSome (slice_get l 0) (IsKeyInRange nat_cmp (Included from) Unbounded s)) is
+          range.1
 
       at_most : (other : ℕ) → found s.keys other ≡ true → from ≤ other → flow ≤ other
       at_most other there le =
-          le_from_not_gt flow other (subst (λ (l : List ℕ). IfSome (slice_get l 0) (λ k. IsLeBy nat_cmp k other)) is (range.2 other (not_gt from other le, tt) there))
+          le_from_not_gt flow other (subst (λ (l : List ℕ). IfSome (slice_get l 0) (λ k. IsLeBy nat_cmp k other)) is
+              (range.2 other (not_gt from other le, tt) there))
 
       above : from ≤ flow
       above = le_from_not_gt from flow inside.0.0
 
-      by : (other : ℕ) → found s.keys other ≡ true → flow ≢ other → (other < from) ⊎ (from ≤ other) → IsBefore from flow other
+      by : (other : ℕ) → found s.keys other ≡ true → flow ≢ other → (other < from) ⊎ (from ≤ other)
+          → IsBefore from flow other
       by other there apart (inl lt) = inl (above, inr lt)
       by other there apart (inr le) = let most = at_most other there le in inl (above, inl (omega (arith, most, apart)))
 
   -- the least of all, where none is from the number on
-  pub earliest-below : (flow : ℕ) → r ≡ [] → found s.keys flow ≡ true → ((other : ℕ) → found s.keys other ≡ true → is_gt (nat_cmp flow other) ≡ false) → IsEarliest s.keys from flow
+  pub earliest-below : (flow : ℕ) → r ≡ [] → found s.keys flow ≡ true
+      → ((other : ℕ) → found s.keys other ≡ true → is_gt (nat_cmp flow other) ≡ false) → IsEarliest s.keys from flow
   earliest-below flow none is least = record {
     is = sym (has_is s.keys flow) ∙ is;
     first = λ other there apart. by other (has_is s.keys other ∙ there) apart (cases_lt other from);
   }
     where
-      by : (other : ℕ) → found s.keys other ≡ true → flow ≢ other → (other < from) ⊎ (from ≤ other) → IsBefore from flow other
-      by other there apart (inl lt) = let most = le_from_not_gt flow other (least other there) in inr (omega (arith, most, apart), lt)
+      by : (other : ℕ) → found s.keys other ≡ true → flow ≢ other → (other < from) ⊎ (from ≤ other)
+          → IsBefore from flow other
+      by other there apart (inl lt) = let most = le_from_not_gt flow other (least other there) in inr
+          (omega (arith, most, apart), lt)
       by other there apart (inr le) = absurd (false≢true (sym (range.5 none other (not_gt from other le, tt)) ∙ there))

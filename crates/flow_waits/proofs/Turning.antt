@@ -35,15 +35,18 @@ end-in (events.Exit node outcome ∷ list) any = let more = end-in list any in (
 end-in (events.Drop key ∷ list) any = let more = end-in list any in (more.0, inr more.1)
 
 -- a flow that has its end isn't live
-pub ended-over : (setup : Setup) (entries : List Entry) (flow : ℕ) → has_ended entries flow ≡ true → IsLive setup entries flow → ⊥
+pub ended-over : (setup : Setup) (entries : List Entry) (flow : ℕ) → has_ended entries flow ≡ true
+    → IsLive setup entries flow → ⊥
 ended-over setup entries flow ended live =
     let (outcome, is) = end-in (events_by flow entries) ended in
     live.goes_on outcome (contains-from_in (events_by flow entries) (events.End outcome) is)
 
 -- a next event that isn't blocked is a move, and neither a call nor a wait
-pub passing : (setup : Setup) → AreLocks setup.program setup.locks → (entries : List Entry) (flow : FlowNo) (event : Event) → MayStep setup entries flow event
+pub passing : (setup : Setup) → AreLocks setup.program setup.locks
+    → (entries : List Entry) (flow : FlowNo) (event : Event) → MayStep setup entries flow event
     → IsPassing event × IsMove setup entries flow event
-passing setup are entries flow (events.Wait key mode) may = absurd (unlike (next-plain setup are entries flow.0 (events.Wait key mode) may.next))
+passing setup are entries flow (events.Wait key mode) may =
+    absurd (unlike (next-plain setup are entries flow.0 (events.Wait key mode) may.next))
   where
     unlike : IsPlain (events.Wait key mode) → ⊥
     unlike is = let e = is.own in cc e
@@ -55,19 +58,22 @@ passing setup are entries flow (events.Exit node outcome) may = (tt, may)
 passing setup are entries flow (events.Drop key) may = (tt, may)
 passing setup are entries flow (events.End outcome) may = (tt, may)
 
-module _ {L : Type 0} (meaning : L → LibraryMeaning) (old new : CoreState L) (flow : FlowNo) (step : Step L) (has : HasStepped meaning old new flow step) where
+module _ {L : Type 0} (meaning : L → LibraryMeaning) (old new : CoreState L) (flow : FlowNo) (step : Step L)
+    (has : HasStepped meaning old new flow step) where
   pub ended-turn : step ≡ Ended → (IsLive (setup_in meaning old) old.entries flow.0 → ⊥) × (new.entries ≡ old.entries)
   ended-turn is =
       let (ended, same) = subst (HasStepped meaning old new flow) is has in
       (ended-over (setup_in meaning old) old.entries flow.0 ended, ap (λ (c : CoreState L). c.entries) same)
 
-  pub line-turn : (key : Key) (holder : FlowNo) → step ≡ Waits key holder → length new.entries ≡ length old.entries → IsInLine (setup_in meaning old) old.entries flow.0 × (new.entries ≡ old.entries)
+  pub line-turn : (key : Key) (holder : FlowNo) → step ≡ Waits key holder → length new.entries ≡ length old.entries
+      → IsInLine (setup_in meaning old) old.entries flow.0 × (new.entries ≡ old.entries)
   line-turn key holder is same = by waited.noted
     where
       waited : HasWaited meaning old new flow key holder
       waited = subst (HasStepped meaning old new flow) is has
 
-      by : AddsWait meaning old new flow key waited.mode ⊎ ((place : ℕ) × StandsAt old.entries flow.0 key waited.mode place × (new ≡ old))
+      by : AddsWait meaning old new flow key waited.mode ⊎
+          ((place : ℕ) × StandsAt old.entries flow.0 key waited.mode place × (new ≡ old))
           → IsInLine (setup_in meaning old) old.entries flow.0 × (new.entries ≡ old.entries)
       by (inl adds) =
           let longer = ap (λ (c : CoreState L). length c.entries) adds.new_

@@ -1,6 +1,5 @@
 pub mod Turns
+pub mod Schedules
+pub mod Drains
 pub mod Driven
-pub mod Draining
-pub mod Staying
-pub mod Waking
-pub mod Covers
+pub mod steps

@@ -7,8 +7,8 @@
 ghost use Rattle.std.specs.Prelude.{◌≡◌, ℕ, ◌||◌, IfOk, OnOk, MatchOption};
 ghost use Rattle.flow_model.specs.Events.{IsLive};
 ghost use Rattle.flow_core.specs.States.{setup_in};
-ghost use Rattle.flow_waits.specs.Waking.{has};
-ghost use Rattle.flow_waits.specs.Covers.{Covers, IsChosen, Lags, StayReady, Parks, WakesFirst, Wakes, served_of, WakesLine};
+ghost use Rattle.flow_waits.specs.steps.Waking.{has};
+ghost use Rattle.flow_waits.specs.steps.Covers.{Covers, IsChosen, Lags, StayReady, Parks, WakesFirst, Wakes, served_of, WakesLine};
 
 use crate::numbers::Numbers;
 use crate::rooms::Rooms;
@@ -30,7 +30,7 @@ pub struct Candidates {
 }
 
 impl Model for Candidates {
-    ghost use Rattle.flow_waits.specs.Covers.{Pools};
+    ghost use Rattle.flow_waits.specs.steps.Covers.{Pools};
 
     ghost Value = { Pools };
 
@@ -62,6 +62,7 @@ impl Candidates {
             (λ flow. IsChosen (setup_in L.meaning core.now) core.now.entries self.new from flow.0)) }
         ensures covers { OnOk result (Covers (setup_in L.meaning core.now) core.now.entries self.new from) }
     {
+        // Asked for what it promises: that the journal is legal.
         let _journal = core.journal();
         while let Some(number) = self.ready.first_from(from) {
             let flow = FlowNo(number);

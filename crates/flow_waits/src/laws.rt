@@ -1,6 +1,6 @@
 //! How long a flow stays blocked.
 
-ghost use Rattle.flow_waits.specs.Staying.{BlockedStay, WritersBlock, FreshAreAlike};
+ghost use Rattle.flow_waits.specs.steps.Staying.{BlockedStay, WritersBlock, FreshAreAlike};
 
 /// A blocked flow stays blocked while other flows go on, until one drops the key.
 pub fn blocked_stay()

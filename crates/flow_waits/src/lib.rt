@@ -2,13 +2,13 @@
 #![tactic(auto)]
 
 mod candidates;
-mod draining;
+mod drains;
 mod laws;
 mod numbers;
 mod rooms;
 mod turns;
 
 pub use candidates::Candidates;
-pub use draining::{drain, drain_by, enabled};
+pub use drains::{drain, drain_by, enabled};
 pub use laws::{blocked_stay, fresh_are_alike, writers_block};
 pub use turns::{Turn, take_turn};

@@ -1,7 +1,7 @@
 //! Sets of flows' numbers.
 
 ghost use Rattle.std.specs.Prelude.{◌≡◌, ◌<◌, true, [], length, OnOk, OnErr, MatchOption};
-ghost use Rattle.flow_waits.specs.Waking.{has, IsMore, IsLess, IsEarliest};
+ghost use Rattle.flow_waits.specs.steps.Waking.{has, IsMore, IsLess, IsEarliest};
 
 use flux_values::Memory;
 use std::alloc::Global;

@@ -1,7 +1,7 @@
 //! Flows by the keys that they would take.
 
 ghost use Rattle.std.specs.Prelude.{◌≡◌, [], OnOk, OnErr, MatchOption};
-ghost use Rattle.flow_waits.specs.Waking.{room_at, IsMoreAt, IsLessAt, IsEarliest};
+ghost use Rattle.flow_waits.specs.steps.Waking.{room_at, IsMoreAt, IsLessAt, IsEarliest};
 
 use crate::numbers::Numbers;
 use flow_model::Key;
@@ -18,7 +18,7 @@ pub struct Rooms {
 }
 
 impl Model for Rooms {
-    ghost use Rattle.flow_waits.specs.Waking.{Rooms};
+    ghost use Rattle.flow_waits.specs.steps.Waking.{Rooms};
 
     ghost Value = { Rooms };
 

@@ -3,7 +3,8 @@
 ghost use Rattle.std.specs.Prelude.{◌≡◌, ◌<◌, length, IfOk, OnOk, OnErr, IsSome};
 ghost use Rattle.flow_core.specs.States.{setup_in, begun_by};
 ghost use Rattle.flow_waits.specs.Turns.{TakesTurn};
-ghost use Rattle.flow_waits.specs.Driven.{SameSetup, IsJobOf, MakesCall};
+ghost use Rattle.flow_core.specs.Runs.{LeavesOthers};
+ghost use Rattle.flow_waits.specs.Driven.{IsJobOf, MakesCall};
 
 use flow_core::{Core, Job, Step};
 use flux_library::Library;
@@ -33,10 +34,10 @@ pub fn take_turn<L: Library, G: Gate>(
     gate: &G,
     flow: FlowNo,
 ) -> Result<Turn, Memory>
-    requires { flow.0 < length core.old.items }
+    requires { flow.0 < length core.old.setup.items }
     ensures ok { IfOk result (TakesTurn (setup_in L.meaning core.old) core.old.entries flow core.new.entries) }
     ensures err { OnErr result (core.new.entries ≡ core.old.entries) }
-    ensures setup { SameSetup core.old core.new }
+    ensures others { LeavesOthers core.old core.new flow }
 {
     let before = core.journal().entries.len();
     match core.step(flow)? {
@@ -63,11 +64,11 @@ pub fn take_turn<L: Library, G: Gate>(
 
 /// Runs a call that was begun before, and finishes it.
 fn call_again<L: Library, G: Gate>(core: &mut Core<L>, gate: &G, flow: FlowNo) -> Result<(), Memory>
-    requires flow { flow.0 < length core.old.items }
+    requires flow { flow.0 < length core.old.setup.items }
     requires begun { IsSome (begun_by core.old flow.0) }
     ensures ok { OnOk result (MakesCall (setup_in L.meaning core.old) core.old.entries flow core.new.entries) }
     ensures err { OnErr result (core.new.entries ≡ core.old.entries) }
-    ensures setup { SameSetup core.old core.new }
+    ensures others { LeavesOthers core.old core.new flow }
 {
     match core.recall(flow)? {
         Some(job) => call(core, gate, &job),
@@ -80,7 +81,7 @@ fn call<L: Library, G: Gate>(core: &mut Core<L>, gate: &G, job: &Job<L>) -> Resu
     requires { IsJobOf core.old job.now }
     ensures ok { OnOk result (MakesCall (setup_in L.meaning core.old) core.old.entries job.now.flow core.new.entries) }
     ensures err { OnErr result (core.new.entries ≡ core.old.entries) }
-    ensures setup { SameSetup core.old core.new }
+    ensures others { LeavesOthers core.old core.new job.now.flow }
 {
     gate.before(job.flow(), job.node());
     let done = job.run(core.alloc());

@@ -1,5 +1,5 @@
 -- What compiling needs of what a checked program keeps.
-use Rattle.std.proofs.Common.{◌≡◌, ℕ, ◌<◌, ◌≤◌, List, [], ◌∷◌, length, ap, arith}
+use Rattle.std.proofs.Common.{◌≡◌, ℕ, ◌<◌, ◌≤◌, List, length, ap, arith}
 use Rattle.std.specs.List.{AllByRecursion, AllByRecursion-prop}
 use Rattle.std.proofs.Math.Bridge.{le_prop}
 use Rattle.std.proofs.Math.Logic.{∥∥₁_elim}
@@ -13,6 +13,9 @@ use Rattle.flux_model.specs.declared.signatures.NodeSig.{NodeSig}
 use Rattle.flux_model.specs.Numbered.{parts_of}
 use Rattle.flux_model.specs.Locks.{AreLocks, Holds}
 use Rattle.flux_model.specs.Ordering.{IsOrder}
+use Rattle.flux_model.specs.Leading.{leads_in}
+use Rattle.flux_model.specs.Children.{IsIn}
+use Rattle.flux_model.specs.Visits.{IsKnown}
 use Rattle.flux_model.proofs.Hoisting.{locks_once}
 use Rattle.flux_hoist.specs.Sets.{held_by}
 use Rattle.flux_hoist.specs.Keeping.{Keeps}
@@ -59,11 +62,6 @@ verified-prop plan = hlevel
 
 -- ---- out of what is kept
 
-targets_of : (count : ℕ) (lines : List SourceLine) → AllByRecursion (λ line. (line.node.0 < count) × (line.target.0 < count)) lines
-    → AllByRecursion (λ line. line.target.0 < count) lines
-targets_of count [] all = tt
-targets_of count (line ∷ lines) (own, all) = (own.1, targets_of count lines all)
-
 module _ (p : Program) (sigs : List NodeSig) (order : List NodeNo) (sets : List (List Hold)) (sizes : List ℕ)
     (kept : ∥ Keeps p sigs order sets sizes ∥₁) where
   -- a node holds few classes, and has few cases and members
@@ -75,10 +73,13 @@ module _ (p : Program) (sigs : List NodeSig) (order : List NodeNo) (sets : List 
   pub few_parts : AllByRecursion (λ node. parts_of node.body ≤ COUNT_LIMIT) p.nodes
   few_parts = ∥∥₁_elim kept (AllByRecursion-prop (λ node. parts_of node.body ≤ COUNT_LIMIT) (λ node. le_prop) p.nodes) (λ keeps. keeps.numbered.parts)
 
-  -- each source's target is a node
-  pub targets_below : AllByRecursion (λ line. line.target.0 < length p.nodes) p.sources
-  targets_below = ∥∥₁_elim kept (AllByRecursion-prop (λ (line : SourceLine). line.target.0 < length p.nodes) (λ line. le_prop) p.sources)
-      (λ keeps. targets_of (length p.nodes) p.sources keeps.numbered.sources)
+  -- each source's own node and its target are nodes
+  pub lines_below : AllByRecursion (λ line. (line.node.0 < length p.nodes) × (line.target.0 < length p.nodes)) p.sources
+  lines_below = ∥∥₁_elim kept (AllByRecursion-prop (λ (line : SourceLine). (line.node.0 < length p.nodes) × (line.target.0 < length p.nodes)) (λ line. hlevel le_prop) p.sources)
+      (λ keeps. keeps.numbered.sources)
+
+  pub short : length p.nodes ≤ COUNT_LIMIT
+  short = ∥∥₁_elim kept le_prop (λ keeps. keeps.numbered.few)
 
   pub ordered : IsOrder p.nodes order
   ordered = ∥∥₁_elim kept (is_order-prop p.nodes order) (λ keeps. keeps.ordered)
@@ -89,9 +90,10 @@ module _ (p : Program) (sigs : List NodeSig) (order : List NodeNo) (sets : List 
       ∥∥₁_elim kept (holds-set (locks node) (held_by sets node)) (λ keeps. ap (λ (l : Holds). l node) (locks_once p locks (held_by sets) are keeps.locks))
 
   -- a plan with the nodes' segments is sound
-  module _ (plan : Plan) (same : plan.segments ≡ segments_of sets p.nodes) where
+  module _ (origins : List ℕ) (plan : Plan) (same : plan.segments ≡ segments_of origins sets p.nodes) where
     pub sized : IsSized plan
-    sized = ∥∥₁_elim kept (sized-prop plan) (λ keeps. segments_are_sized p sets plan same keeps.numbered keeps.locks)
+    sized = ∥∥₁_elim kept (sized-prop plan) (λ keeps. segments_are_sized p origins sets plan same keeps.numbered keeps.locks)
 
-    pub verified : plan.target.0 < length p.nodes → IsVerified plan
-    verified less = ∥∥₁_elim kept (verified-prop plan) (λ keeps. segments_are_verified p sets plan same less keeps.numbered keeps.acyclic keeps.locks)
+    pub verified : ((from next : ℕ) → IsIn next (leads_in p.nodes from) → IsKnown next origins → ⊥)
+        → (IsKnown plan.target.0 origins → ⊥) → plan.target.0 < length p.nodes → IsVerified plan
+    verified apart other less = ∥∥₁_elim kept (verified-prop plan) (λ keeps. segments_are_verified p origins sets plan same less other apart keeps.numbered keeps.acyclic keeps.locks)

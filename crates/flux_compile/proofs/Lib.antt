@@ -6,3 +6,4 @@ pub mod Parts
 pub mod Orders
 pub mod Kept
 pub mod Plans
+pub mod Apart

@@ -1,7 +1,6 @@
 -- The code of bodies, arm by arm, and the segments, node by node.
 use Rattle.std.proofs.Common.{◌≡◌, ℕ, zero, suc, ◌+◌, ◌<◌, ◌≤◌, List, [], ◌∷◌, ◌++◌, length, map, drop, get_or, sym, ap, ◌∙◌, append_assoc, length-append, add-one, arith, drop-cons}
 use Rattle.std.specs.List.{AllByRecursion}
-use Rattle.std.proofs.Math.Seq.{drop-nil}
 use Rattle.std.proofs.lemmas.List.{length-map}
 use Rattle.flux_model.specs.declared.programs.Hold.{Hold}
 use Rattle.flux_model.specs.declared.programs.Case.{Case}
@@ -10,7 +9,7 @@ use Rattle.flux_hoist.specs.Sets.{held_by}
 use Rattle.flux_plan.specs.declared.plans.Segment.{Segment}
 use Rattle.flux_plan.specs.declared.plans.Instr.{Instr}
 use Rattle.flux_plan.specs.declared.plans.Instr.TheVariants.{Enter, Go, Leave}
-use Rattle.flux_compile.specs.steps.Segments.{taking, arms_from, members_code, segment_of, segments_of}
+use Rattle.flux_compile.specs.steps.Segments.{taking, arms_from, members_code, segment_for, segments_from, segments_of}
 
 -- the arm of the next case, and those behind it
 pub arms_next : (place : ℕ) (cases : List Case) (i : ℕ) (case : Case) → i < length cases → case ≡ get_or cases i case
@@ -33,26 +32,25 @@ pub length-opening : (holds : List Hold) (code : List Instr) → code ≡ map ta
 length-opening holds code is = rw is (grind (arith, length-append, length-map))
 
 -- the segment of the next node, and those behind it
-pub segments_next : (sets : List (List Hold)) (nodes : List Node) (i : ℕ) (node : Node) → i < length nodes → node ≡ get_or nodes i node
-    → segments_of (drop i sets) (drop i nodes)
-    ≡ segment_of (held_by sets i) node ∷ segments_of (drop (suc i) sets) (drop (suc i) nodes)
-segments_next sets [] i node lt is = absurd (omega (arith, lt))
-segments_next [] (n ∷ nodes) zero node lt is = ap (λ (m : Node). segment_of [] m ∷ segments_of [] nodes) (sym is)
-segments_next (own ∷ sets) (n ∷ nodes) zero node lt is = ap (λ (m : Node). segment_of own m ∷ segments_of sets nodes) (sym is)
-segments_next [] (n ∷ nodes) (suc i) node lt is =
-    ap (λ (s : List (List Hold)). segments_of s (drop i nodes)) (sym (drop-nil i))
-    ∙ segments_next [] nodes i node (omega (arith, lt)) is
-    ∙ ap (λ (s : List (List Hold)). segment_of [] node ∷ segments_of s (drop (suc i) nodes)) (drop-nil (suc i))
-segments_next (own ∷ sets) (n ∷ nodes) (suc i) node lt is = segments_next sets nodes i node (omega (arith, lt)) is
+segments_next : (origins : List ℕ) (sets : List (List Hold)) (first : ℕ) (nodes : List Node) (node : Node) (rest : List Node)
+    → nodes ≡ node ∷ rest → segments_from origins sets first nodes
+    ≡ segment_for origins (held_by sets first) first node ∷ segments_from origins sets (first + 1) rest
+segments_next origins sets first nodes node rest is = ap (segments_from origins sets first) is
 
-pub segments_more : (sets : List (List Hold)) (nodes : List Node) (i : ℕ) (node : Node) (made : List Segment) → i < length nodes → node ≡ get_or nodes i node
-    → made ++ segments_of (drop i sets) (drop i nodes) ≡ segments_of sets nodes
-    → (made ++ segment_of (held_by sets i) node ∷ []) ++ segments_of (drop (i + 1) sets) (drop (i + 1) nodes) ≡ segments_of sets nodes
-segments_more sets nodes i node made lt is so_far =
-    rw (add-one i)
-    (append_assoc made (segment_of (held_by sets i) node ∷ []) (segments_of (drop (suc i) sets) (drop (suc i) nodes))
-    ∙ ap (λ (rest : List Segment). made ++ rest) (sym (segments_next sets nodes i node lt is))
-    ∙ so_far)
+pub segments_more : (origins : List ℕ) (sets : List (List Hold)) (nodes : List Node) (i : ℕ) (node : Node) (made : List Segment)
+    → i < length nodes → node ≡ get_or nodes i node
+    → made ++ segments_from origins sets i (drop i nodes) ≡ segments_of origins sets nodes
+    → (made ++ segment_for origins (held_by sets i) i node ∷ []) ++ segments_from origins sets (i + 1) (drop (i + 1) nodes)
+    ≡ segments_of origins sets nodes
+segments_more origins sets nodes i node made lt is so_far =
+    let one = segment_for origins (held_by sets i) i node in
+    let behind : drop i nodes ≡ node ∷ drop (suc i) nodes =
+    drop-cons nodes i node lt ∙ ap (λ (n : Node). n ∷ drop (suc i) nodes) (sym is) in
+    let later : drop (i + 1) nodes ≡ drop (suc i) nodes = ap (λ (n : ℕ). drop n nodes) (add-one i) in
+    append_assoc made (one ∷ []) (segments_from origins sets (i + 1) (drop (i + 1) nodes))
+    ∙ ap (λ (rest : List Node). made ++ one ∷ segments_from origins sets (i + 1) rest) later
+    ∙ ap (λ (rest : List Segment). made ++ rest) (sym (segments_next origins sets i (drop i nodes) node (drop (suc i) nodes) behind))
+    ∙ so_far
 
 -- where all sets are small, so is what each node holds
 pub held_few : (count : ℕ) (sets : List (List Hold)) → AllByRecursion (λ holds. length holds ≤ count) sets → (node : ℕ) → length (held_by sets node) ≤ count

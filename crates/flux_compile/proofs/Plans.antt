@@ -1,20 +1,20 @@
 -- Plans, line by line.
-use Rattle.std.proofs.Common.{◌≡◌, ℕ, ◌<◌, ◌+◌, inl, inr, List, [], ◌∷◌, ◌++◌, length, take, get_or, sym, ap, subst, ◌∙◌, take-suc, add-one}
-use Rattle.std.specs.List.{Contains, AllByRecursion}
+use Rattle.std.proofs.Common.{◌≡◌, ℕ, ◌<◌, ◌+◌, List, [], ◌∷◌, ◌++◌, length, take, get_or, slice_get, Option, Some, None, option_map, refl, sym, ap, subst, ◌∙◌, take-suc, add-one}
+use Rattle.std.specs.List.{AllByRecursion}
 use Rattle.flux_model.specs.declared.programs.SourceLine.{SourceLine}
 use Rattle.flux_model.specs.declared.programs.Program.{Program}
-use Rattle.flux_model.proofs.RisingHolds.{contains_cases, contains_none}
+use Rattle.flux_model.specs.declared.programs.Node.{Node}
+use Rattle.flux_model.specs.declared.programs.Hold.{Hold}
+use Rattle.flux_hoist.specs.Sets.{held_by}
 use Rattle.flux_plan.specs.declared.plans.Plan.{Plan}
 use Rattle.flux_plan.specs.declared.plans.Segment.{Segment}
 use Rattle.flux_plan.specs.Runs.{IsPlanOf, AreLinePlans}
 use Rattle.flux_compile.specs.Plans.{ShareSegments}
-
-pub all_in : {X : Type 0} (P : X → Type 0) (xs : List X) (x : X) → AllByRecursion P xs → Contains xs x → P x
-all_in P [] x all c = absurd (contains_none x c)
-all_in P (y ∷ xs) x (own, all) c = elim (contains_cases y xs x c) [
-  | inl same ↦ subst P (sym same) own
-  | inr later ↦ all_in P xs x all later
-]
+use Rattle.flux_compile.specs.Sources.{empty, AreSourcesEmpty}
+use Rattle.flux_compile.specs.steps.Segments.{segment_for, segments_of, origins_of}
+use Rattle.flux_compile.proofs.Apart.{all_in, own_known}
+use Rattle.flux_compile.proofs.Sound.{found_below}
+use Rattle.flux_compile.proofs.soundness.Leads.{segment_at}
 
 all_more : {X : Type 0} (P : X → Type 0) (xs : List X) (x : X) → AllByRecursion P xs → P x → AllByRecursion P (xs ++ x ∷ [])
 all_more P [] x all own = (own, tt)
@@ -51,3 +51,21 @@ pub share_segments : (segments : List Segment) (plans : List Plan) → AllByRecu
 share_segments segments plans all first second a b =
     all_in (λ (q : Plan). q.segments ≡ segments) plans first all a
     ∙ sym (all_in (λ (q : Plan). q.segments ≡ segments) plans second all b)
+
+-- plans with the segments of a program's nodes have an empty one for each node that items come from
+pub empty_there : (p : Program) (sets : List (List Hold)) (plans : List Plan)
+    → AllByRecursion (λ plan. plan.segments ≡ segments_of (origins_of p.sources) sets p.nodes) plans
+    → AllByRecursion (λ line. (line.node.0 < length p.nodes) × (line.target.0 < length p.nodes)) p.sources
+    → AreSourcesEmpty p plans
+empty_there p sets plans all below plan line is among =
+    let origins = origins_of p.sources in
+    let same = all_in (λ (q : Plan). q.segments ≡ segments_of origins sets p.nodes) plans plan all is in
+    let inside = all_in (λ (l : SourceLine). (l.node.0 < length p.nodes) × (l.target.0 < length p.nodes)) p.sources line below among in
+    ap (λ (segments : List Segment). slice_get segments line.node.0) same
+    ∙ segment_at origins sets p.nodes line.node.0
+    ∙ by (slice_get p.nodes line.node.0) refl inside.0
+  where
+    by : (found : Option Node) → slice_get p.nodes line.node.0 ≡ found → line.node.0 < length p.nodes
+        → option_map (segment_for (origins_of p.sources) (held_by sets line.node.0) line.node.0) found ≡ Some empty
+    by None at less = absurd (found_below p.nodes line.node.0 less at)
+    by (Some node) at less = rw (own_known p.sources line among) refl

@@ -14,6 +14,9 @@ use Rattle.flow_model.specs.declared.journals.Event.TheVariants as events
 use Rattle.flow_model.specs.Flows.{ending}
 use Rattle.flux_model.specs.Locks.{Holds, AreLocks}
 use Rattle.flux_model.specs.Ordering.{IsOrder}
+use Rattle.flux_model.specs.Leading.{leads_in}
+use Rattle.flux_model.specs.Children.{IsIn}
+use Rattle.flux_model.specs.Visits.{IsKnown}
 use Rattle.flow_model.specs.Walk.{Given, Stop, finished, before_call, nowhere, Walking, walk}
 use Rattle.flux_hoist.specs.Sets.{held_by}
 use Rattle.flux_plan.specs.declared.plans.Plan.{Plan}
@@ -21,11 +24,11 @@ use Rattle.flux_plan.specs.declared.plans.Segment.{Segment}
 use Rattle.flux_plan.specs.Machine.{beginning}
 use Rattle.flux_plan.specs.Runs.{at_end, at_call, Ran, run, run_step, still, RunsAs, IsPlanOf}
 use Rattle.flux_plan.proofs.RunLemmas.{comes-stops, Stops}
-use Rattle.flux_compile.specs.steps.Segments.{segment_of, segments_of}
+use Rattle.flux_compile.specs.steps.Segments.{segment_of, segment_for, segments_of}
 use Rattle.flux_compile.proofs.walking.Arriving.{Follows}
 use Rattle.flux_compile.proofs.walking.Nodes.{standing, RunsUp}
 use Rattle.flux_compile.proofs.walking.Nested.{walks-run}
-use Rattle.flux_compile.proofs.soundness.Leads.{segment_at}
+use Rattle.flux_compile.proofs.soundness.Leads.{segment_at, own_segment}
 
 -- ---- ends
 
@@ -54,23 +57,29 @@ module _ (plan : Plan) (given : Given) (walking : Walking) (values : List Value)
 
 -- ---- segments of all nodes
 
--- the segment of a node stands at its number
-segments_of-at : (sets : List (List Hold)) (nodes : List Node) (number : ℕ) (node : Node) → slice_get nodes number ≡ Some node
-    → slice_get (segments_of sets nodes) number ≡ Some (segment_of (held_by sets number) node)
-segments_of-at sets nodes number node at =
-    segment_at sets nodes number ∙ ap (option_map (segment_of (held_by sets number))) at
+-- the segment of a node to which flows come stands at its number
+segments_of-at : (origins : List ℕ) (sets : List (List Hold)) (nodes : List Node) (number : ℕ) (node : Node)
+    → (IsKnown number origins → ⊥) → slice_get nodes number ≡ Some node
+    → slice_get (segments_of origins sets nodes) number ≡ Some (segment_of (held_by sets number) node)
+segments_of-at origins sets nodes number node other at =
+    segment_at origins sets nodes number ∙ ap (option_map (segment_for origins (held_by sets number) number)) at
+    ∙ ap Some (own_segment origins (held_by sets number) number node other)
 
--- segments as the code writes them run as walks
-pub segments_run_as_walks : (p : Program) (sets : List (List Hold)) (order : List NodeNo) (target : NodeNo) (plan : Plan)
-    → plan.target ≡ target → plan.segments ≡ segments_of sets p.nodes → IsOrder p.nodes order
+-- segments as the code writes them run as walks, where no flow comes to nodes that items come from
+pub segments_run_as_walks : (p : Program) (origins : List ℕ) (sets : List (List Hold)) (order : List NodeNo) (target : NodeNo) (plan : Plan)
+    → plan.target ≡ target → plan.segments ≡ segments_of origins sets p.nodes → IsOrder p.nodes order
     → ((locks : Holds) → AreLocks p locks → (node : ℕ) → locks node ≡ held_by sets node)
-    → target.0 < length p.nodes → IsPlanOf p target plan
-segments_run_as_walks p sets order target plan same segments ordered locked inside =
+    → ((from next : ℕ) → IsIn next (leads_in p.nodes from) → IsKnown next origins → ⊥)
+    → (IsKnown target.0 origins → ⊥) → target.0 < length p.nodes → IsPlanOf p target plan
+segments_run_as_walks p origins sets order target plan same segments ordered locked apart other inside =
     subst (λ (t : NodeNo). IsPlanOf p t plan) same (record {
       runs = λ given locks values answers.
-          let are : (number : ℕ) (node : Node) → slice_get p.nodes number ≡ Some node → slice_get plan.segments number ≡ Some (segment_of (given.locks number) node) = λ number node at.
-          ap (λ (ss : List Segment). slice_get ss number) segments ∙ segments_of-at sets p.nodes number node at
+          let are : (number : ℕ) (node : Node) → (IsKnown number origins → ⊥) → slice_get p.nodes number ≡ Some node
+          → slice_get plan.segments number ≡ Some (segment_of (given.locks number) node) = λ number node own at.
+          ap (λ (ss : List Segment). slice_get ss number) segments ∙ segments_of-at origins sets p.nodes number node own at
           ∙ ap (λ (hs : List Hold). let s : Option Segment = Some (segment_of hs node) in s) (sym (locked given.locks locks number)) in
-          let all = walks-run plan.segments given p.nodes are order ordered plan.target.0 (subst (λ (t : NodeNo). t.0 < length p.nodes) (sym same) inside) in
+          let all = walks-run plan.segments given p.nodes (λ number. IsKnown number origins → ⊥) apart are order ordered plan.target.0
+          (subst (λ (t : NodeNo). IsKnown t.0 origins → ⊥) (sym same) other)
+          (subst (λ (t : NodeNo). t.0 < length p.nodes) (sym same) inside) in
           runs_as plan given (walk given p.nodes plan.target.0) values answers (all values answers []);
     })

@@ -9,7 +9,5 @@ mod bodies;
 mod compiling;
 mod copies;
 mod segments;
-#[cfg(test)]
-mod tests;
 
 pub use compiling::compile;

@@ -4,12 +4,12 @@ ghost use Rattle.std.specs.Prelude.{◌≡◌, ℕ, ◌≤◌, ◌++◌, length,
 ghost use Rattle.std.specs.List.{AllByRecursion};
 ghost use Rattle.flux_model.specs.Numbered.{parts_of};
 ghost use Rattle.flux_hoist.specs.Sets.{held_by};
-ghost use Rattle.flux_compile.specs.steps.Segments.{taking, dropping, handling_code, segment_of, segments_of};
+ghost use Rattle.flux_compile.specs.steps.Segments.{taking, dropping, handling_code, segment_of, segment_for, segments_of, origins_of};
 
 use crate::bodies::add_body;
 use crate::copies::copy_arms;
 use flux_constraints::ClassSet;
-use flux_model::{COUNT_LIMIT, HandleArm, Hold, Node};
+use flux_model::{COUNT_LIMIT, HandleArm, Hold, Node, SourceLine, Visits};
 use flux_plan::{Instr, Segment};
 use flux_values::{List, Memory};
 use std::alloc::Global;
@@ -70,19 +70,55 @@ fn holds_of(sets: &[ClassSet], number: usize) -> &[Hold]
     }
 }
 
-/// One segment for each node, given what the nodes hold.
+/// The segment of the node of a number. It is empty where items come from the node, since no flow comes there.
+fn segment_for(
+    alloc: Global,
+    origins: &Visits,
+    holds: &[Hold],
+    number: u32,
+    node: &Node,
+) -> Result<Segment, Memory>
+    requires few { length holds.now ≤ COUNT_LIMIT }
+    requires parts { parts_of node.now.body ≤ COUNT_LIMIT }
+    ensures { IfOk result (λ segment. segment ≡ segment_for origins.now holds.now number node.now) }
+{
+    if origins.has(number) {
+        return Ok(Segment {
+            code: List::new(alloc),
+            exit: 0,
+        });
+    }
+    segment_of(alloc, holds, node)
+}
+
+/// The nodes that items come from.
+pub fn origins_of(alloc: Global, lines: &[SourceLine]) -> Result<Visits, Memory>
+    ensures { IfOk result (λ origins. origins ≡ origins_of lines.now) }
+{
+    let mut origins = Visits::new(alloc);
+    for line in lines {
+        origins.add(line.node.0)?;
+    }
+    Ok(origins)
+}
+
+/// One segment for each node, given from which nodes items come, and what nodes hold.
 pub fn segments_of(
     alloc: Global,
+    origins: &Visits,
     sets: &[ClassSet],
     nodes: &[Node],
 ) -> Result<List<Segment>, Memory>
+    requires short { length nodes.now ≤ COUNT_LIMIT }
     requires few { (number : ℕ) → length (held_by sets.now number) ≤ COUNT_LIMIT }
     requires parts { AllByRecursion (λ node. parts_of node.body ≤ COUNT_LIMIT) nodes.now }
-    ensures { IfOk result (λ segments. segments ≡ segments_of sets.now nodes.now) }
+    ensures { IfOk result
+        (λ segments. segments ≡ segments_of origins.now sets.now nodes.now) }
 {
     let mut segments = List::new(alloc);
     for (number, node) in nodes.iter().enumerate() {
-        segments.add(segment_of(alloc, holds_of(sets, number), node)?)?;
+        let holds = holds_of(sets, number);
+        segments.add(segment_for(alloc, origins, holds, number as u32, node)?)?;
     }
     Ok(segments)
 }

@@ -13,10 +13,8 @@ use Rattle.flow_model.specs.Texts.{printed_journal}
 use Rattle.flux_journal.specs.Formats.{printed_journal_2}
 use Rattle.flux_items.specs.Items.{AreItemsOf}
 use Rattle.flux_syntax.specs.ProgramOfText.{program_of}
-use Rattle.rt_event.specs.Round.{IsRound}
-use Rattle.rt_script.specs.Follow.{IsFollow}
+use Rattle.rt_all.specs.Orders.{IsOrderOf}
 use Rattle.flux_words.specs.declared.values.Runtime.{Runtime}
-use Rattle.flux_words.specs.declared.values.Runtime.TheVariants.{Event, Script}
 use Rattle.flux_words.specs.declared.values.JournalFormat.{JournalFormat}
 use Rattle.flux_words.specs.declared.values.JournalFormat.TheVariants.{One, Two}
 use Rattle.flux_driver.specs.Worlds.{Files}
@@ -33,12 +31,6 @@ setup_of program locks items meaning = record {
   meaning = meaning;
 }
 
--- the order in which a runtime lets flows go on: flow after flow, each up to its
--- first call, its wait or its end, or as the script's numbers say
-abbrev pub IsOrderOf : Runtime → Setup → List Entry → Type 0
-IsOrderOf Event setup entries = IsRound setup [] entries
-IsOrderOf (Script numbers) setup entries = IsFollow setup [] numbers entries
-
 -- The entries are a true run of the items by a runtime:
 --   whole           each item's flow is one whole path of its walk, on its own calls' answers;
 --   legal.answers   each call has its library node's answer, on the cells as earlier calls left them;
@@ -52,7 +44,7 @@ pub record IsTrueRun (program : Program) (items : List Item) (meaning : LibraryM
   pub locks : Holds
   pub legal : IsLegal (setup_of program locks items meaning) entries
   pub whole : IsWhole (setup_of program locks items meaning) entries
-  pub order : IsOrderOf runtime (setup_of program locks items meaning) entries
+  pub order : IsOrderOf runtime (setup_of program locks items meaning) [] entries
 
 -- a journal of so many flows in a format
 abbrev pub printed_in : JournalFormat → Program → ℕ → Journal → List ℕ

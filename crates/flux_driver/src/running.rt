@@ -31,8 +31,7 @@ use flow_core::Gate;
 use flux_plan::VerifiedPlan;
 use flux_values::{Bytes, List, Memory};
 use flux_words::{JournalFormat, Runtime};
-use rt_event::EventLoop;
-use rt_script::Script;
+use rt_all::Chosen;
 use std::alloc::Global;
 use std::sync::Arc;
 
@@ -48,11 +47,7 @@ fn drive<L: Library, G: Gate>(core: Core<L>, runtime: Runtime, gate: &G) -> Resu
     requires { core.entries ≡ [] }
     ensures { IfOk result (λ journal. IsDriven (setup_in L.meaning core) runtime journal.entries) }
 {
-    let driven = match runtime {
-        Runtime::Event => EventLoop { helpers: 0 }.drive_alone(core, gate),
-        Runtime::Script(numbers) => Script { numbers }.drive_alone(core, gate),
-    };
-    match driven {
+    match Chosen::by(runtime).drive_alone(core, gate) {
         Ok(core) => Ok(core.into_parts().0),
         Err(_) => Err(Memory),
     }

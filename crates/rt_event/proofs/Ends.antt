@@ -17,7 +17,8 @@ use Rattle.flow_waits.proofs.Ending.{live-is}
 use Rattle.rt_event.specs.Round.{EndsTurn}
 use Rattle.rt_event.specs.steps.Owners.{IsOver, MakesOwn}
 
-any-push : (p : Event → Bool) (list : List Event) (event : Event) → list_any p (list ++ event ∷ []) ≡ (list_any p list || p event)
+any-push : (p : Event → Bool) (list : List Event) (event : Event)
+    → list_any p (list ++ event ∷ []) ≡ (list_any p list || p event)
 any-push p [] event = by (p event)
   where
     by : (b : Bool) → (b || false) ≡ (false || b)
@@ -25,12 +26,14 @@ any-push p [] event = by (p event)
     by false = refl
 any-push p (first ∷ list) event = by (p first) (any-push p list event)
   where
-    by : (b : Bool) → list_any p (list ++ event ∷ []) ≡ (list_any p list || p event) → (b || list_any p (list ++ event ∷ [])) ≡ ((b || list_any p list) || p event)
+    by : (b : Bool) → list_any p (list ++ event ∷ []) ≡ (list_any p list || p event)
+        → (b || list_any p (list ++ event ∷ [])) ≡ ((b || list_any p list) || p event)
     by true more = refl
     by false more = more
 
 -- a live flow hasn't had its end
-live-none : (setup : Setup) (entries : List Entry) (flow : ℕ) → IsLive setup entries flow → has_ended entries flow ≡ false
+live-none : (setup : Setup) (entries : List Entry) (flow : ℕ) → IsLive setup entries flow
+    → has_ended entries flow ≡ false
 live-none setup entries flow live = by (has_ended entries flow) refl
   where
     by : (b : Bool) → has_ended entries flow ≡ b → b ≡ false
@@ -41,8 +44,10 @@ live-none setup entries flow live = by (has_ended entries flow) refl
 pub ended-more : (setup : Setup) (entries : List Entry) (flow : FlowNo) (event : Event) → IsLive setup entries flow.0
     → has_ended (entries ++ record { flow = flow; event = event } ∷ []) flow.0 ≡ is_end event
 ended-more setup entries flow event live =
-    ap (list_any is_end) (events_by-append flow.0 entries (record { flow = flow; event = event } ∷ []) ∙ ap (λ es. events_by flow.0 entries ++ es) (by_itself flow.0 event))
-    ∙ any-push is_end (events_by flow.0 entries) event ∙ ap (λ b. b || is_end event) (live-none setup entries flow.0 live)
+    ap (list_any is_end) (events_by-append flow.0 entries (record { flow = flow; event = event } ∷ []) ∙ ap
+        (λ es. events_by flow.0 entries ++ es) (by_itself flow.0 event))
+    ∙ any-push is_end (events_by flow.0 entries) event ∙ ap (λ b. b || is_end event)
+        (live-none setup entries flow.0 live)
 
 over-is : (event : Event) → IsPassing event → IsOver (is_end event) event
 over-is (End outcome) passes = tt
@@ -54,7 +59,8 @@ over-is (Choose place) passes = λ ends. ends
 over-is (Exit node outcome) passes = λ ends. ends
 over-is (Drop key) passes = λ ends. ends
 
-pub went-own : (setup : Setup) (before after : List Entry) (flow : FlowNo) (ends : Bool) → ends ≡ has_ended after flow.0 → (event : Event) × IsPassing event × MakesMove setup before flow event after
+pub went-own : (setup : Setup) (before after : List Entry) (flow : FlowNo) (ends : Bool) → ends ≡ has_ended after flow.0
+    → (event : Event) × IsPassing event × MakesMove setup before flow event after
     → IsLive setup before flow.0 → MakesOwn setup before flow after ends
 went-own setup before after flow ends is (event, passes, makes) live = record {
   event = event;
@@ -77,14 +83,18 @@ no-end (Choose place) on = refl
 no-end (Exit node outcome) on = refl
 no-end (Drop key) on = refl
 
-pub still-live : (setup : Setup) (entries : List Entry) (flow : FlowNo) (event : Event) → (EndsTurn event → ⊥) → IsLive setup entries flow.0
+pub still-live : (setup : Setup) (entries : List Entry) (flow : FlowNo) (event : Event) → (EndsTurn event → ⊥)
+    → IsLive setup entries flow.0
     → IsLive setup (entries ++ record { flow = flow; event = event } ∷ []) flow.0
 still-live setup entries flow event on live =
-    live-is setup (entries ++ record { flow = flow; event = event } ∷ []) flow.0 live.item (ended-more setup entries flow event live ∙ no-end event on)
+    live-is setup (entries ++ record { flow = flow; event = event } ∷ []) flow.0 live.item
+        (ended-more setup entries flow event live ∙ no-end event on)
 
 pub still-awake : (setup : Setup) (entries : List Entry) (flow : FlowNo) (event : Event) → (EndsTurn event → ⊥)
     → IsInLine setup (entries ++ record { flow = flow; event = event } ∷ []) flow.0 → ⊥
 still-awake setup entries flow event on line =
-    let own : IsLast (entries ++ record { flow = flow; event = event } ∷ []) flow event (length entries) = record { before = entries; after = []; stands = refl; last = refl; at = refl } in
-    let same = last-unique (entries ++ record { flow = flow; event = event } ∷ []) flow event (Wait line.key line.mode) (length entries) line.place own line.stands in
+    let own : IsLast (entries ++ record { flow = flow; event = event } ∷ []) flow event (length entries) =
+        record { before = entries; after = []; stands = refl; last = refl; at = refl } in
+    let same = last-unique (entries ++ record { flow = flow; event = event } ∷ []) flow event (Wait line.key line.mode)
+        (length entries) line.place own line.stands in
     on (subst EndsTurn (sym same.0) tt)

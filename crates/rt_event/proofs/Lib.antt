@@ -1,3 +1,2 @@
-pub mod Ends
-pub mod Counting
-pub mod Rounds
+mod Ends
+mod Rounds

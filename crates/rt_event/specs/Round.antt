@@ -5,9 +5,8 @@ use Rattle.flow_model.specs.declared.journals.Event.{Event}
 use Rattle.flow_model.specs.declared.journals.Event.TheVariants.{Take, Wait, Enter, Choose, Call, Exit, Drop, End}
 use Rattle.flux_model.specs.declared.items.FlowNo.{FlowNo}
 use Rattle.flow_model.specs.Setup.{Setup}
-use Rattle.flow_model.specs.Events.{IsLive}
-use Rattle.flux_laws.specs.Moves.{IsMove}
-use Rattle.flow_waits.specs.Turns.{IsFirstFrom, EachStands}
+use Rattle.flow_waits.specs.Turns.{IsFirstFrom}
+use Rattle.flow_waits.specs.Schedules.{IsScheduled}
 
 -- a turn ends with a call, a wait or an end
 abbrev pub EndsTurn : Event → Type 0
@@ -44,14 +43,10 @@ abbrev pub HasTurn : Setup → List Entry → List Entry → FlowNo → Type 0
 HasTurn setup old entries flow = IsOnTurn entries flow
     ⊎ ((from : ℕ) × LooksFrom entries from × IsFirstFrom setup (old ++ entries) from flow.0)
 
--- an entry is the next move of the flow whose turn it is
-pub record IsTurnMove (setup : Setup) (old entries : List Entry) (flow : FlowNo) (event : Event) : Type 0 where
-  pub turn : HasTurn setup old entries flow
-  pub move : IsMove setup (old ++ entries) flow event
+-- the rule: it is the flow's turn
+abbrev pub IsOwnersTurn : Setup → List Entry → List Entry → FlowNo → Event → Type 0
+IsOwnersTurn setup old since flow event = HasTurn setup old since flow
 
--- a journal goes on by such entries alone, until no flow is live
-pub record IsRound (setup : Setup) (old new : List Entry) : Type 0 where
-  pub more : List Entry
-  pub added : new ≡ old ++ more
-  pub each : EachStands (IsTurnMove setup old) more
-  pub over : (flow : ℕ) → IsLive setup new flow → ⊥
+-- a journal goes on by this rule, until no flow is live
+abbrev pub IsRound : Setup → List Entry → List Entry → Type 0
+IsRound setup old new = IsScheduled (IsOwnersTurn setup old) setup old new

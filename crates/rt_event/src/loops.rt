@@ -2,16 +2,14 @@
 
 ghost use Rattle.std.specs.Prelude.{◌≡◌, ◌<◌, length, IfOk, IfErr, OnOk, OnErr};
 ghost use Rattle.flow_core.specs.States.{setup_in};
-ghost use Rattle.flow_core.specs.Runs.{GoesOnLegally, GoesToEnd};
-ghost use Rattle.flow_waits.specs.Driven.{SameSetup};
+ghost use Rattle.flow_core.specs.Runs.{LeavesOthers, GoesOnLegally, GoesToEnd};
 ghost use Rattle.rt_event.specs.Round.{IsRound};
 ghost use Rattle.rt_event.specs.steps.Owners.{Stays, Leads, MakesTurn};
 
-use flow_core::{Core, Stopped};
+use flow_core::{Core, Gate, Runtime, Stopped};
 use flow_waits::{Candidates, Turn, take_turn};
 use flux_library::Library;
 use flux_model::FlowNo;
-use flow_core::Gate;
 use flux_values::Memory;
 use std::marker::Sync;
 use std::sync::Wait;
@@ -42,17 +40,22 @@ impl EventLoop {
             Err(Memory) => Err(Stopped { core }),
         }
     }
+}
 
-    /// Drives a core to its end. No other thread is started.
-    pub fn drive<Rt: Threads + Wait + Sync, L: Library, G: Gate>(
+impl Runtime for EventLoop {
+    ghost ready = { λ it. it.helpers ≡ 0 };
+
+    fn drive<L: Library, G: Gate, Rt: Threads + Wait + Sync>(
         &mut self,
         _rt: &Rt,
         core: Core<L>,
         gate: &G,
     ) -> Result<Core<L>, Stopped<L>>
         requires { self.old.helpers ≡ 0 }
+        ensures again { self.new.helpers ≡ 0 }
         ensures ok { IfOk result (GoesToEnd L.meaning core) }
         ensures err { IfErr result (λ stopped. GoesOnLegally L.meaning core stopped.core) }
+        ensures still { OnErr result (self.new ≡ self.old) }
         ensures round { IfOk result (λ driven. IsRound (setup_in L.meaning core) core.entries driven.entries) }
         ensures helpers { self.new ≡ self.old }
     {
@@ -65,6 +68,7 @@ fn round<L: Library, G: Gate>(core: &mut Core<L>, gate: &G) -> Result<(), Memory
     ensures ok { OnOk result (IsRound (setup_in L.meaning core.old) core.old.entries core.new.entries) }
     ensures legal { GoesOnLegally L.meaning core.old core.new }
 {
+    // Asked for what it promises: that the journal is legal.
     let _journal = core.journal();
     let mut candidates = Candidates::new(core)?;
     let mut from = 0;
@@ -100,10 +104,10 @@ fn own_turn<L: Library, G: Gate>(
     gate: &G,
     owner: FlowNo,
 ) -> Result<bool, Memory>
-    requires { owner.0 < length core.old.items }
+    requires { owner.0 < length core.old.setup.items }
     ensures ok { IfOk result (MakesTurn (setup_in L.meaning core.old) core.old.entries owner core.new.entries) }
     ensures err { OnErr result (core.new.entries ≡ core.old.entries) }
-    ensures setup { SameSetup core.old core.new }
+    ensures others { LeavesOthers core.old core.new owner }
 {
     match take_turn(core, gate, owner)? {
         Turn::Went => Ok(core.is_ended(owner)),

@@ -1,12 +1,14 @@
 -- The journal of a script: each listed number in turn, and then the lowest flow that can go on, again and again.
-use Rattle.std.specs.Prelude.{◌≡◌, ℕ, ◌⊎◌, List, [], ◌∷◌}
+use Rattle.std.specs.Prelude.{◌≡◌, ℕ, ◌⊎◌, List, [], ◌∷◌, ◌++◌}
 use Rattle.flow_model.specs.declared.journals.Entry.{Entry}
 use Rattle.flow_model.specs.declared.journals.Event.{Event}
 use Rattle.flux_model.specs.declared.items.FlowNo.{FlowNo}
 use Rattle.flow_model.specs.Setup.{Setup}
 use Rattle.flow_model.specs.Events.{IsLive}
+use Rattle.flux_laws.specs.Going.{IsLowest}
 use Rattle.flow_waits.specs.Turns.{IsInLine, MakesMove}
-use Rattle.flow_waits.specs.Draining.{DrainsTo}
+use Rattle.flow_waits.specs.Schedules.{IsScheduled}
+use Rattle.flow_waits.specs.Drains.{DrainsTo}
 
 -- there is nothing for a flow to do: there is no such flow, it has ended, or it is blocked and stands in a line
 abbrev pub Rests : Setup → List Entry → ℕ → Type 0
@@ -28,3 +30,19 @@ pub record IsFollow (setup : Setup) (old : List Entry) (numbers : List FlowNo) (
   pub listed : List Entry
   pub turns : AreTurns setup old numbers listed
   pub drains : DrainsTo setup listed new
+
+-- ---- as a rule
+
+-- the rule: the flow is the next of the list, behind the turns of those listed before; or the lowest that can go on,
+-- behind the turns of the whole list
+abbrev pub IsListedTurn : Setup → List Entry → List FlowNo → List Entry → FlowNo → Event → Type 0
+IsListedTurn setup old numbers since flow event =
+    ((done : List FlowNo) × (left : List FlowNo) × (numbers ≡ done ++ flow ∷ left)
+    × AreTurns setup old done (old ++ since))
+    ⊎ ((listed : List Entry) × (later : List Entry) × (since ≡ listed ++ later)
+    × AreTurns setup old numbers (old ++ listed) × IsLowest setup (old ++ since) flow.0)
+
+-- the journal of a script goes on by this rule
+abbrev pub FollowsAreScheduled : Type 0
+FollowsAreScheduled = (setup : Setup) (old : List Entry) (numbers : List FlowNo) (new : List Entry)
+    → IsFollow setup old numbers new → IsScheduled (IsListedTurn setup old numbers) setup old new

@@ -4,6 +4,8 @@
 //! next event, again and again, until all have ended. `specs/Follow` says so of the whole journal.
 #![tactic(auto)]
 
+mod laws;
 mod scripts;
 
+pub use laws::follows_are_scheduled;
 pub use scripts::Script;

@@ -2,15 +2,13 @@
 
 ghost use Rattle.std.specs.Prelude.{◌≡◌, IfOk, IfErr, OnOk, OnErr};
 ghost use Rattle.flow_core.specs.States.{setup_in};
-ghost use Rattle.flow_core.specs.Runs.{GoesOnLegally, GoesToEnd};
-ghost use Rattle.flow_waits.specs.Driven.{SameSetup};
+ghost use Rattle.flow_core.specs.Runs.{LeavesOthers, GoesOnLegally, GoesToEnd};
 ghost use Rattle.rt_script.specs.Follow.{IsTurn, IsFollow};
 
-use flow_core::{Core, Stopped};
+use flow_core::{Core, Gate, Runtime, Stopped};
 use flow_waits::{drain_by, take_turn};
 use flux_library::Library;
 use flux_model::FlowNo;
-use flow_core::Gate;
 use flux_values::{List, Memory};
 use std::marker::Sync;
 use std::sync::Wait;
@@ -41,16 +39,22 @@ impl Script {
             Err(Memory) => Err(Stopped { core }),
         }
     }
+}
 
-    /// Drives a core to its end. No other thread is started.
-    pub fn drive<Rt: Threads + Wait + Sync, L: Library, G: Gate>(
+impl Runtime for Script {
+    ghost ready = { λ _. Unit {0} };
+
+    fn drive<L: Library, G: Gate, Rt: Threads + Wait + Sync>(
         &mut self,
         _rt: &Rt,
         core: Core<L>,
         gate: &G,
     ) -> Result<Core<L>, Stopped<L>>
+        requires { Unit {0} }
+        ensures again { Unit {0} }
         ensures ok { IfOk result (GoesToEnd L.meaning core) }
         ensures err { IfErr result (λ stopped. GoesOnLegally L.meaning core stopped.core) }
+        ensures still { OnErr result (self.new ≡ self.old) }
         ensures follow { IfOk result (λ driven. IsFollow (setup_in L.meaning core) core.entries self.old.numbers
             driven.entries) }
         ensures numbers { self.new ≡ self.old }
@@ -68,6 +72,7 @@ fn follow<L: Library, G: Gate>(
     ensures ok { OnOk result (IsFollow (setup_in L.meaning core.old) core.old.entries numbers.now core.new.entries) }
     ensures legal { GoesOnLegally L.meaning core.old core.new }
 {
+    // Asked for what it promises: that the journal is legal.
     let _journal = core.journal();
     for number in numbers.as_slice() {
         give_turn(core, gate, *number)?;
@@ -79,7 +84,7 @@ fn follow<L: Library, G: Gate>(
 fn give_turn<L: Library, G: Gate>(core: &mut Core<L>, gate: &G, flow: FlowNo) -> Result<(), Memory>
     ensures ok { OnOk result (IsTurn (setup_in L.meaning core.old) core.old.entries flow core.new.entries) }
     ensures err { OnErr result (core.new.entries ≡ core.old.entries) }
-    ensures setup { SameSetup core.old core.new }
+    ensures others { LeavesOthers core.old core.new flow }
 {
     if flow.0 < core.flows() {
         let _ = take_turn(core, gate, flow)?;

@@ -213,9 +213,9 @@ fn step(
     flow: u32,
     done: &mut Vec<CallDone<Counter>>,
 ) -> Result<Told, Memory>
-    requires { All (λ call. call.program ≡ core.old.program) done.old.items }
-    ensures same { core.new.program ≡ core.old.program }
-    ensures own { All (λ call. call.program ≡ core.old.program) done.new.items }
+    requires { All (λ call. call.program ≡ core.old.setup.program) done.old.items }
+    ensures same { core.new.setup.program ≡ core.old.setup.program }
+    ensures own { All (λ call. call.program ≡ core.old.setup.program) done.new.items }
 {
     if flow >= core.flows() {
         return Ok(Told::None);
@@ -239,8 +239,8 @@ fn recall(
     flow: u32,
     done: &mut Vec<CallDone<Counter>>,
 ) -> Result<Told, Memory>
-    requires { All (λ call. call.program ≡ core.now.program) done.old.items }
-    ensures { All (λ call. call.program ≡ core.now.program) done.new.items }
+    requires { All (λ call. call.program ≡ core.now.setup.program) done.old.items }
+    ensures { All (λ call. call.program ≡ core.now.setup.program) done.new.items }
 {
     if flow >= core.flows() {
         return Ok(Told::None);
@@ -256,8 +256,8 @@ fn finish(
     number: usize,
     done: &[CallDone<Counter>],
 ) -> Result<Told, Memory>
-    requires { All (λ call. call.program ≡ core.old.program) done.now }
-    ensures { core.new.program ≡ core.old.program }
+    requires { All (λ call. call.program ≡ core.old.setup.program) done.now }
+    ensures { core.new.setup.program ≡ core.old.setup.program }
 {
     let Some(call) = done.get(number) else {
         return Ok(Told::None);
@@ -274,9 +274,9 @@ fn answer(
     call: Call,
     done: &mut Vec<CallDone<Counter>>,
 ) -> Result<Told, Memory>
-    requires { All (λ call. call.program ≡ core.old.program) done.old.items }
-    ensures same { core.new.program ≡ core.old.program }
-    ensures own { All (λ call. call.program ≡ core.old.program) done.new.items }
+    requires { All (λ call. call.program ≡ core.old.setup.program) done.old.items }
+    ensures same { core.new.setup.program ≡ core.old.setup.program }
+    ensures own { All (λ call. call.program ≡ core.old.setup.program) done.new.items }
 {
     match call {
         Call::Step(flow) => step(alloc, core, flow, done),

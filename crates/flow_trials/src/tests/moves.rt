@@ -88,7 +88,7 @@ fn next_seed(seed: u64) -> u64 {
 
 /// A step; where the call was begun at an earlier move, it is run and finished.
 pub fn move_on<L: Library>(alloc: Global, core: &mut Core<L>, flow: FlowNo) -> Result<(), Memory>
-    requires { flow.0 < length core.old.items }
+    requires { flow.0 < length core.old.setup.items }
 {
     if let Step::Calling = core.step(flow)? {
         finish_begun(alloc, core, flow)?;
@@ -97,7 +97,7 @@ pub fn move_on<L: Library>(alloc: Global, core: &mut Core<L>, flow: FlowNo) -> R
 }
 
 fn finish_begun<L: Library>(alloc: Global, core: &mut Core<L>, flow: FlowNo) -> Result<(), Memory>
-    requires { flow.0 < length core.old.items }
+    requires { flow.0 < length core.old.setup.items }
 {
     if let Some(job) = core.recall(flow)? {
         let done = job.run(alloc)?;

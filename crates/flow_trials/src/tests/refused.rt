@@ -14,9 +14,19 @@ use std::test::Fail;
 
 /// `Counter`, but for one call, which is refused.
 #[derive(Drop)]
-struct Refusing {
+pub struct Refusing {
     calls: AtomicU64,
     refused: u64,
+}
+
+impl Refusing {
+    /// Refuses its call of this number.
+    pub fn at(refused: u64) -> Refusing {
+        Refusing {
+            calls: AtomicU64::new(0),
+            refused,
+        }
+    }
 }
 
 impl Meaning for Refusing {
@@ -69,7 +79,7 @@ impl Library for Refusing {
 }
 
 /// Eight calls, of which four change cells and one fails.
-const FLOWS: Flows = Flows {
+pub const FLOWS: Flows = Flows {
     lines: "Add (int n) => (int n); Bump (int n) => (int n); source Tick => A; source Tick_2 => Fail; session Tick => ByNumber; A = Bump -> Add -> Pass; atomic Bump:{visits(session)}; atomic Add:{counter}; handle error Fail => Show;",
     given: &[(0, 3), (1, 7), (0, 3)],
 };
@@ -96,11 +106,7 @@ fn run_all<L: Library>(alloc: Global, core: &mut Core<L>) -> u32 {
 
 /// The journal of the flows, one after the other, where the library refuses its call of this number.
 fn run_refusing(rt: &impl Abort, alloc: Global, refused: u64) -> Result<Bytes, Fail> {
-    let library = Refusing {
-        calls: AtomicU64::new(0),
-        refused,
-    };
-    let mut core = core_in(alloc, FLOWS, library)?;
+    let mut core = core_in(alloc, FLOWS, Refusing::at(refused))?;
     assert_eq!(rt; run_all(alloc, &mut core), 1, "at {refused}");
     assert_eq!(rt; core.live(), 0, "at {refused}");
     Ok(printed_in(alloc, FLOWS, &core)?)

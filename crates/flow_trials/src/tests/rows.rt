@@ -100,7 +100,7 @@ fn follow(alloc: Global, core: &mut Core<Counter>, steps: &[u32]) -> Result<(), 
 
 /// The lowest flow that has not ended and is not blocked.
 fn lowest(core: &Core<Counter>) -> Option<FlowNo>
-    ensures { IfSome result (λ flow. flow.0 < length core.now.items) }
+    ensures { IfSome result (λ flow. flow.0 < length core.now.setup.items) }
 {
     for number in 0..core.flows() {
         let flow = FlowNo(number);

@@ -1,5 +1,6 @@
 -- What the segments of a program lead to and take: what its nodes lead to and hold.
-use Rattle.std.proofs.Common.{◌≡◌, ℕ, zero, suc, ◌+◌, inl, List, [], ◌∷◌, ◌++◌, map, reverse, length, slice_get, Option, Some, None, flat_map, option_map, Contains, refl, ap, ◌∙◌, subst, arith, append-nil}
+use Rattle.std.proofs.Common.{◌≡◌, ℕ, zero, suc, ◌+◌, inl, Bool, true, false, eqb, List, [], ◌∷◌, ◌++◌, map, reverse, length, slice_get, Option, Some, None, flat_map, option_map, Contains, refl, sym, ap, ◌∙◌, subst, arith, append-nil}
+use Rattle.std.specs.List.{list_any}
 use Rattle.std.proofs.lemmas.Grind.{flat_map-append}
 use Rattle.flux_model.specs.declared.programs.NodeNo.{NodeNo}
 use Rattle.flux_model.specs.declared.programs.Hold.{Hold}
@@ -12,6 +13,7 @@ use Rattle.flux_model.specs.declared.programs.Body.TheVariants.{Concrete, Abstra
 use Rattle.flux_model.specs.Leading.{members_of, handlers_of, leads_to, numbers_of, leads_in}
 use Rattle.flux_model.specs.Children.{IsIn, members, IsBelow}
 use Rattle.flux_model.specs.Ordering.{HasCycle, LeadsOn}
+use Rattle.flux_model.specs.Visits.{IsKnown}
 use Rattle.flux_model.proofs.NodeLists.{in_front, in_behind}
 use Rattle.flux_model.proofs.BelowLemmas.{below-member, below-led}
 use Rattle.flux_model.proofs.RisingHolds.{contains_none}
@@ -21,7 +23,7 @@ use Rattle.flux_plan.specs.declared.plans.Instr.{Instr}
 use Rattle.flux_plan.specs.declared.plans.Instr.TheVariants.{Enter, Go, Leave, Exit, Return}
 use Rattle.flux_plan.specs.Moves.{code_of}
 use Rattle.flux_plan.specs.Leading.{led_by, leads_from, IsWay, Reaches, IsOnCycle, taken_by, takes_of}
-use Rattle.flux_compile.specs.steps.Segments.{taking, dropping, members_code, body_code, handling_code, node_code, segment_of, segments_of}
+use Rattle.flux_compile.specs.steps.Segments.{taking, dropping, members_code, body_code, handling_code, node_code, segment_of, segment_for, segments_from, segments_of}
 use Rattle.flux_compile.proofs.soundness.Reads.{node_parts}
 
 -- ---- a function over all instructions of a node
@@ -175,49 +177,95 @@ node_takes holds node =
 
 -- ---- the segments of a program
 
+-- from a number on, the segment of a number is that of its node
+segment_from-at : (origins : List ℕ) (sets : List (List Hold)) (first : ℕ) (nodes : List Node) (number : ℕ)
+    → slice_get (segments_from origins sets first nodes) number
+    ≡ option_map (segment_for origins (held_by sets (first + number)) (first + number)) (slice_get nodes number)
+segment_from-at origins sets first [] number = refl
+segment_from-at origins sets first (node ∷ nodes) zero =
+    let same : first ≡ first + 0 = omega arith in
+    ap (λ (n : ℕ). let s : Option Segment = Some (segment_for origins (held_by sets n) n node) in s) same
+segment_from-at origins sets first (node ∷ nodes) (suc number) =
+    let same : first + 1 + number ≡ first + suc number = omega arith in
+    segment_from-at origins sets (first + 1) nodes number
+    ∙ ap (λ (n : ℕ). option_map (segment_for origins (held_by sets n) n) (slice_get nodes number)) same
+
 -- the segment of a number is that of its node
-pub segment_at : (sets : List (List Hold)) (nodes : List Node) (number : ℕ)
-    → slice_get (segments_of sets nodes) number ≡ option_map (segment_of (held_by sets number)) (slice_get nodes number)
-segment_at sets [] number = refl
-segment_at [] (node ∷ nodes) zero = refl
-segment_at [] (node ∷ nodes) (suc number) = segment_at [] nodes number
-segment_at (own ∷ sets) (node ∷ nodes) zero = refl
-segment_at (own ∷ sets) (node ∷ nodes) (suc number) = segment_at sets nodes number
+pub segment_at : (origins : List ℕ) (sets : List (List Hold)) (nodes : List Node) (number : ℕ)
+    → slice_get (segments_of origins sets nodes) number
+    ≡ option_map (segment_for origins (held_by sets number) number) (slice_get nodes number)
+segment_at origins sets nodes number =
+    let same : 0 + number ≡ number = omega arith in
+    segment_from-at origins sets 0 nodes number
+    ∙ ap (λ (n : ℕ). option_map (segment_for origins (held_by sets n) n) (slice_get nodes number)) same
 
-pub length_segments : (sets : List (List Hold)) (nodes : List Node) → length (segments_of sets nodes) ≡ length nodes
-length_segments sets [] = refl
-length_segments [] (node ∷ nodes) = let more = length_segments [] nodes in omega (arith, more)
-length_segments (own ∷ sets) (node ∷ nodes) = let more = length_segments sets nodes in omega (arith, more)
-
--- segments lead to what their nodes lead to
-pub leads_same : (sets : List (List Hold)) (nodes : List Node) (number : ℕ)
-    → leads_from (segments_of sets nodes) number ≡ leads_in nodes number
-leads_same sets nodes number = rw (segment_at sets nodes number) (same (slice_get nodes number))
+-- where items don't come from the node, it is the node's own
+pub own_segment : (origins : List ℕ) (holds : List Hold) (number : ℕ) (node : Node) → (IsKnown number origins → ⊥)
+    → segment_for origins holds number node ≡ segment_of holds node
+own_segment origins holds number node other = by (list_any (eqb number) origins) refl
   where
-    same : (found : Option Node) → flat_map led_by (code_of (option_map (segment_of (held_by sets number)) found))
-        ≡ numbers_of leads_to found
-    same None = refl
-    same (Some node) = node_leads (held_by sets number) node
+    by : (t : Bool) → list_any (eqb number) origins ≡ t
+        → segment_for origins holds number node ≡ segment_of holds node
+    by true e = absurd (other e)
+    by false e = rw e refl
 
--- they take what these hold
-takes_are : (sets : List (List Hold)) (nodes : List Node) (number : ℕ) → takes_of (segments_of sets nodes) number
-    ≡ flat_map taken_by (code_of (option_map (segment_of (held_by sets number)) (slice_get nodes number)))
-takes_are sets nodes number = ap (λ (found : Option Segment). flat_map taken_by (code_of found)) (segment_at sets nodes number)
+length_from : (origins : List ℕ) (sets : List (List Hold)) (first : ℕ) (nodes : List Node)
+    → length (segments_from origins sets first nodes) ≡ length nodes
+length_from origins sets first [] = refl
+length_from origins sets first (node ∷ nodes) =
+    let more = length_from origins sets (first + 1) nodes in omega (arith, more)
 
-pub takes_same : (sets : List (List Hold)) (nodes : List Node) (number : ℕ) (node : Node)
-    → slice_get nodes number ≡ Some node → takes_of (segments_of sets nodes) number ≡ held_by sets number
-takes_same sets nodes number node is =
-    takes_are sets nodes number ∙ rw is (node_takes (held_by sets number) node)
+pub length_segments : (origins : List ℕ) (sets : List (List Hold)) (nodes : List Node)
+    → length (segments_of origins sets nodes) ≡ length nodes
+length_segments origins sets nodes = length_from origins sets 0 nodes
 
-pub takes_held : (sets : List (List Hold)) (nodes : List Node) (number : ℕ) (hold : Hold)
-    → Contains (takes_of (segments_of sets nodes) number) hold → Contains (held_by sets number) hold
-takes_held sets nodes number hold is = by (slice_get nodes number) (rw (takes_are sets nodes number) at is)
+-- segments lead to nothing but what their nodes lead to
+pub leads_there : (origins : List ℕ) (sets : List (List Hold)) (nodes : List Node) (from next : ℕ)
+    → IsIn next (leads_from (segments_of origins sets nodes) from) → IsIn next (leads_in nodes from)
+leads_there origins sets nodes from next is = by (slice_get nodes from) (rw (segment_at origins sets nodes from) at is)
   where
+    one : (node : Node) (t : Bool) → list_any (eqb from) origins ≡ t
+        → IsIn next (flat_map led_by (code_of (Some (segment_for origins (held_by sets from) from node))))
+        → IsIn next (leads_to node)
+    one node true e is = absurd (rw e at is)
+    one node false e is = rw (e, node_leads (held_by sets from) node) at is
+
     by : (found : Option Node)
-        → Contains (flat_map taken_by (code_of (option_map (segment_of (held_by sets number)) found))) hold
+        → IsIn next (flat_map led_by (code_of (option_map (segment_for origins (held_by sets from) from) found)))
+        → IsIn next (numbers_of leads_to found)
+    by None is = absurd is
+    by (Some node) is = one node (list_any (eqb from) origins) refl is
+
+-- they take nothing but what these hold
+takes_are : (origins : List ℕ) (sets : List (List Hold)) (nodes : List Node) (number : ℕ)
+    → takes_of (segments_of origins sets nodes) number
+    ≡ flat_map taken_by (code_of (option_map (segment_for origins (held_by sets number) number) (slice_get nodes number)))
+takes_are origins sets nodes number =
+    ap (λ (found : Option Segment). flat_map taken_by (code_of found)) (segment_at origins sets nodes number)
+
+pub takes_same : (origins : List ℕ) (sets : List (List Hold)) (nodes : List Node) (number : ℕ) (node : Node)
+    → (IsKnown number origins → ⊥) → slice_get nodes number ≡ Some node
+    → takes_of (segments_of origins sets nodes) number ≡ held_by sets number
+takes_same origins sets nodes number node other is =
+    takes_are origins sets nodes number
+    ∙ rw (is, own_segment origins (held_by sets number) number node other) (node_takes (held_by sets number) node)
+
+pub takes_held : (origins : List ℕ) (sets : List (List Hold)) (nodes : List Node) (number : ℕ) (hold : Hold)
+    → Contains (takes_of (segments_of origins sets nodes) number) hold → Contains (held_by sets number) hold
+takes_held origins sets nodes number hold is =
+    by (slice_get nodes number) (rw (takes_are origins sets nodes number) at is)
+  where
+    one : (node : Node) (t : Bool) → list_any (eqb number) origins ≡ t
+        → Contains (flat_map taken_by (code_of (Some (segment_for origins (held_by sets number) number node)))) hold
+        → Contains (held_by sets number) hold
+    one node true e is = absurd (contains_none hold (rw e at is))
+    one node false e is = rw (e, node_takes (held_by sets number) node) at is
+
+    by : (found : Option Node)
+        → Contains (flat_map taken_by (code_of (option_map (segment_for origins (held_by sets number) number) found))) hold
         → Contains (held_by sets number) hold
     by None is = absurd (contains_none hold is)
-    by (Some node) is = rw (node_takes (held_by sets number) node) at is
+    by (Some node) is = one node (list_any (eqb number) origins) refl is
 
 -- what a function gives for an instruction, it gives for the code where that stands
 pub in_code : (f : Instr → List NodeNo) (code : List Instr) (place : ℕ) (instr : Instr) (x : ℕ)
@@ -241,12 +289,15 @@ led_node holds node place instr led at is =
 
 -- ---- ways over segments are ways over nodes
 
-module _ (sets : List (List Hold)) (p : Program) where
-  led_there : (from next : ℕ) → IsIn next (leads_from (segments_of sets p.nodes) from) → IsIn next (leads_in p.nodes from)
-  led_there from next is = rw (leads_same sets p.nodes from) at is
+module _ (origins : List ℕ) (sets : List (List Hold)) (p : Program) where
+  abbrev own : List Segment
+  own = segments_of origins sets p.nodes
+
+  led_there : (from next : ℕ) → IsIn next (leads_from own from) → IsIn next (leads_in p.nodes from)
+  led_there from next is = leads_there origins sets p.nodes from next is
 
   leads_over : (from next to : ℕ) (others : List ℕ) → IsIn next (leads_in p.nodes from)
-      → IsWay (segments_of sets p.nodes) next others to → LeadsOn p.nodes from to
+      → IsWay own next others to → LeadsOn p.nodes from to
   leads_over from next to [] is same =
       let there : IsIn to (leads_in p.nodes from) = subst (λ (n : ℕ). IsIn n (leads_in p.nodes from)) same is in
       record { between = []; led = (there, tt) }
@@ -256,18 +307,29 @@ module _ (sets : List (List Hold)) (p : Program) where
       record { between = first ∷ more.between; led = (is, more.led) }
 
   -- where leading has no cycle, no segment is on one
-  pub on_no_cycle : (HasCycle p.nodes → ⊥) → (node : ℕ) → IsOnCycle (segments_of sets p.nodes) node → ⊥
+  pub on_no_cycle : (HasCycle p.nodes → ⊥) → (node : ℕ) → IsOnCycle own node → ⊥
   on_no_cycle acyclic node on =
       acyclic (node, leads_over node on.next node on.back.between (led_there node on.next on.led) on.back.way)
 
   below_over : (top from to : ℕ) (others : List ℕ) → IsBelow p top from
-      → IsWay (segments_of sets p.nodes) from others to → IsBelow p top to
+      → IsWay own from others to → IsBelow p top to
   below_over top from to [] below same = subst (λ (n : ℕ). IsBelow p top n) same below
   below_over top from to (next ∷ others) below (led, way) =
       below_over top next to others (below-led p top from next below (led_there from next led)) way
 
   -- what a node's member reaches over segments is below the node
   pub below_reached : (top inner to : ℕ) → IsIn inner (members p top)
-      → Reaches (segments_of sets p.nodes) inner to → IsBelow p top to
+      → Reaches own inner to → IsBelow p top to
   below_reached top inner to member reached =
       below_over top inner to reached.between (below-member p top inner member) reached.way
+
+  -- where no node leads to these, neither does a node that isn't one of them reach one
+  pub others_reached : ((from next : ℕ) → IsIn next (leads_in p.nodes from) → IsKnown next origins → ⊥)
+      → (from to : ℕ) → (IsKnown from origins → ⊥) → Reaches own from to → IsKnown to origins → ⊥
+  others_reached apart from to other reached = over from to reached.between other reached.way
+    where
+      over : (from to : ℕ) (between : List ℕ) → (IsKnown from origins → ⊥) → IsWay own from between to
+          → IsKnown to origins → ⊥
+      over from to [] other same is = other (subst (λ (n : ℕ). IsKnown n origins) (sym same) is)
+      over from to (next ∷ between) other (led, way) is =
+          over next to between (apart from next (led_there from next led)) way is

@@ -18,29 +18,32 @@ some_there [] number inside none = omega (arith, inside)
 some_there (node ∷ nodes) zero inside none = absurd cc
 some_there (node ∷ nodes) (suc number) inside none = some_there nodes number (omega (arith, inside)) none
 
-module _ (segments : List Segment) (given : Given) (nodes : List Node)
-    (are : (number : ℕ) (node : Node) → slice_get nodes number ≡ Some node → slice_get segments number ≡ Some (segment_of (given.locks number) node)) where
+-- the nodes to which flows come: what they lead to is of them, and each of them has its segment
+module _ (segments : List Segment) (given : Given) (nodes : List Node) (Comes : ℕ → Type 0)
+    (on : (number led : ℕ) → IsIn led (leads_in nodes number) → Comes led)
+    (are : (number : ℕ) (node : Node) → Comes number → slice_get nodes number ≡ Some node → slice_get segments number ≡ Some (segment_of (given.locks number) node)) where
   -- the walk through so many nested nodes
   abbrev deep : ℕ → ℕ → Walking
   deep depth number = nested (λ values left. lost) (walk_by given) nodes depth number
 
   -- through so many nested nodes, and through more, these run as their walks
   abbrev Run : ℕ → List NodeNo → Type 0
-  Run depth known = (number : ℕ) → IsIn number known → (d : ℕ) → depth ≤ d → IsRun segments given number (deep d number)
+  Run depth known = (number : ℕ) → Comes number → IsIn number known → (d : ℕ) → depth ≤ d → IsRun segments given number (deep d number)
 
-  run_node : (depth : ℕ) (before : List NodeNo) (number : ℕ) → Run depth before → ((led : ℕ) → IsIn led (leads_in nodes number) → IsIn led before)
+  run_node : (depth : ℕ) (before : List NodeNo) (number : ℕ) → Comes number → Run depth before → ((led : ℕ) → IsIn led (leads_in nodes number) → IsIn led before)
       → number < length nodes → (d : ℕ) → depth ≤ d → (found : Option Node) → slice_get nodes number ≡ found
       → IsRun segments given number (for_node (λ values left. lost) (walk_by given (deep d) number) found)
-  run_node depth before number known leads inside d le None at = absurd (some_there nodes number inside at)
-  run_node depth before number known leads inside d le (Some node) at =
-      node-runs segments given number node (given.locks number) (are number node at) refl (deep d) (λ led is. known led (leads led (rw at is)) d le)
+  run_node depth before number comes known leads inside d le None at = absurd (some_there nodes number inside at)
+  run_node depth before number comes known leads inside d le (Some node) at =
+      node-runs segments given number node (given.locks number) (are number node comes at) refl (deep d)
+      (λ led is. let there : IsIn led (leads_in nodes number) = rw at is in known led (on number led there) (leads led there) d le)
 
-  run_all : (depth : ℕ) (before order : List NodeNo) → ComeAfter nodes before order → Run depth before → (number : ℕ) → IsIn number order ⊎ IsIn number before
+  run_all : (depth : ℕ) (before order : List NodeNo) → ComeAfter nodes before order → Run depth before → (number : ℕ) → Comes number → IsIn number order ⊎ IsIn number before
       → (d : ℕ) → depth + length order ≤ d → IsRun segments given number (deep d number)
-  run_all depth before [] come known number (inl is) d le = absurd is
-  run_all depth before [] come known number (inr is) d le = known number is d (omega (arith, le))
-  run_all depth before (node ∷ order) (inside, new, leads, come) known number is d le =
-      run_all (suc depth) (node ∷ before) order come one number (place is) d (omega (arith, le))
+  run_all depth before [] come known number comes (inl is) d le = absurd is
+  run_all depth before [] come known number comes (inr is) d le = known number comes is d (omega (arith, le))
+  run_all depth before (node ∷ order) (inside, new, leads, come) known number comes is d le =
+      run_all (suc depth) (node ∷ before) order come one number comes (place is) d (omega (arith, le))
     where
       place : IsIn number (node ∷ order) ⊎ IsIn number before → IsIn number order ⊎ IsIn number (node ∷ before)
       place (inl (inl same)) = inr (inl same)
@@ -48,14 +51,14 @@ module _ (segments : List Segment) (given : Given) (nodes : List Node)
       place (inr i) = inr (inr i)
 
       one : Run (suc depth) (node ∷ before)
-      one x (inr i) g a = known x i g (omega (arith, a))
-      one x (inl same) zero a = absurd (omega (arith, a))
-      one x (inl same) (suc g) a =
-          run_node depth before x known (subst (λ (m : ℕ). (led : ℕ) → IsIn led (leads_in nodes m) → IsIn led before) (sym same) leads)
+      one x own (inr i) g a = known x own i g (omega (arith, a))
+      one x own (inl same) zero a = absurd (omega (arith, a))
+      one x own (inl same) (suc g) a =
+          run_node depth before x own known (subst (λ (m : ℕ). (led : ℕ) → IsIn led (leads_in nodes m) → IsIn led before) (sym same) leads)
           (subst (λ (m : ℕ). m < length nodes) (sym same) inside) g (omega (arith, a)) (slice_get nodes x) refl
 
-  -- each node's code runs as its walk
-  pub walks-run : (order : List NodeNo) → IsOrder nodes order → (number : ℕ) → number < length nodes → IsRun segments given number (walk given nodes number)
-  walks-run order is number inside =
+  -- the code of such a node runs as its walk
+  pub walks-run : (order : List NodeNo) → IsOrder nodes order → (number : ℕ) → Comes number → number < length nodes → IsRun segments given number (walk given nodes number)
+  walks-run order is number comes inside =
       let few = order-within nodes order is in
-      run_all 0 [] order is.after (λ x i. absurd i) number (inl (is.each number inside)) (length nodes) (omega (arith, few))
+      run_all 0 [] order is.after (λ x own i. absurd i) number comes (inl (is.each number inside)) (length nodes) (omega (arith, few))

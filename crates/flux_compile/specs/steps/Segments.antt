@@ -1,15 +1,20 @@
 -- The segment of each node, as the code writes it, given what the nodes hold.
-use Rattle.std.specs.Prelude.{ℕ, ◌+◌, List, [], ◌∷◌, ◌++◌, length, map, reverse}
+use Rattle.std.specs.Prelude.{ℕ, ◌+◌, nat_eq, if◌then◌else◌, List, [], ◌∷◌, ◌++◌, length, map, reverse}
+use Rattle.std.specs.List.{list_any, fold}
 use Rattle.flux_model.specs.declared.programs.Hold.{Hold}
 use Rattle.flux_model.specs.declared.programs.HandleArm.{HandleArm}
 use Rattle.flux_model.specs.declared.programs.Case.{Case}
 use Rattle.flux_model.specs.declared.programs.Node.{Node}
 use Rattle.flux_model.specs.declared.programs.Body.{Body}
 use Rattle.flux_model.specs.declared.programs.Body.TheVariants.{Concrete, Abstract}
+use Rattle.flux_model.specs.declared.programs.SourceLine.{SourceLine}
+use Rattle.flux_model.specs.Visits.{with_number}
+use Rattle.flux_hoist.specs.Sets.{held_by}
 use Rattle.flux_plan.specs.declared.plans.Segment.{Segment}
 use Rattle.flux_plan.specs.declared.plans.Arm.{Arm}
 use Rattle.flux_plan.specs.declared.plans.Instr.{Instr}
 use Rattle.flux_plan.specs.declared.plans.Instr.TheVariants.{Take, Enter, Choose, Go, Leave, Call, Exit, Drop, Handle, EndHandle, Return}
+use Rattle.flux_compile.specs.Sources.{empty}
 
 abbrev pub taking : Hold → Instr
 taking hold = Take hold.class hold.mode
@@ -50,8 +55,21 @@ exit_place holds node = length holds + 1 + length (body_code (length holds + 1) 
 abbrev pub segment_of : List Hold → Node → Segment
 segment_of holds node = record { code = node_code holds node; exit = exit_place holds node }
 
--- the segments of nodes, given what the nodes from the first one on hold; behind the last of the sets they hold nothing
-abbrev pub segments_of : List (List Hold) → List Node → List Segment
-segments_of holds [] = []
-segments_of [] (node ∷ nodes) = segment_of [] node ∷ segments_of [] nodes
-segments_of (own ∷ holds) (node ∷ nodes) = segment_of own node ∷ segments_of holds nodes
+-- the segment of the node of a number: an empty one where items come from it
+abbrev pub segment_for : List ℕ → List Hold → ℕ → Node → Segment
+segment_for origins holds number node =
+    if list_any (nat_eq number) origins then empty else segment_of holds node
+
+-- the segments of nodes from a number on, given what nodes hold
+abbrev pub segments_from : List ℕ → List (List Hold) → ℕ → List Node → List Segment
+segments_from origins sets number [] = []
+segments_from origins sets number (node ∷ nodes) =
+    segment_for origins (held_by sets number) number node ∷ segments_from origins sets (number + 1) nodes
+
+-- the segments of all nodes
+abbrev pub segments_of : List ℕ → List (List Hold) → List Node → List Segment
+segments_of origins sets nodes = segments_from origins sets 0 nodes
+
+-- the nodes that items come from
+abbrev pub origins_of : List SourceLine → List ℕ
+origins_of lines = fold (λ known line. with_number known line.node.0) [] lines

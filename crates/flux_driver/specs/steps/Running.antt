@@ -1,5 +1,5 @@
 -- Steps of running: from a checked program and an items text to the printed journal.
-use Rattle.std.specs.Prelude.{◌≡◌, ◌≤◌, ℕ, List, length, map, Some, ⊤}
+use Rattle.std.specs.Prelude.{◌≡◌, ◌≤◌, ℕ, List, [], length, map, Some, ⊤}
 use Rattle.std.specs.List.{AllByRecursion, slice_get}
 use Rattle.flux_values.specs.declared.values.Kind.{Kind}
 use Rattle.flux_values.specs.Identifiers.{IsIdentifier}
@@ -25,10 +25,11 @@ use Rattle.flux_items.specs.declared.rules.TheConstants.{ITEM_LIMIT}
 use Rattle.flux_items.specs.Items.{AreItemsOf}
 use Rattle.flux_items.specs.Faults.{IsFaultOf}
 use Rattle.flux_words.specs.declared.values.Runtime.{Runtime}
+use Rattle.rt_all.specs.Orders.{IsOrderOf}
 use Rattle.flux_driver.specs.declared.refusals.Refusal.{Refusal}
 use Rattle.flux_driver.specs.declared.refusals.Refusal.TheVariants.{Usage, Static, Items, Read, Missing, Memory}
 use Rattle.flux_driver.specs.declared.running.Wanted.{Wanted}
-use Rattle.flux_driver.specs.Headline.{IsOrderOf, IsTrueRun, printed_in}
+use Rattle.flux_driver.specs.Headline.{IsTrueRun, printed_in}
 
 -- the kinds of what a node gives
 abbrev pub outs_at : List NodeSig → NodeNo → List Kind
@@ -54,7 +55,7 @@ pub record CanRun (meaning : LibraryMeaning) (p : Program) (items : List Item) :
 pub record IsDriven (setup : Setup) (runtime : Runtime) (entries : List Entry) : Type 0 where
   pub legal : IsLegal setup entries
   pub whole : IsWhole setup entries
-  pub order : IsOrderOf runtime setup entries
+  pub order : IsOrderOf runtime setup [] entries
 
 -- the journal of a true run of the items is printed
 pub record IsJournalOf (meaning : LibraryMeaning) (p : Program) (items : List Item) (wanted : Wanted)

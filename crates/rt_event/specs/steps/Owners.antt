@@ -6,7 +6,7 @@ use Rattle.flux_model.specs.declared.items.FlowNo.{FlowNo}
 use Rattle.flow_model.specs.Setup.{Setup}
 use Rattle.flow_model.specs.Events.{IsLive}
 use Rattle.flow_waits.specs.Turns.{IsInLine, MakesMove}
-use Rattle.flow_waits.specs.Covers.{Pools, IsReady, Covers, IsChosen}
+use Rattle.flow_waits.specs.steps.Covers.{Pools, IsReady, Covers, IsChosen}
 use Rattle.rt_event.specs.Round.{EndsTurn}
 
 -- a flow that is on turn is live, stands in no line and is looked at, last of all

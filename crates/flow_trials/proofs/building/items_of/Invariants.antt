@@ -7,4 +7,5 @@ use Rattle.flow_trials.proofs.building.items_of.Given as goal
 -- so many items, each of its source
 abbrev pub invariant-loop-one : goal.invariant-loop-one
 invariant-loop-one l =
-    AllByRecursion (IsItemFor l.checked.program (kinds_at l.checked.sigs.nodes)) l.items × (length l.items ≡ l.one-index)
+    AllByRecursion (IsItemFor l.checked.program (kinds_at l.checked.sigs.nodes)) l.items ×
+        (length l.items ≡ l.one-index)

@@ -3,8 +3,11 @@ use Rattle.flow_waits.proofs.turns.take_turn.Goals as goal
 
 pub returns-in-Ended-clause-ok : goal.returns-in-Ended-clause-ok
 returns-in-Ended-clause-ok g c =
-    ended-turn g.L.Meaning.meaning c.args.core.now c.step.new.self c.args.flow c.in_ok-step.field-0 c.in_ok-step.ensures.ok c.in-Ended.is
+    ended-turn g.L.Meaning.meaning c.args.core.now c.step.new.self c.args.flow c.in_ok-step.field-0
+        c.in_ok-step.ensures.ok c.in-Ended.is
 
 pub returns-in-Went-clause-ok : goal.returns-in-Went-clause-ok
 returns-in-Went-clause-ok g c =
-    went-turn g.L.Meaning.meaning c.args.core.now c.step.new.self c.args.flow c.in_ok-step.field-0 c.in_ok-step.ensures.ok (let kept = c.journal.ensures.kept in let legal = kept.legal in legal.locks) c.in-Went.is
+    went-turn g.L.Meaning.meaning c.args.core.now c.step.new.self c.args.flow c.in_ok-step.field-0
+        c.in_ok-step.ensures.ok (let kept = c.journal.ensures.kept in let legal = kept.legal in legal.locks)
+        c.in-Went.is

@@ -1,7 +1,11 @@
 use Rattle.std.specs.Arc.{arc_value}
 use Rattle.std.proofs.Common.{◌∙◌}
+use Rattle.flux_compile.proofs.Apart.{sound_apart}
 use Rattle.flux_driver.proofs.Runs.{journal_of}
 use Rattle.flux_driver.proofs.running.run_items.Goals as goal
+
+pub compile-requires : goal.compile-requires
+compile-requires g c = record { apart = sound_apart _ _ _ c.requires.sound }
 
 pub returns : goal.returns
 returns g c =

@@ -1,6 +1,6 @@
 use Rattle.std.proofs.Common.{length}
 use Rattle.flow_core.specs.States.{setup_in}
-use Rattle.flow_waits.specs.Covers.{Covers}
+use Rattle.flow_waits.specs.steps.Covers.{Covers}
 use Rattle.flow_waits.proofs.candidates.Candidates.first.Given as goal
 
 abbrev pub invariant-loop-number : goal.invariant-loop-number

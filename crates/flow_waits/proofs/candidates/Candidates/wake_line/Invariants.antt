@@ -1,6 +1,6 @@
 use Rattle.std.proofs.Common.{◌≡◌, ℕ, ◌||◌, drop}
-use Rattle.flow_waits.specs.Waking.{has}
-use Rattle.flow_waits.specs.Covers.{served_of}
+use Rattle.flow_waits.specs.steps.Waking.{has}
+use Rattle.flow_waits.specs.steps.Covers.{served_of}
 use Rattle.flow_waits.proofs.candidates.Candidates.wake_line.Given as goal
 
 abbrev pub invariant-loop-waiter : goal.invariant-loop-waiter

@@ -1,5 +1,5 @@
 use Rattle.std.proofs.Common.{subst}
-use Rattle.flow_waits.specs.Waking.{IsMore}
+use Rattle.flow_waits.specs.steps.Waking.{IsMore}
 use Rattle.flow_waits.proofs.Sets.{more_is}
 use Rattle.flow_waits.proofs.numbers.Numbers.add.Goals as goal
 

@@ -1,5 +1,5 @@
 use Rattle.std.proofs.Common.{subst, ◌∙◌, ◌≡◌, ◌<◌, true, length}
-use Rattle.flow_waits.specs.Waking.{IsLess, has}
+use Rattle.flow_waits.specs.steps.Waking.{IsLess, has}
 use Rattle.flow_waits.proofs.Sets.{less_is, fewer, has_is}
 use Rattle.flow_waits.proofs.numbers.Numbers.remove.Goals as goal
 

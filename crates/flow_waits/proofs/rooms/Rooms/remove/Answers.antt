@@ -1,5 +1,5 @@
 use Rattle.std.proofs.Common.{◌≡◌, ◌∙◌, ap, subst, refl, IsSome, Some, None}
-use Rattle.flow_waits.specs.Waking.{IsLessAt, room_at}
+use Rattle.flow_waits.specs.steps.Waking.{IsLessAt, room_at}
 use Rattle.flow_waits.proofs.Keyed.{changed_is, room_is, less_at, none_less}
 use Rattle.flow_waits.proofs.rooms.Rooms.remove.Goals as goal
 
@@ -9,7 +9,8 @@ returns-in_default c =
     let same : before ≡ c.args.self.now = ap (λ m. m.entries) c.get_mut.follows.holds-at-none ∙ c.self.view_is in
     subst (λ rooms. IsLessAt rooms before c.args.key c.args.flow) same
     (none_less before c.args.key c.args.flow
-    (ap (λ m. room_at m.entries c.args.key) c.get_mut.follows.holds-at-none ∙ room_is c.self.inside.rooms.entries c.args.key None c.in_default.ensures.value))
+    (ap (λ m. room_at m.entries c.args.key) c.get_mut.follows.holds-at-none ∙ room_is c.self.inside.rooms.entries
+        c.args.key None c.in_default.ensures.value))
 
 pub returns : goal.returns
 returns c =

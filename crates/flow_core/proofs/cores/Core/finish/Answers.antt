@@ -1,0 +1,15 @@
+use Rattle.flow_core.specs.steps.Fields.{core_of}
+use Rattle.flow_core.proofs.Sequels.{finish-on, finish-leaves}
+use Rattle.flow_core.proofs.cores.Core.finish.Goals as goal
+
+pub returns-clause-on : goal.returns-clause-on
+returns-clause-on g c =
+    rw (← c.self.view_is)
+    (finish-on g.L.Meaning.meaning (core_of c.self.inside.fields) (core_of c.answer-2.new.self) c.flow-flow.result
+    c.inputs-inputs.result.now c.answer.result.now c.answer-2.result c.answer-2.ensures.ok c.answer-2.ensures.err)
+
+pub returns-clause-others : goal.returns-clause-others
+returns-clause-others g c =
+    rw (← c.self.view_is, ← c.flow-flow.ensures)
+    (finish-leaves g.L.Meaning.meaning (core_of c.self.inside.fields) (core_of c.answer-2.new.self) c.flow-flow.result
+    c.inputs-inputs.result.now c.answer.result.now c.answer-2.result c.answer-2.ensures.ok c.answer-2.ensures.err)

@@ -1,0 +1,29 @@
+-- The chosen runtime, and the order in which it lets flows go on.
+use Rattle.std.specs.Prelude.{◌≡◌, List}
+use Rattle.flow_model.specs.declared.journals.Entry.{Entry}
+use Rattle.flow_model.specs.Setup.{Setup}
+use Rattle.flux_words.specs.declared.values.Runtime.{Runtime}
+use Rattle.flux_words.specs.declared.values.Runtime.TheVariants as words
+use Rattle.rt_event.specs.Round.{IsRound}
+use Rattle.rt_script.specs.Follow.{IsFollow}
+use Rattle.rt_all.specs.declared.chosen.Chosen.{Chosen}
+use Rattle.rt_all.specs.declared.chosen.Chosen.TheVariants.{Event, Script}
+
+-- the runtime that the words name
+abbrev pub chosen_by : Runtime → Chosen
+chosen_by words.Event = Event (record { helpers = 0 })
+chosen_by (words.Script numbers) = Script (record { numbers = numbers })
+
+-- what it has to be to drive a core
+abbrev pub IsReady : Chosen → Type 0
+IsReady (Event runtime) = runtime.helpers ≡ 0
+IsReady (Script runtime) = Unit {0}
+
+-- flow after flow, each up to its first call, its wait or its end, or as the script's numbers say
+abbrev pub IsOrder : Chosen → Setup → List Entry → List Entry → Type 0
+IsOrder (Event runtime) setup old new = IsRound setup old new
+IsOrder (Script runtime) setup old new = IsFollow setup old runtime.numbers new
+
+-- the order of the runtime that the words name
+abbrev pub IsOrderOf : Runtime → Setup → List Entry → List Entry → Type 0
+IsOrderOf runtime = IsOrder (chosen_by runtime)

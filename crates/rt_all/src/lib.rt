@@ -1,0 +1,9 @@
+//! The runtimes of the program, as one.
+//!
+//! Which runtime the words name, and in which order it lets flows go on, stands here and nowhere else: one more runtime
+//! is one more of `Chosen`, with its order in `specs/Orders`.
+#![tactic(auto)]
+
+mod chosen;
+
+pub use chosen::Chosen;
