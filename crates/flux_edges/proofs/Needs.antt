@@ -1,6 +1,7 @@
 -- A node needs a session exactly where it, or a node that it leads to, declares a session constraint.
 use Rattle.std.proofs.Common.{◌≡◌, ◌<◌, ◌+◌, ℕ, zero, suc, ◌⊎◌, inl, inr, Bool, true, false, ◌||◌, List, [], ◌∷◌, ◌++◌, length, get_or, Option, Some, None, refl, sym, ap, subst, ◌∙◌, arith}
 use Rattle.std.specs.List.{slice_get, list_any, Contains}
+use Rattle.std.proofs.lemmas.Bool.{or_left, or_right}
 use Rattle.flux_model.specs.declared.programs.Program.{Program}
 use Rattle.flux_model.specs.declared.programs.Class.{Class}
 use Rattle.flux_model.specs.declared.programs.Hold.{Hold}
@@ -21,13 +22,6 @@ either_true : (a b : Bool) → (a || b) ≡ true → (a ≡ true) ⊎ (b ≡ tru
 either_true true b e = inl refl
 either_true false b e = inr e
 
-first_true : (a b : Bool) → a ≡ true → (a || b) ≡ true
-first_true a b e = rw e refl
-
-second_true : (a b : Bool) → b ≡ true → (a || b) ≡ true
-second_true true b e = refl
-second_true false b e = e
-
 some_hold : (test : Hold → Bool) (holds : List Hold) → list_any test holds ≡ true → (hold : Hold) × Contains holds hold × (test hold ≡ true)
 some_hold test [] e = absurd cc
 some_hold test (h ∷ holds) e = one (either_true (test h) (list_any test holds) e) (some_hold test holds)
@@ -39,8 +33,8 @@ some_hold test (h ∷ holds) e = one (either_true (test h) (list_any test holds)
 
 any_hold : (test : Hold → Bool) (holds : List Hold) (hold : Hold) (k : ℕ) → k < length holds → get_or holds k hold ≡ hold → test hold ≡ true → list_any test holds ≡ true
 any_hold test [] hold k below same is = absurd (omega (arith, below))
-any_hold test (h ∷ holds) hold zero below same is = first_true (test h) (list_any test holds) (ap test same ∙ is)
-any_hold test (h ∷ holds) hold (suc k) below same is = second_true (test h) (list_any test holds) (any_hold test holds hold k (omega (arith, below)) same is)
+any_hold test (h ∷ holds) hold zero below same is = or_left (test h) (list_any test holds) (ap test same ∙ is)
+any_hold test (h ∷ holds) hold (suc k) below same is = or_right (test h) (list_any test holds) (any_hold test holds hold k (omega (arith, below)) same is)
 
 some_led : (test : ℕ → Bool) (led : List NodeNo) → list_any (λ next. test next.0) led ≡ true → (x : ℕ) × IsIn x led × (test x ≡ true)
 some_led test [] e = absurd cc
@@ -53,8 +47,8 @@ some_led test (n ∷ led) e = one (either_true (test n.0) (list_any (λ next. te
 
 any_led : (test : ℕ → Bool) (led : List NodeNo) (x : ℕ) → IsIn x led → test x ≡ true → list_any (λ next. test next.0) led ≡ true
 any_led test [] x is holds = absurd is
-any_led test (n ∷ led) x (inl same) holds = first_true (test n.0) (list_any (λ next. test next.0) led) (ap test (sym same) ∙ holds)
-any_led test (n ∷ led) x (inr is) holds = second_true (test n.0) (list_any (λ next. test next.0) led) (any_led test led x is holds)
+any_led test (n ∷ led) x (inl same) holds = or_left (test n.0) (list_any (λ next. test next.0) led) (ap test (sym same) ∙ holds)
+any_led test (n ∷ led) x (inr is) holds = or_right (test n.0) (list_any (λ next. test next.0) led) (any_led test led x is holds)
 
 any_same : (f g : ℕ → Bool) (led : List NodeNo) → ((x : ℕ) → IsIn x led → f x ≡ g x) → list_any (λ next. f next.0) led ≡ list_any (λ next. g next.0) led
 any_same f g [] same = refl
@@ -132,7 +126,7 @@ module _ (p : Program) where
         one None at contains = absurd (omega (arith, contains.1))
         one (Some node) at contains =
             rule number node at
-            ∙ first_true (list_any (is_session p.classes) node.declared) (list_any (λ led. needs_session p led.0) (leads_to node))
+            ∙ or_left (list_any (is_session p.classes) node.declared) (list_any (λ led. needs_session p led.0) (leads_to node))
             (any_hold (is_session p.classes) node.declared d.hold contains.0 contains.1 contains.2 test)
 
     leads_needs : (from next : ℕ) → IsIn next (leads_in p.nodes from) → needs_session p next ≡ true → needs_session p from ≡ true
@@ -142,7 +136,7 @@ module _ (p : Program) where
         one None at is = absurd is
         one (Some node) at is =
             rule from node at
-            ∙ second_true (list_any (is_session p.classes) node.declared) (list_any (λ led. needs_session p led.0) (leads_to node))
+            ∙ or_right (list_any (is_session p.classes) node.declared) (list_any (λ led. needs_session p led.0) (leads_to node))
             (any_led (needs_session p) (leads_to node) next is holds)
 
     led_needs : (from : ℕ) (between : List NodeNo) (to : ℕ) → IsLed p.nodes from (between ++ record { 0 = to } ∷ []) → needs_session p to ≡ true → needs_session p from ≡ true

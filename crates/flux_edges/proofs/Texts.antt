@@ -37,21 +37,11 @@ module _ (all : List Decl) where
   sources_least : (decls : List Decl) (place : Option ℕ) → least_of place (unserved needs (filter_map (source_of (names_of all) all) decls) (places (filter_map sourced decls))) ≡ soonest place (flat_map row decls)
   sources_least [] place = refl
   sources_least (Source name target ∷ decls) place = one_more _ name place _ (flat_map row decls) (sources_least decls)
-  sources_least (Signature name ins outs ∷ decls) place = sources_least decls place
-  sources_least (Flow name patterns members ∷ decls) place = sources_least decls place
-  sources_least (Typedef name function ∷ decls) place = sources_least decls place
-  sources_least (Atomic node constraints ∷ decls) place = sources_least decls place
-  sources_least (Session source function ∷ decls) place = sources_least decls place
   sources_least (other ∷ decls) place = sources_least decls place
 
   lines_many : (decls : List Decl) → length (places (filter_map sourced decls)) ≡ length (filter_map (source_of (names_of all) all) decls)
   lines_many [] = refl
   lines_many (Source name target ∷ decls) = ap suc (lines_many decls)
-  lines_many (Signature name ins outs ∷ decls) = lines_many decls
-  lines_many (Flow name patterns members ∷ decls) = lines_many decls
-  lines_many (Typedef name function ∷ decls) = lines_many decls
-  lines_many (Atomic node constraints ∷ decls) = lines_many decls
-  lines_many (Session source function ∷ decls) = lines_many decls
   lines_many (other ∷ decls) = lines_many decls
 
 -- 26 stands in the program where it stands in the declarations
@@ -173,12 +163,7 @@ module _ (sigs : ℕ → NodeSig) (names : List (List ℕ)) where
           ≡ ((if t then unless (fits number handler) handler.at else []) ++ own_places number name decls) ++ unlike_arms sigs arms sites
       one true others = ap (λ (l : List ℕ). unless (fits number handler) handler.at ++ l) others ∙ sym (append_assoc (unless (fits number handler) handler.at) (own_places number name decls) (unlike_arms sigs arms sites))
       one false others = others
-  own_arms number name (Signature n ins outs ∷ decls) arms sites = own_arms number name decls arms sites
-  own_arms number name (Flow n patterns members ∷ decls) arms sites = own_arms number name decls arms sites
-  own_arms number name (Source n target ∷ decls) arms sites = own_arms number name decls arms sites
-  own_arms number name (Typedef n function ∷ decls) arms sites = own_arms number name decls arms sites
-  own_arms number name (Atomic n constraints ∷ decls) arms sites = own_arms number name decls arms sites
-  own_arms number name (Session source function ∷ decls) arms sites = own_arms number name decls arms sites
+  own_arms number name (other ∷ decls) arms sites = own_arms number name decls arms sites
 
   -- those of all nodes, from a number on
   abbrev all_places : ℕ → List (List ℕ) → List Decl → List ℕ
@@ -229,12 +214,7 @@ module _ (sigs : ℕ → NodeSig) (names : List (List ℕ)) where
           pick : Among at (unless (fits number handler) handler.at) ⊎ Among at (own_places number name decls) → Among at (places (unlike_handler sigs names (Handler node codes handler)) ++ row_places decls)
           pick (inl own) = in_left at (places (unlike_handler sigs names (Handler node codes handler))) (row_places decls) (subst (Among at) (sym same) own)
           pick (inr others) = in_right at (places (unlike_handler sigs names (Handler node codes handler))) (row_places decls) (more others)
-  own_in_row number name stands (Signature n ins outs ∷ decls) at is = own_in_row number name stands decls at is
-  own_in_row number name stands (Flow n patterns members ∷ decls) at is = own_in_row number name stands decls at is
-  own_in_row number name stands (Source n target ∷ decls) at is = own_in_row number name stands decls at is
-  own_in_row number name stands (Typedef n function ∷ decls) at is = own_in_row number name stands decls at is
-  own_in_row number name stands (Atomic n constraints ∷ decls) at is = own_in_row number name stands decls at is
-  own_in_row number name stands (Session source function ∷ decls) at is = own_in_row number name stands decls at is
+  own_in_row number name stands (other ∷ decls) at is = own_in_row number name stands decls at is
 
   -- each of these names stands at its number
   abbrev AllStand : ℕ → List (List ℕ) → Type 0
@@ -270,12 +250,7 @@ module _ (sigs : ℕ → NodeSig) (names : List (List ℕ)) where
     where
       own : (e : Decl) → Among at (own_places start name decls) → Among at (own_places start name (e ∷ decls))
       own (Handler node codes handler) i = in_right at (if bytes_eq node.text name then unless (fits start handler) handler.at else []) (own_places start name decls) i
-      own (Signature n ins outs) i = i
-      own (Flow n patterns members) i = i
-      own (Source n target) i = i
-      own (Typedef n function) i = i
-      own (Atomic n constraints) i = i
-      own (Session source function) i = i
+      own other i = i
 
       pick : Among at (own_places start name decls) ⊎ Among at (all_places (suc start) others decls) → (Among at (all_places (suc start) others decls) → Among at (all_places (suc start) others (d ∷ decls)))
           → Among at (own_places start name (d ∷ decls) ++ all_places (suc start) others (d ∷ decls))

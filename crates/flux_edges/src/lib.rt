@@ -8,8 +8,6 @@
 mod handlers;
 mod places;
 mod sessions;
-#[cfg(test)]
-mod tests;
 
 pub use handlers::handler_types;
 pub use sessions::session_edges;

@@ -216,7 +216,8 @@ no_fault_among rules are before line after lines items first fault is give withi
 
 -- ---- one answer
 
-no_items_and_fault : (rules : ItemRules) → AreRules rules → (text : List ℕ) (items : List Item) (fault : ItemFault) → AreItemsOf rules items text → IsFaultOf rules fault text → ⊥
+-- items and a fault exclude each other
+pub no_items_and_fault : (rules : ItemRules) → AreRules rules → (text : List ℕ) (items : List Item) (fault : ItemFault) → AreItemsOf rules items text → IsFaultOf rules fault text → ⊥
 no_items_and_fault rules are text items fault all f = no_fault_among rules are f.before f.line f.after (lines_of text) items f.items fault f.lines all.give all.within f.give f.cause
 
 -- of two places in one list the earlier stands before the later

@@ -7,13 +7,13 @@
 
 mod blanks;
 mod items;
+mod laws;
 mod lines;
 mod names;
 mod rules;
 mod spellings;
-#[cfg(test)]
-mod tests;
 mod words;
 
 pub use items::read_items;
+pub use laws::items_have_no_fault;
 pub use rules::{ITEM_LIMIT, ItemFault, ItemRules, SIZE_LIMIT};

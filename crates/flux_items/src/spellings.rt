@@ -6,8 +6,8 @@ ghost use Rattle.flux_items.specs.steps.Fronts.{Ends};
 ghost use Rattle.flux_items.specs.steps.Values.{Close, IsNext, IsKept, AreRead};
 
 use crate::blanks::{are_blanks, behind, skip_blanks};
-use flux_values::{Kind, List, Memory, Value, ValueFault};
 use flux_spelling::read_value;
+use flux_values::{Kind, List, Memory, Value, ValueFault};
 use std::alloc::Global;
 
 /// One value, and what stands behind it.

@@ -15,6 +15,7 @@ use Rattle.std.proofs.lemmas.Slice.Eq.{bytes_eq-Decides}
 use Rattle.std.specs.Bool.{⊤}
 use Rattle.std.proofs.lemmas.List.{append_assoc}
 use Rattle.std.proofs.lemmas.List.Folds.{list_any-append}
+use Rattle.std.proofs.Math.Bool.{or-false}
 use Rattle.flux_model.specs.declared.programs.Class.{Class}
 use Rattle.flux_model.specs.Modes.{class_cmp, AreCanonical}
 use Rattle.flux_syntax.specs.declared.declarations.Word.{Word}
@@ -181,10 +182,6 @@ has_more class new (c ∷ classes) = one (class_cmp new c) refl (has_more class 
         ∙ ap (λ (b : Bool). is_eq (class_cmp class c) || b) more
         ∙ or_turned (is_eq (class_cmp class c)) (is_eq (class_cmp class new)) (has_class classes class)
 
-or_last : (b : Bool) → (b || false) ≡ b
-or_last true = refl
-or_last false = refl
-
 or_swap : (a b : Bool) → (a || b) ≡ (b || a)
 or_swap true true = refl
 or_swap true false = refl
@@ -202,7 +199,7 @@ words_from classes before (c ∷ constraints) same =
         has_more class (class_of c) classes
         ∙ or_swap (is_eq (class_cmp class (class_of c))) (has_class classes class)
         ∙ ap (λ (b : Bool). b || is_eq (class_cmp class (class_of c))) (same class)
-        ∙ ap (λ (b : Bool). list_any (is_on class) before || b) (tests_equal class (class_of c) ∙ sym (is_on_tied class c) ∙ sym (or_last (is_on class c)))
+        ∙ ap (λ (b : Bool). list_any (is_on class) before || b) (tests_equal class (class_of c) ∙ sym (is_on_tied class c) ∙ sym (or-false (is_on class c)))
         ∙ sym (list_any-append (is_on class) before (c ∷ []))
 
 -- the words that the classes so far call new are those whose class no constraint before has

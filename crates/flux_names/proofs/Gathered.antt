@@ -4,6 +4,7 @@ use Rattle.std.specs.List.{list_any, filter, filter_map, cons_option, flat_map, 
 use Rattle.std.specs.Str.{bytes_eq}
 use Rattle.std.proofs.lemmas.List.{take_more, at_drop_more, append-nil, append_assoc, length-append, length-map, get_or_at, get_or-map}
 use Rattle.std.proofs.lemmas.List.Elements.{filter-append}
+use Rattle.flux_syntax.proofs.RowLemmas.{none_either}
 use Rattle.flux_model.specs.declared.programs.Class.{Class}
 use Rattle.flux_model.specs.declared.programs.Hold.{Hold}
 use Rattle.flux_model.specs.declared.programs.Node.{Node}
@@ -314,10 +315,6 @@ known_of names w rest e = one (known names w.text) refl
     one true i = i
     one false i = let h : ◌≡◌ {A = List Word} (w ∷ not_among names rest) [] = rw i at e in absurd cc
 
-pub nil_append : {X : Type 0} (a b : List X) → a ++ b ≡ [] → (a ≡ []) × (b ≡ [])
-nil_append [] b e = (refl, e)
-nil_append (x ∷ a) b e = absurd cc
-
 lines_at : (all : List Decl) (w : Word) → known (names_of all) w.text ≡ true → get_or (map (lines_of all) (names_of all)) (place_of (names_of all) w) [] ≡ lines_of all w.text
 lines_at all w e =
     let names = names_of all in
@@ -329,17 +326,17 @@ sources_from : (all decls : List Decl) → flat_map (λ d. not_among (names_of a
 sources_from all [] e = refl
 sources_from all (Source called target ∷ decls) e =
     let names = names_of all in
-    let both = nil_append (not_among names (called ∷ target ∷ [])) (flat_map (λ d. not_among names (used_names d)) decls) e in
+    let both = none_either (not_among names (called ∷ target ∷ [])) (flat_map (λ d. not_among names (used_names d)) decls) e in
     let known_name = known_of names called (target ∷ []) both.0 in
     ap (λ (s : Option (List ℕ)). record { node = number_of names called; target = number_of names target; session = s } ∷ flat_map (sources_in names (map (lines_of all) names)) decls)
     (ap session_in (lines_at all called known_name) ∙ session_is all called.text)
     ∙ ap (λ (l : List SourceLine). record { node = number_of names called; target = number_of names target; session = session_of called.text all } ∷ l) (sources_from all decls both.1)
 sources_from all (Signature called ins outs ∷ decls) e = sources_from all decls e
-sources_from all (Flow called patterns members ∷ decls) e = sources_from all decls (nil_append (not_among (names_of all) members) (flat_map (λ d. not_among (names_of all) (used_names d)) decls) e).1
+sources_from all (Flow called patterns members ∷ decls) e = sources_from all decls (none_either (not_among (names_of all) members) (flat_map (λ d. not_among (names_of all) (used_names d)) decls) e).1
 sources_from all (Typedef called function ∷ decls) e = sources_from all decls e
-sources_from all (Handler node codes handler ∷ decls) e = sources_from all decls (nil_append (not_among (names_of all) (node ∷ handler ∷ [])) (flat_map (λ d. not_among (names_of all) (used_names d)) decls) e).1
-sources_from all (Atomic node constraints ∷ decls) e = sources_from all decls (nil_append (not_among (names_of all) (node ∷ [])) (flat_map (λ d. not_among (names_of all) (used_names d)) decls) e).1
-sources_from all (Session source function ∷ decls) e = sources_from all decls (nil_append (not_among (names_of all) (source ∷ [])) (flat_map (λ d. not_among (names_of all) (used_names d)) decls) e).1
+sources_from all (Handler node codes handler ∷ decls) e = sources_from all decls (none_either (not_among (names_of all) (node ∷ handler ∷ [])) (flat_map (λ d. not_among (names_of all) (used_names d)) decls) e).1
+sources_from all (Atomic node constraints ∷ decls) e = sources_from all decls (none_either (not_among (names_of all) (node ∷ [])) (flat_map (λ d. not_among (names_of all) (used_names d)) decls) e).1
+sources_from all (Session source function ∷ decls) e = sources_from all decls (none_either (not_among (names_of all) (source ∷ [])) (flat_map (λ d. not_among (names_of all) (used_names d)) decls) e).1
 
 pub sources_are : (decls : List Decl) → flat_map (λ d. not_among (names_of decls) (used_names d)) decls ≡ [] → flat_map (sources_in (names_of decls) (map (lines_of decls) (names_of decls))) decls ≡ filter_map (source_of (names_of decls) decls) decls
 sources_are decls e = sources_from decls decls e
@@ -347,12 +344,7 @@ sources_are decls e = sources_from decls decls e
 pub predicates_are : (decls : List Decl) → flat_map predicates_in decls ≡ texts_of function_of decls
 predicates_are [] = refl
 predicates_are (Typedef called function ∷ decls) = ap (λ (l : List (List ℕ)). function.text ∷ l) (predicates_are decls)
-predicates_are (Signature called ins outs ∷ decls) = predicates_are decls
-predicates_are (Flow called patterns members ∷ decls) = predicates_are decls
-predicates_are (Source called target ∷ decls) = predicates_are decls
-predicates_are (Handler node codes handler ∷ decls) = predicates_are decls
-predicates_are (Atomic node constraints ∷ decls) = predicates_are decls
-predicates_are (Session source function ∷ decls) = predicates_are decls
+predicates_are (other ∷ decls) = predicates_are decls
 
 -- ---- the lines of nodes, gathered one after another
 
@@ -383,5 +375,5 @@ sites_more lines n =
 pub known_lines : (names : List (List ℕ)) (decls : List Decl) (i : ℕ) (d : Decl) → i < length decls → d ≡ get_or decls i d → unknown_in names (drop i decls) ≡ []
     → (not_among names (used_names d) ≡ []) × (unknown_in names (drop (i + 1) decls) ≡ [])
 known_lines names decls i d lt is e =
-    nil_append (not_among names (used_names d)) (unknown_in names (drop (i + 1) decls))
+    none_either (not_among names (used_names d)) (unknown_in names (drop (i + 1) decls))
     (ap (λ (x : Decl). not_among names (used_names x) ++ unknown_in names (drop (i + 1) decls)) is ∙ sym (at_drop_more (unknown_in names) decls i d lt) ∙ e)

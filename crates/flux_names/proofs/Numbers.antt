@@ -3,6 +3,7 @@ use Rattle.std.proofs.Common.{◌≡◌, ◌≤◌, ◌<◌, ◌+◌, ℕ, Bool,
 use Rattle.std.specs.List.{list_any, filter_map, cons_option, flat_map, enumerate_from, AllByRecursion}
 use Rattle.std.specs.Str.{bytes_eq}
 use Rattle.std.proofs.lemmas.List.{length-append, length-map}
+use Rattle.flux_syntax.proofs.RowLemmas.{none_either}
 use Rattle.flux_values.specs.Meanings.{LibraryMeaning}
 use Rattle.flux_values.specs.declared.answers.Mode.{Mode}
 use Rattle.flux_model.specs.declared.programs.TheConstants.{COUNT_LIMIT}
@@ -26,7 +27,6 @@ use Rattle.flux_syntax.proofs.Counts.{decls_few}
 use Rattle.flux_names.specs.Rows.{not_among, used_names, pattern_words, unknown_function, unknown_predicates_in, rows}
 use Rattle.flux_names.proofs.Symbols.{bytes_same, below_length}
 use Rattle.flux_names.proofs.Canonical.{classes_in_order, canonical, few_classes}
-use Rattle.flux_names.proofs.Gathered.{nil_append}
 use Rattle.flux_names.proofs.Sound.{AreSound, sound}
 
 -- ---- lists
@@ -62,10 +62,10 @@ abbrev KnowsLines : List (List ℕ) → List Decl → Type 0
 KnowsLines names decls = flat_map (λ d. not_among names (used_names d)) decls ≡ []
 
 knows_first : (names : List (List ℕ)) (d : Decl) (decls : List Decl) → KnowsLines names (d ∷ decls) → AllByRecursion (λ w. known names w.text ≡ true) (used_names d)
-knows_first names d decls e = known_words names (used_names d) (nil_append (not_among names (used_names d)) (flat_map (λ d. not_among names (used_names d)) decls) e).0
+knows_first names d decls e = known_words names (used_names d) (none_either (not_among names (used_names d)) (flat_map (λ d. not_among names (used_names d)) decls) e).0
 
 knows_rest : (names : List (List ℕ)) (d : Decl) (decls : List Decl) → KnowsLines names (d ∷ decls) → KnowsLines names decls
-knows_rest names d decls e = (nil_append (not_among names (used_names d)) (flat_map (λ d. not_among names (used_names d)) decls) e).1
+knows_rest names d decls e = (none_either (not_among names (used_names d)) (flat_map (λ d. not_among names (used_names d)) decls) e).1
 
 -- ---- members and handlers
 
@@ -83,12 +83,7 @@ case_below names types name (Flow called patterns members) each = one (bytes_eq 
     one : (b : Bool) → AllByRecursion (λ case. AreBelow (length names) case.members) (cons_option (if b then Some case else None) [])
     one true = (all_below names members each, tt)
     one false = tt
-case_below names types name (Signature called ins outs) each = tt
-case_below names types name (Source called target) each = tt
-case_below names types name (Typedef called function) each = tt
-case_below names types name (Handler node codes handler) each = tt
-case_below names types name (Atomic node constraints) each = tt
-case_below names types name (Session source function) each = tt
+case_below names types name other each = tt
 
 cases_below : (names types : List (List ℕ)) (name : List ℕ) (decls : List Decl) → KnowsLines names decls → AreBelow (length names) (flat_map (λ case. case.members) (filter_map (case_of names types name) decls))
 cases_below names types name [] e = tt
@@ -111,12 +106,7 @@ arm_below names name (Handler node codes handler) arms each rest = one (bytes_eq
     one : (b : Bool) → AreBelow (length names) (handlers_of (cons_option (if b then Some arm else None) arms))
     one true = (known_below names handler each.1.0, rest)
     one false = rest
-arm_below names name (Signature called ins outs) arms each rest = rest
-arm_below names name (Flow called patterns members) arms each rest = rest
-arm_below names name (Source called target) arms each rest = rest
-arm_below names name (Typedef called function) arms each rest = rest
-arm_below names name (Atomic node constraints) arms each rest = rest
-arm_below names name (Session source function) arms each rest = rest
+arm_below names name other arms each rest = rest
 
 arms_below : (names : List (List ℕ)) (name : List ℕ) (decls : List Decl) → KnowsLines names decls → AreBelow (length names) (handlers_of (filter_map (arm_of names name) decls))
 arms_below names name [] e = tt
@@ -155,8 +145,8 @@ KnowsPatterns types decls = AllByRecursion (λ d. AllByRecursion (λ w. known ty
 knows_patterns : (meaning : LibraryMeaning) (types : List (List ℕ)) (decls : List Decl) → flat_map (unknown_predicates_in meaning types) decls ≡ [] → KnowsPatterns types decls
 knows_patterns meaning types [] e = tt
 knows_patterns meaning types (d ∷ decls) e =
-    let both = nil_append (unknown_predicates_in meaning types d) (flat_map (unknown_predicates_in meaning types) decls) e in
-    (known_words types (pattern_words d) (nil_append (unknown_function meaning d) (not_among types (pattern_words d)) both.0).1, knows_patterns meaning types decls both.1)
+    let both = none_either (unknown_predicates_in meaning types d) (flat_map (unknown_predicates_in meaning types) decls) e in
+    (known_words types (pattern_words d) (none_either (unknown_function meaning d) (not_among types (pattern_words d)) both.0).1, knows_patterns meaning types decls both.1)
 
 flow_patterns_below : (types : List (List ℕ)) (name : Word) (patterns : Option (List (Option Word))) (members : List Word) → AllByRecursion (λ w. known types w.text ≡ true) (pattern_words (Flow name patterns members)) → AllByRecursion (IsPatternBelow (length types)) (patterns_of types patterns)
 flow_patterns_below types name None members each = tt
@@ -172,12 +162,7 @@ case_patterns names types name (Flow called patterns members) cases each rest = 
     one : (b : Bool) → AllByRecursion (λ case. AllByRecursion (IsPatternBelow (length types)) case.patterns) (cons_option (if b then Some case else None) cases)
     one true = (flow_patterns_below types called patterns members each, rest)
     one false = rest
-case_patterns names types name (Signature called ins outs) cases each rest = rest
-case_patterns names types name (Source called target) cases each rest = rest
-case_patterns names types name (Typedef called function) cases each rest = rest
-case_patterns names types name (Handler node codes handler) cases each rest = rest
-case_patterns names types name (Atomic node constraints) cases each rest = rest
-case_patterns names types name (Session source function) cases each rest = rest
+case_patterns names types name other cases each rest = rest
 
 cases_patterns : (names types : List (List ℕ)) (name : List ℕ) (decls : List Decl) → KnowsPatterns types decls → AllByRecursion (λ case. AllByRecursion (IsPatternBelow (length types)) case.patterns) (filter_map (case_of names types name) decls)
 cases_patterns names types name [] e = tt
@@ -191,12 +176,7 @@ body_patterns names types name decls e false = cases_patterns names types name d
 as_many : (decls : List Decl) → length (texts_of defined decls) ≡ length (texts_of function_of decls)
 as_many [] = refl
 as_many (Typedef name function ∷ decls) = let more = as_many decls in omega (arith, more)
-as_many (Signature name ins outs ∷ decls) = as_many decls
-as_many (Flow name patterns members ∷ decls) = as_many decls
-as_many (Source name target ∷ decls) = as_many decls
-as_many (Handler node codes handler ∷ decls) = as_many decls
-as_many (Atomic node constraints ∷ decls) = as_many decls
-as_many (Session source function ∷ decls) = as_many decls
+as_many (other ∷ decls) = as_many decls
 
 -- ---- sources
 
@@ -251,12 +231,7 @@ total_each (x ∷ xs) = let more = total_each xs in omega (arith, more)
 
 constraints_few : (d : Decl) → length (constraints_of d) ≤ words_in d
 constraints_few (Atomic node constraints) = omega (arith, total_each constraints)
-constraints_few (Signature name ins outs) = omega arith
-constraints_few (Flow name patterns members) = omega arith
-constraints_few (Source name target) = omega arith
-constraints_few (Typedef name function) = omega arith
-constraints_few (Handler node codes handler) = omega arith
-constraints_few (Session source function) = omega arith
+constraints_few other = omega arith
 
 all_constraints_few : (decls : List Decl) → length (flat_map constraints_of decls) ≤ words_of decls
 all_constraints_few [] = omega arith
@@ -278,12 +253,7 @@ case_parts names types name (Flow called patterns members) cases = one (bytes_eq
     one : (b : Bool) → parts (cons_option (if b then Some case else None) cases) ≤ words_in (Flow called patterns members) + parts cases
     one true = omega (arith, total_each members, length-map members (number_of names), length-append (map (number_of names) members) (flat_map (λ case. case.members) cases))
     one false = omega arith
-case_parts names types name (Signature called ins outs) cases = omega arith
-case_parts names types name (Source called target) cases = omega arith
-case_parts names types name (Typedef called function) cases = omega arith
-case_parts names types name (Handler node codes handler) cases = omega arith
-case_parts names types name (Atomic node constraints) cases = omega arith
-case_parts names types name (Session source function) cases = omega arith
+case_parts names types name other cases = omega arith
 
 cases_parts : (names types : List (List ℕ)) (name : List ℕ) (decls : List Decl) → parts (filter_map (case_of names types name) decls) ≤ words_of decls
 cases_parts names types name [] = omega arith

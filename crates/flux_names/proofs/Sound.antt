@@ -5,30 +5,19 @@ use Rattle.std.specs.Option.{is_none}
 use Rattle.std.specs.Str.{bytes_eq}
 use Rattle.std.proofs.lemmas.List.{append-nil, append_assoc, map-append}
 use Rattle.std.proofs.lemmas.List.Elements.{filter_map-append}
+use Rattle.std.proofs.Math.Bool.{and-true}
+use Rattle.flux_syntax.proofs.RowLemmas.{none_soonest, no_fault, none_either}
 use Rattle.flux_values.specs.Meanings.{LibraryMeaning}
-use Rattle.flux_faults.specs.declared.faults.FaultKind.{FaultKind}
 use Rattle.flux_syntax.specs.declared.declarations.Word.{Word}
 use Rattle.flux_syntax.specs.declared.declarations.Decl.{Decl}
 use Rattle.flux_syntax.specs.declared.declarations.Decl.TheVariants.{Signature, Flow, Source, Typedef, Handler, Atomic, Session}
 use Rattle.flux_syntax.specs.Words.{known, naming, defined, sourced, listed, texts_of}
-use Rattle.flux_syntax.specs.Least.{sooner, soonest, fault_or, first_fault}
+use Rattle.flux_syntax.specs.Least.{soonest, first_fault}
 use Rattle.flux_names.specs.Rows.{handled, sessioned, repeats, is_patterned, word_if, listed_if, repeated_after, repeated, twice_named, unknown_nodes, unknown_types, not_in_library, unlike_library, unknown_predicates, unknown_sessions, not_sources, misused_sources, too_many, is_code, code_of, CodeOn, codes_in, is_taken_by, is_bad_code, bad_codes_after, bad_codes, rows}
 use Rattle.flux_names.specs.steps.Sorts.{names_by}
 use Rattle.flux_names.specs.steps.Codes.{codes_on}
 use Rattle.flux_names.proofs.Symbols.{AreApart, bytes_same, apart_push, names_by_apart}
-use Rattle.flux_names.proofs.Gathered.{AreCodes, numbers_of, nil_append}
-
-some_place : (at : ℕ) (words : List Word) → soonest (Some at) words ≡ None → ⊥
-some_place at [] e = absurd cc
-some_place at (w ∷ words) e = some_place (sooner (Some at) w.at) words e
-
-no_words : (words : List Word) → soonest None words ≡ None → words ≡ []
-no_words [] e = refl
-no_words (w ∷ words) e = absurd (some_place w.at words e)
-
-no_row : (kind : FaultKind) (place : Option ℕ) (other : Option (FaultKind × ℕ)) → fault_or kind place other ≡ None → (place ≡ None) × (other ≡ None)
-no_row kind None other e = (refl, e)
-no_row kind (Some at) other e = absurd cc
+use Rattle.flux_names.proofs.Gathered.{AreCodes, numbers_of}
 
 -- no row has a word
 pub record AreSound (meaning : LibraryMeaning) (decls : List Decl) : Type 0 where
@@ -47,29 +36,29 @@ pub record AreSound (meaning : LibraryMeaning) (decls : List Decl) : Type 0 wher
 -- declarations without a fault have no words of any row
 pub sound : (meaning : LibraryMeaning) (decls : List Decl) → first_fault (rows meaning decls) ≡ None → AreSound meaning decls
 sound meaning decls none =
-    let r5 = no_row _ (soonest None (twice_named decls)) _ none in
-    let r6 = no_row _ (soonest None (unknown_nodes decls)) _ r5.1 in
-    let r7 = no_row _ (soonest None (unknown_types meaning decls)) _ r6.1 in
-    let r8 = no_row _ (soonest None (not_in_library meaning decls)) _ r7.1 in
-    let r9 = no_row _ (soonest None (unlike_library meaning decls)) _ r8.1 in
-    let r10 = no_row _ (soonest None (unknown_predicates meaning decls)) _ r9.1 in
-    let r11 = no_row _ (soonest None (unknown_sessions meaning decls)) _ r10.1 in
-    let r12 = no_row _ (soonest None (not_sources meaning decls)) _ r11.1 in
-    let r13 = no_row _ (soonest None (misused_sources meaning decls)) _ r12.1 in
-    let r14 = no_row _ (soonest None (too_many decls)) _ r13.1 in
-    let r28 = no_row _ (soonest None (bad_codes decls)) _ r14.1 in
+    let r5 = no_fault _ (soonest None (twice_named decls)) _ none in
+    let r6 = no_fault _ (soonest None (unknown_nodes decls)) _ r5.1 in
+    let r7 = no_fault _ (soonest None (unknown_types meaning decls)) _ r6.1 in
+    let r8 = no_fault _ (soonest None (not_in_library meaning decls)) _ r7.1 in
+    let r9 = no_fault _ (soonest None (unlike_library meaning decls)) _ r8.1 in
+    let r10 = no_fault _ (soonest None (unknown_predicates meaning decls)) _ r9.1 in
+    let r11 = no_fault _ (soonest None (unknown_sessions meaning decls)) _ r10.1 in
+    let r12 = no_fault _ (soonest None (not_sources meaning decls)) _ r11.1 in
+    let r13 = no_fault _ (soonest None (misused_sources meaning decls)) _ r12.1 in
+    let r14 = no_fault _ (soonest None (too_many decls)) _ r13.1 in
+    let r28 = no_fault _ (soonest None (bad_codes decls)) _ r14.1 in
     record {
-      once = no_words (twice_named decls) r5.0;
-      known_nodes = no_words (unknown_nodes decls) r6.0;
-      known_types = no_words (unknown_types meaning decls) r7.0;
-      in_library = no_words (not_in_library meaning decls) r8.0;
-      like_library = no_words (unlike_library meaning decls) r9.0;
-      known_predicates = no_words (unknown_predicates meaning decls) r10.0;
-      known_sessions = no_words (unknown_sessions meaning decls) r11.0;
-      sources = no_words (not_sources meaning decls) r12.0;
-      used_well = no_words (misused_sources meaning decls) r13.0;
-      few = no_words (too_many decls) r14.0;
-      codes = no_words (bad_codes decls) r28.0;
+      once = none_soonest (twice_named decls) r5.0;
+      known_nodes = none_soonest (unknown_nodes decls) r6.0;
+      known_types = none_soonest (unknown_types meaning decls) r7.0;
+      in_library = none_soonest (not_in_library meaning decls) r8.0;
+      like_library = none_soonest (unlike_library meaning decls) r9.0;
+      known_predicates = none_soonest (unknown_predicates meaning decls) r10.0;
+      known_sessions = none_soonest (unknown_sessions meaning decls) r11.0;
+      sources = none_soonest (not_sources meaning decls) r12.0;
+      used_well = none_soonest (misused_sources meaning decls) r13.0;
+      few = none_soonest (too_many decls) r14.0;
+      codes = none_soonest (bad_codes decls) r28.0;
     }
 
 -- ---- names that stand once
@@ -84,11 +73,11 @@ pub record StandOnce (decls : List Decl) : Type 0 where
 
 pub stand_once : (decls : List Decl) → twice_named decls ≡ [] → StandOnce decls
 stand_once decls e =
-    let one = nil_append (repeated decls naming) (flat_map (repeated decls) (defined ∷ sourced ∷ handled ∷ sessioned ∷ [])) e in
-    let two = nil_append (repeated decls defined) (flat_map (repeated decls) (sourced ∷ handled ∷ sessioned ∷ [])) one.1 in
-    let three = nil_append (repeated decls sourced) (flat_map (repeated decls) (handled ∷ sessioned ∷ [])) two.1 in
-    let four = nil_append (repeated decls handled) (flat_map (repeated decls) (sessioned ∷ [])) three.1 in
-    let five = nil_append (repeated decls sessioned) [] four.1 in
+    let one = none_either (repeated decls naming) (flat_map (repeated decls) (defined ∷ sourced ∷ handled ∷ sessioned ∷ [])) e in
+    let two = none_either (repeated decls defined) (flat_map (repeated decls) (sourced ∷ handled ∷ sessioned ∷ [])) one.1 in
+    let three = none_either (repeated decls sourced) (flat_map (repeated decls) (handled ∷ sessioned ∷ [])) two.1 in
+    let four = none_either (repeated decls handled) (flat_map (repeated decls) (sessioned ∷ [])) three.1 in
+    let five = none_either (repeated decls sessioned) [] four.1 in
     record { nodes = one.0; types = two.0; sources = three.0; handlers = four.0; sessions = five.0 }
 
 -- lines of a sort that no flow is of
@@ -97,21 +86,11 @@ AreNoFlows sort = (decl : Decl) → is_patterned decl ≡ true → sort decl ≡
 
 no_flow_defined : AreNoFlows defined
 no_flow_defined (Flow name patterns members) e = refl
-no_flow_defined (Signature name ins outs) e = absurd cc
-no_flow_defined (Source name target) e = absurd cc
-no_flow_defined (Typedef name function) e = absurd cc
-no_flow_defined (Handler node codes handler) e = absurd cc
-no_flow_defined (Atomic node constraints) e = absurd cc
-no_flow_defined (Session source function) e = absurd cc
+no_flow_defined other e = absurd cc
 
 no_flow_sourced : AreNoFlows sourced
 no_flow_sourced (Flow name patterns members) e = refl
-no_flow_sourced (Signature name ins outs) e = absurd cc
-no_flow_sourced (Source name target) e = absurd cc
-no_flow_sourced (Typedef name function) e = absurd cc
-no_flow_sourced (Handler node codes handler) e = absurd cc
-no_flow_sourced (Atomic node constraints) e = absurd cc
-no_flow_sourced (Session source function) e = absurd cc
+no_flow_sourced other e = absurd cc
 
 -- what repeats a line before has the text of one
 repeats_known : (sort : Decl → Option Word) (decl : Decl) (word : Word) (before : List Decl) → sort decl ≡ Some word → is_patterned decl ≡ false
@@ -119,14 +98,10 @@ repeats_known : (sort : Decl → Option Word) (decl : Decl) (word : Word) (befor
 repeats_known sort decl word [] is plain = refl
 repeats_known sort decl word (b ∷ before) is plain = one (sort b) refl (repeats_known sort decl word before is plain)
   where
-    and_all : (t : Bool) → (t && true) ≡ t
-    and_all true = refl
-    and_all false = refl
-
     one : (other : Option Word) → sort b ≡ other → list_any (repeats sort decl) before ≡ known (texts_of sort before) word.text
         → list_any (repeats sort decl) (b ∷ before) ≡ known (texts_of sort (b ∷ before)) word.text
     one None e more = rw (e, is) more
-    one (Some other) e more = rw (e, is, plain) (rw (and_all (bytes_eq word.text other.text)) (ap (λ (t : Bool). bytes_eq word.text other.text || t) more))
+    one (Some other) e more = rw (e, is, plain) (rw (and-true (bytes_eq word.text other.text)) (ap (λ (t : Bool). bytes_eq word.text other.text || t) more))
 
 texts_push : (sort : Decl → Option Word) (before : List Decl) (decl : Decl) → texts_of sort (before ++ decl ∷ []) ≡ texts_of sort before ++ map (λ w. w.text) (listed (sort decl))
 texts_push sort before decl =
@@ -139,7 +114,7 @@ texts_push sort before decl =
 apart_behind : (sort : Decl → Option Word) → AreNoFlows sort → (before decls : List Decl) → AreApart bytes_eq (texts_of sort before) → repeated_after sort before decls ≡ [] → AreApart bytes_eq (texts_of sort (before ++ decls))
 apart_behind sort flows before [] apart e = rw append-nil apart
 apart_behind sort flows before (decl ∷ decls) apart e =
-    let both = nil_append (listed_if (list_any (repeats sort decl) before) (sort decl)) (repeated_after sort (before ++ decl ∷ []) decls) e in
+    let both = none_either (listed_if (list_any (repeats sort decl) before) (sort decl)) (repeated_after sort (before ++ decl ∷ []) decls) e in
     subst (λ (ds : List Decl). AreApart bytes_eq (texts_of sort ds)) (append_assoc before (decl ∷ []) decls)
     (apart_behind sort flows (before ++ decl ∷ []) decls (rw (texts_push sort before decl) (one (sort decl) refl both.0)) both.1)
   where
@@ -175,7 +150,7 @@ code_if digits false i e = let h : true ≡ false = rw i at e in absurd cc
 none_bad : (before codes : List CodeOn) → bad_codes_after before codes ≡ [] → AllByRecursion (λ c. is_code c.number.text ≡ true) codes
 none_bad before [] e = tt
 none_bad before (c ∷ codes) e =
-    let both = nil_append (word_if (is_bad_code before c) c.number) (bad_codes_after (before ++ c ∷ []) codes) e in
+    let both = none_either (word_if (is_bad_code before c) c.number) (bad_codes_after (before ++ c ∷ []) codes) e in
     (code_if c.number.text (is_code c.number.text) refl (first (is_none (code_of c.number.text)) (list_any (is_taken_by c) before) both.0), none_bad (before ++ c ∷ []) codes both.1)
   where
     first : (a b : Bool) → word_if (a || b) c.number ≡ [] → a ≡ false
@@ -192,12 +167,7 @@ line_codes (Handler node codes handler) each = numbers codes each
     numbers : (codes : List Word) → AllByRecursion (λ c. is_code c.number.text ≡ true) (codes_on node codes) → AreCodes codes
     numbers [] each = tt
     numbers (c ∷ codes) each = (each.0, numbers codes each.1)
-line_codes (Signature name ins outs) each = tt
-line_codes (Flow name patterns members) each = tt
-line_codes (Source name target) each = tt
-line_codes (Typedef name function) each = tt
-line_codes (Atomic node constraints) each = tt
-line_codes (Session source function) each = tt
+line_codes other each = tt
 
 lines_codes : (decls : List Decl) → AllByRecursion (λ c. is_code c.number.text ≡ true) (flat_map codes_in decls) → AllByRecursion (λ d. AreCodes (numbers_of d)) decls
 lines_codes [] each = tt

@@ -3,17 +3,15 @@ use Rattle.std.proofs.Common.{◌≡◌, ℕ, ◌||◌, ◌&&◌, Bool, true, fa
 use Rattle.std.specs.Bool.{◌==◌}
 use Rattle.std.specs.List.{list_any}
 use Rattle.std.specs.Str.{bytes_eq}
-use Rattle.std.proofs.lemmas.Bool.{eqb-true}
+use Rattle.std.proofs.lemmas.Bool.{eqb-true, and_parts}
 use Rattle.std.proofs.lemmas.List.Folds.{list_any-append}
 use Rattle.std.proofs.lemmas.List.{append_assoc}
 use Rattle.std.proofs.lemmas.Slice.Eq.{bytes_eq-Decides}
+use Rattle.std.proofs.Math.Bool.{or-false}
+use Rattle.flux_syntax.proofs.Found.{absorbed, any_same}
 use Rattle.flux_syntax.specs.declared.declarations.Word.{Word}
 use Rattle.flux_names.specs.Rows.{CodeOn, code_of, word_if, is_same_code, is_taken_by, is_bad_code, bad_codes_after}
 use Rattle.flux_names.specs.steps.Codes.{Taken, has_code, is_bad_by, with_code, and_code, and_codes, bad_codes_by}
-
-or_last : (b : Bool) → (b || false) ≡ b
-or_last true = refl
-or_last false = refl
 
 -- the numbers before are one of a node that is this code
 abbrev have : List CodeOn → List ℕ → ℕ → Bool
@@ -26,42 +24,28 @@ is_that node code other number = bytes_eq node other && is_same_code (Some code)
 has_of_same : (taken : Taken) (node other : List ℕ) (code : ℕ) → bytes_eq node other ≡ true → has_code taken node code ≡ has_code taken other code
 has_of_same taken node other code e = ap (λ (n : List ℕ). has_code taken n code) ((bytes_eq-Decides node other).0 e)
 
-and_true : (a b : Bool) → (a && b) ≡ true → (a ≡ true) × (b ≡ true)
-and_true true true e = (refl, refl)
-and_true true false e = absurd cc
-and_true false b e = absurd cc
-
-absorbed : (a b : Bool) → (b ≡ true → a ≡ true) → a ≡ (a || b)
-absorbed true b h = refl
-absorbed false true h = absurd (let e = h refl in cc)
-absorbed false false h = refl
-
 -- one code more
 has_more : (taken : Taken) (other : List ℕ) (number : Option ℕ) (node : List ℕ) (code : ℕ) → has_code (with_code taken other number) node code ≡ (has_code taken node code || is_that node code other number)
 has_more taken other None node code = none (bytes_eq node other)
   where
     none : (b : Bool) → has_code taken node code ≡ (has_code taken node code || (b && false))
-    none true = sym (or_last (has_code taken node code))
-    none false = sym (or_last (has_code taken node code))
+    none true = sym (or-false (has_code taken node code))
+    none false = sym (or-false (has_code taken node code))
 has_more taken other (Some new) node code = one (has_code taken other new) refl
   where
     one : (t : Bool) → has_code taken other new ≡ t → has_code (with_code taken other (Some new)) node code ≡ (has_code taken node code || is_that node code other (Some new))
     one true e = rw e (absorbed (has_code taken node code) (is_that node code other (Some new)) (λ both.
-        let parts = and_true (bytes_eq node other) (code == new) both in
+        let parts = and_parts (bytes_eq node other) (code == new) both in
         let name : node ≡ other = (bytes_eq-Decides node other).0 parts.0 in
         let same : code ≡ new = eqb-true code new parts.1 in
         rw (name, same, e) refl))
     one false e =
         rw e (list_any-append (λ k. bytes_eq node k.0 && (code == k.1)) taken ((other, new) ∷ [])
-        ∙ ap (λ (b : Bool). has_code taken node code || b) (or_last (bytes_eq node other && (code == new))))
+        ∙ ap (λ (b : Bool). has_code taken node code || b) (or-false (bytes_eq node other && (code == new))))
 
 bad_here : (taken : Taken) (before : List CodeOn) (c : CodeOn) → ((node : List ℕ) (code : ℕ) → has_code taken node code ≡ have before node code) → is_bad_by taken c ≡ is_bad_code before c
 bad_here taken before c same = one (code_of c.number.text) refl
   where
-    any_same : {X : Type 0} (p q : X → Bool) → ((x : X) → p x ≡ q x) → (xs : List X) → list_any p xs ≡ list_any q xs
-    any_same p q same [] = refl
-    any_same p q same (x ∷ xs) = ap (λ (b : Bool). b || list_any p xs) (same x) ∙ ap (λ (b : Bool). q x || b) (any_same p q same xs)
-
     one : (number : Option ℕ) → code_of c.number.text ≡ number → is_bad_by taken c ≡ is_bad_code before c
     one None e = rw e refl
     one (Some code) e =
@@ -78,7 +62,7 @@ bad_from taken before (c ∷ codes) same =
     more node code =
         has_more taken c.node.text (code_of c.number.text) node code
         ∙ ap (λ (b : Bool). b || is_that node code c.node.text (code_of c.number.text)) (same node code)
-        ∙ ap (λ (b : Bool). have before node code || b) (sym (or_last (is_that node code c.node.text (code_of c.number.text))))
+        ∙ ap (λ (b : Bool). have before node code || b) (sym (or-false (is_that node code c.node.text (code_of c.number.text))))
         ∙ sym (list_any-append (λ (b : CodeOn). bytes_eq node b.node.text && is_same_code (Some code) (code_of b.number.text)) before (c ∷ []))
 
 -- the numbers that a table finds bad are those that are no code, or stood before

@@ -2,24 +2,14 @@
 use Rattle.std.proofs.Common.{◌≡◌, ℕ, ◌||◌, ◌&&◌, Bool, true, false, not, List, [], ◌∷◌, ◌++◌, Option, Some, None, refl, sym, ap, ◌∙◌}
 use Rattle.std.specs.List.{list_any}
 use Rattle.std.proofs.lemmas.List.Folds.{list_any-append}
+use Rattle.std.proofs.Math.Bool.{or-false, and-false, and-true}
+use Rattle.flux_syntax.proofs.Found.{any_same}
 use Rattle.flux_syntax.specs.declared.declarations.Word.{Word}
 use Rattle.flux_syntax.specs.declared.declarations.Decl.{Decl}
 use Rattle.flux_syntax.specs.Words.{known, and_name}
 use Rattle.flux_names.specs.Rows.{is_patterned, have_one_name, repeats, listed_if, repeated_after}
 use Rattle.flux_names.specs.steps.Repeats.{repeated_in, and_plain, repeated_by}
 use Rattle.flux_names.proofs.Symbols.{is_text, known_and_name}
-
-or_none : (b : Bool) → (b || false) ≡ b
-or_none true = refl
-or_none false = refl
-
-and_all : (b : Bool) → (b && true) ≡ b
-and_all true = refl
-and_all false = refl
-
-and_none : (b : Bool) → (b && false) ≡ false
-and_none true = refl
-and_none false = refl
 
 -- the lines before that have a name, and those of them that are plain
 abbrev have : (Decl → Option Word) → Word → List Decl → Bool
@@ -38,7 +28,7 @@ same_name word None = refl
 same_name word (Some other) = refl
 
 none_of : (decl : Decl) → is_patterned decl ≡ false → (name : Bool) → name ≡ (name && not (is_patterned decl))
-none_of decl e name = rw e (sym (and_all name))
+none_of decl e name = rw e (sym (and-true name))
 
 -- one line more
 are_of_more : (sort : Decl → Option Word) (names plain : List (List ℕ)) (before : List Decl) (decl : Decl) → AreOf sort names plain before
@@ -52,21 +42,21 @@ are_of_more sort names plain before decl are = record { all = all_more; some = s
     all_more word =
         known_and_name names (sort decl) word.text
         ∙ ap (λ (b : Bool). b || is_text word.text (sort decl)) (are.all word)
-        ∙ ap (λ (b : Bool). have sort word before || b) (same_name word (sort decl) ∙ sym (or_none (have_one_name (Some word) (sort decl))))
+        ∙ ap (λ (b : Bool). have sort word before || b) (same_name word (sort decl) ∙ sym (or-false (have_one_name (Some word) (sort decl))))
         ∙ sym (list_any-append (λ e. have_one_name (Some word) (sort e)) before (decl ∷ []))
 
     last_plain : (word : Word) → have_plain sort word (before ++ decl ∷ []) ≡ (have_plain sort word before || (have_one_name (Some word) (sort decl) && not (is_patterned decl)))
     last_plain word =
         list_any-append (λ e. have_one_name (Some word) (sort e) && not (is_patterned e)) before (decl ∷ [])
-        ∙ ap (λ (b : Bool). have_plain sort word before || b) (or_none (have_one_name (Some word) (sort decl) && not (is_patterned decl)))
+        ∙ ap (λ (b : Bool). have_plain sort word before || b) (or-false (have_one_name (Some word) (sort decl) && not (is_patterned decl)))
 
     some_more : (t : Bool) → is_patterned decl ≡ t → (word : Word) → known (and_plain plain sort decl) word.text ≡ have_plain sort word (before ++ decl ∷ [])
     some_more true e word =
-        let last : (have_one_name (Some word) (sort decl) && not (is_patterned decl)) ≡ false = rw e (and_none (have_one_name (Some word) (sort decl))) in
+        let last : (have_one_name (Some word) (sort decl) && not (is_patterned decl)) ≡ false = rw e (and-false (have_one_name (Some word) (sort decl))) in
         let this : known (and_plain plain sort decl) word.text ≡ known plain word.text = rw e refl in
-        this ∙ are.some word ∙ sym (or_none (have_plain sort word before)) ∙ ap (λ (b : Bool). have_plain sort word before || b) (sym last) ∙ sym (last_plain word)
+        this ∙ are.some word ∙ sym (or-false (have_plain sort word before)) ∙ ap (λ (b : Bool). have_plain sort word before || b) (sym last) ∙ sym (last_plain word)
     some_more false e word =
-        let last : have_one_name (Some word) (sort decl) ≡ (have_one_name (Some word) (sort decl) && not (is_patterned decl)) = rw e (sym (and_all (have_one_name (Some word) (sort decl)))) in
+        let last : have_one_name (Some word) (sort decl) ≡ (have_one_name (Some word) (sort decl) && not (is_patterned decl)) = rw e (sym (and-true (have_one_name (Some word) (sort decl)))) in
         let this : known (and_plain plain sort decl) word.text ≡ known (and_name plain (sort decl)) word.text = rw e refl in
         this
         ∙ known_and_name plain (sort decl) word.text
@@ -75,10 +65,6 @@ are_of_more sort names plain before decl are = record { all = all_more; some = s
         ∙ sym (last_plain word)
 
 -- what repeats a line before is known
-any_same : {X : Type 0} (p q : X → Bool) → ((x : X) → p x ≡ q x) → (xs : List X) → list_any p xs ≡ list_any q xs
-any_same p q same [] = refl
-any_same p q same (x ∷ xs) = ap (λ (b : Bool). b || list_any p xs) (same x) ∙ ap (λ (b : Bool). q x || b) (any_same p q same xs)
-
 known_here : (sort : Decl → Option Word) (names plain : List (List ℕ)) (before : List Decl) (decl : Decl) → AreOf sort names plain before
     → repeated_in sort names plain decl ≡ listed_if (list_any (repeats sort decl) before) (sort decl)
 known_here sort names plain before decl are = one (sort decl) refl (is_patterned decl) refl
@@ -93,7 +79,7 @@ known_here sort names plain before decl are = one (sort decl) refl (is_patterned
         let same : have_plain sort word before ≡ list_any (repeats sort decl) before = any_same (λ (x : Decl). have_one_name (Some word) (sort x) && not (is_patterned x)) (repeats sort decl) (λ x. rw (e, i) refl) before in
         rw (e, i) (ap (λ (b : Bool). listed_if b (Some word)) (are.some word ∙ same))
     one (Some word) e false i =
-        let same : have sort word before ≡ list_any (repeats sort decl) before = any_same (λ (x : Decl). have_one_name (Some word) (sort x)) (repeats sort decl) (λ x. rw (e, i) (sym (and_all (have_one_name (Some word) (sort x))))) before in
+        let same : have sort word before ≡ list_any (repeats sort decl) before = any_same (λ (x : Decl). have_one_name (Some word) (sort x)) (repeats sort decl) (λ x. rw (e, i) (sym (and-true (have_one_name (Some word) (sort x))))) before in
         rw (e, i) (ap (λ (b : Bool). listed_if b (Some word)) (are.all word ∙ same))
 
 repeated_from : (sort : Decl → Option Word) (names plain : List (List ℕ)) (before decls : List Decl) → AreOf sort names plain before → repeated_by sort names plain decls ≡ repeated_after sort before decls

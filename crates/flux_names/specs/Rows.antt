@@ -19,7 +19,6 @@ use Rattle.flux_syntax.specs.declared.declarations.Decl.TheVariants.{Signature, 
 use Rattle.flux_syntax.specs.Words.{naming, sourced, defined, names_of, first_words, texts_of, known, listed, spelling}
 use Rattle.flux_syntax.specs.ProgramOfText.{library_name, decimal_value, class_of, constraints_of, is_on}
 use Rattle.flux_syntax.specs.Least.{Row}
-use Rattle.flux_names.specs.declared.rows.TheConstants.{NODE_LIMIT, CLASS_LIMIT, CODE_LIMIT}
 
 -- ---- words of declarations
 
@@ -227,6 +226,12 @@ misused_sources meaning decls =
 
 -- ---- 14: there are more than 4,096 nodes or 256 classes
 
+abbrev pub node_limit : ℕ
+node_limit = 4096
+
+abbrev pub class_limit : ℕ
+class_limit = 256
+
 -- the words of the constraints whose class no constraint before has
 abbrev pub class_words_after : List Constraint → List Constraint → List Word
 class_words_after before [] = []
@@ -239,7 +244,7 @@ class_words decls = class_words_after [] (flat_map constraints_of decls)
 
 -- the words that name a new node beyond the 4,096th, and those of new classes beyond the 256th
 abbrev pub too_many : List Decl → List Word
-too_many decls = drop NODE_LIMIT (first_words decls) ++ drop CLASS_LIMIT (class_words decls)
+too_many decls = drop node_limit (first_words decls) ++ drop class_limit (class_words decls)
 
 -- ---- 28: a number in a `handle` line isn't 1 to 256 in decimal without leading zeros, or stood
 -- before it in a `handle` line of the same node
@@ -251,7 +256,7 @@ begins_with_zero (digit ∷ digits) = digit == 48
 -- from 1 to 256 in decimal without leading zeros
 abbrev pub is_code : List ℕ → Bool
 is_code digits = list_all is_digit digits && not (begins_with_zero digits)
-    && nat_le 1 (decimal_value digits) && nat_le (decimal_value digits) CODE_LIMIT
+    && nat_le 1 (decimal_value digits) && nat_le (decimal_value digits) 256
 
 -- the code that digits spell, if they spell one
 abbrev pub code_of : List ℕ → Option ℕ

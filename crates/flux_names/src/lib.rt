@@ -17,8 +17,6 @@ mod resolving;
 mod rows;
 mod signatures;
 mod sorts;
-#[cfg(test)]
-mod tests;
 mod uses;
 mod words;
 

@@ -64,11 +64,6 @@ module _ (names : List (List ℕ)) (sigs : ℕ → NodeSig) (all : List Decl) wh
           ≡ soonest place ((if t then [] else target ∷ []) ++ flat_map (unlike_target (word_sig names sigs)) decls)
       one true others = others place
       one false others = others (Some (sooner place target.at))
-  targets_pass (Signature name ins outs ∷ decls) place = targets_pass decls place
-  targets_pass (Flow name patterns members ∷ decls) place = targets_pass decls place
-  targets_pass (Typedef name function ∷ decls) place = targets_pass decls place
-  targets_pass (Atomic node constraints ∷ decls) place = targets_pass decls place
-  targets_pass (Session source function ∷ decls) place = targets_pass decls place
   targets_pass (other ∷ decls) place = targets_pass decls place
 
 -- ---- nodes

@@ -1,55 +1,33 @@
--- Where none of the rows 16 to 20, 22 and 23 stands, the kinds of the signatures agree.
-use Rattle.std.proofs.Common.{◌≡◌, ◌+◌, ◌<◌, ◌≤◌, ◌==◌, ℕ, zero, suc, eqb, Bool, true, false, ◌||◌, ◌&&◌, if◌then◌else◌, cond, List, [], ◌∷◌, ◌++◌, length, map, Option, Some, None, refl, sym, ap, subst, ◌∙◌, arith}
+-- Where none of the rows 16 to 20, 22 and 23 stands, the types of the signatures agree.
+use Rattle.std.proofs.Common.{◌≡◌, ◌+◌, ◌<◌, ◌≤◌, ◌==◌, ℕ, suc, eqb, Bool, true, false, ◌||◌, ◌&&◌, if◌then◌else◌, List, [], ◌∷◌, ◌++◌, length, map, Option, Some, None, refl, sym, ap, subst, ◌∙◌, arith}
 use Rattle.std.specs.List.{slice_get, flat_map, filter_map, list_any, cons_option, position_or_len, AllByRecursion}
 use Rattle.std.specs.Str.{bytes_eq}
 use Rattle.std.proofs.lemmas.Bool.Decides.{nat_tests}
 use Rattle.std.proofs.lemmas.Option.{slice_get_within}
 use Rattle.std.proofs.lemmas.Slice.Eq.{bytes_eq-Decides}
+use Rattle.std.proofs.lemmas.Bool.{and_parts}
 use Rattle.flux_values.specs.declared.values.Kind.{Kind}
 use Rattle.flux_values.specs.Meanings.{LibraryMeaning}
 use Rattle.flux_model.specs.declared.programs.NodeNo.{NodeNo}
-use Rattle.flux_model.specs.declared.programs.Node.{Node}
 use Rattle.flux_model.specs.declared.programs.Case.{Case}
-use Rattle.flux_model.specs.declared.programs.Body.{Body}
-use Rattle.flux_model.specs.declared.programs.Body.TheVariants.{Concrete, Abstract}
 use Rattle.flux_model.specs.declared.programs.SourceLine.{SourceLine}
 use Rattle.flux_model.specs.declared.signatures.TypeText.{TypeText}
 use Rattle.flux_model.specs.declared.signatures.NodeSig.{NodeSig}
-use Rattle.flux_model.specs.Kinds.{NodeKinds, kinds_of, node_kinds, Join, AreCasesJoined, Fits}
-use Rattle.flux_model.specs.Ordering.{IsOrder}
-use Rattle.flux_model.specs.Soundness.{TakesKind, IsPatternLike, ArePatternsLike, FitPatterns, FitBody, IsSessionLike}
+use Rattle.flux_model.specs.Kinds.{NodeKinds, kinds_of, node_kinds}
+use Rattle.flux_model.specs.Soundness.{TakesKind, IsPatternLike, ArePatternsLike, FitPatterns, IsSessionLike}
 use Rattle.flux_model.specs.Types.{same_types}
 use Rattle.flux_syntax.specs.declared.declarations.Word.{Word}
 use Rattle.flux_syntax.specs.declared.declarations.Param.{Param}
 use Rattle.flux_syntax.specs.declared.declarations.Decl.{Decl}
-use Rattle.flux_syntax.specs.declared.declarations.Decl.TheVariants.{Signature, Flow, Source, Typedef, Handler, Atomic, Session}
+use Rattle.flux_syntax.specs.declared.declarations.Decl.TheVariants.{Signature, Flow, Source, Typedef, Session}
 use Rattle.flux_syntax.specs.Words.{names_of, texts_of, defined, function_of}
-use Rattle.flux_syntax.specs.ProgramOfText.{place_of, number_of, pattern_of, patterns_of, case_of, is_signed, body_of, library_name, node_of, source_of, session_of, classes_of, program_of}
+use Rattle.flux_syntax.specs.ProgramOfText.{place_of, number_of, pattern_of, patterns_of, case_of, is_signed, source_of, session_of, program_of}
 use Rattle.flux_syntax.specs.Least.{soonest, first_fault}
 use Rattle.flux_syntax.proofs.NumberedNames.{place_at, known_at, known_within}
 use Rattle.flux_syntax.proofs.RowLemmas.{none_soonest, no_fault, none_either, none_each, holds_unless}
-use Rattle.flux_types.specs.Signatures.{Kinds, line_sig, written, last_of, nodes_of, sig_of}
-use Rattle.flux_types.specs.Rows.{WordSigs, sigs_of, have_kinds, unless, unjoined_after, unjoined, unjoined_in, has_count, miscounted_in, is_like_node, unlike_node_in, function_named, taken_by, predicates_of, takes, unlike_input, unlike_inputs, unlike_predicates_in, unlike_target, takes_all, unlike_source, flow_rows, sig_rows, source_rows}
-use Rattle.flux_types.proofs.SpelledTypes.{both_true, kind_same, kinds_had, kinds_same, sig_spelled}
-use Rattle.flux_types.proofs.Written.{sig_rule}
-
--- ---- names of nodes
-
-found_from : {X Y : Type 0} (f : X → Y) (xs : List X) (k : ℕ) (y : Y) → slice_get (map f xs) k ≡ Some y → (x : X) × (slice_get xs k ≡ Some x) × (f x ≡ y)
-found_from f [] k y e = absurd cc
-found_from f (x ∷ xs) zero y e = (x, refl, cc)
-found_from f (x ∷ xs) (suc k) y e = found_from f xs k y e
-
--- a node is made of the lines of its name
-pub record IsMade (decls : List Decl) (number : ℕ) (node : Node) : Type 0 where
-  pub name : List ℕ
-  pub at : slice_get (names_of decls) number ≡ Some name
-  pub is : node ≡ node_of (names_of decls) (texts_of defined decls) (classes_of decls) decls name
-
-pub node_made : (decls : List Decl) (number : ℕ) (node : Node) → slice_get (nodes_of decls) number ≡ Some node → IsMade decls number node
-node_made decls number node at =
-    let (name, found, is) = found_from (node_of (names_of decls) (texts_of defined decls) (classes_of decls) decls) (names_of decls) number node at in
-    record { name = name; at = found; is = sym is }
+use Rattle.flux_types.specs.Signatures.{Kinds, line_sig, written, last_of, sig_of}
+use Rattle.flux_types.specs.Rows.{WordSigs, sigs_of, unless, unjoined_after, unjoined, unjoined_in, has_count, miscounted_in, is_like_node, unlike_node_in, function_named, taken_by, predicates_of, takes, unlike_input, unlike_inputs, unlike_predicates_in, unlike_target, takes_all, unlike_source, flow_rows, sig_rows, source_rows}
+use Rattle.flux_types.proofs.SpelledTypes.{kind_same, kinds_had, types_same, sig_spelled}
 
 -- ---- predicates
 
@@ -64,11 +42,6 @@ function_at (Typedef name function ∷ decls) word = one (bytes_eq word.text nam
     one false e others =
         let place = place_of (texts_of defined decls) word in
         rw e (ap (slice_get (texts_of function_of (Typedef name function ∷ decls))) (let same : 1 + place ≡ suc place = omega arith in same) ∙ others)
-function_at (Signature name ins outs ∷ decls) word = function_at decls word
-function_at (Flow name patterns members ∷ decls) word = function_at decls word
-function_at (Source name target ∷ decls) word = function_at decls word
-function_at (Atomic node constraints ∷ decls) word = function_at decls word
-function_at (Session source function ∷ decls) word = function_at decls word
 function_at (other ∷ decls) word = function_at decls word
 
 module _ (meaning : LibraryMeaning) (decls : List Decl) where
@@ -108,7 +81,7 @@ module _ (meaning : LibraryMeaning) (decls : List Decl) where
       let p = none_either (unlike_predicates_in sigs (predicates_of meaning decls) x) (flat_map (unlike_predicates_in sigs (predicates_of meaning decls)) ds) d in
       (record { joined = j.0; counted = k.0; like = l.0; takes_inputs = p.0 }, each_typed ds j.1 k.1 l.1 p.1)
 
-  typed_decls : first_fault (sig_rows meaning decls) ≡ None → AllByRecursion IsTypedDecl decls
+  pub typed_decls : first_fault (sig_rows meaning decls) ≡ None → AllByRecursion IsTypedDecl decls
   typed_decls sound =
       let hollow = no_fault _ _ (first_fault (flow_rows sigs (predicates_of meaning decls) decls)) sound in
       let a = no_fault _ (soonest None (flat_map (unjoined_in sigs) decls)) _ hollow.1 in
@@ -119,67 +92,67 @@ module _ (meaning : LibraryMeaning) (decls : List Decl) where
 
   -- ---- cases
 
-  same_kinds_outs_ins : (a b : ℕ) → (let from = sig_of kind decls a in let to = sig_of kind decls b in same_types from.outs to.ins ≡ true) → NodeKinds.outs (kinds a) ≡ NodeKinds.ins (kinds b)
-  same_kinds_outs_ins a b e = let from = sig_spelled kind decls a in let to = sig_spelled kind decls b in kinds_same kind _ _ from.outs to.ins e
+  abbrev S : ℕ → NodeSig
+  S = sig_of kind decls
 
-  same_kinds_ins : (a b : ℕ) → (let from = sig_of kind decls a in let to = sig_of kind decls b in same_types from.ins to.ins ≡ true) → NodeKinds.ins (kinds a) ≡ NodeKinds.ins (kinds b)
-  same_kinds_ins a b e = let from = sig_spelled kind decls a in let to = sig_spelled kind decls b in kinds_same kind _ _ from.ins to.ins e
+  same_outs_ins : (a b : ℕ) → (let from = S a in let to = S b in same_types from.outs to.ins ≡ true) → NodeSig.outs (S a) ≡ NodeSig.ins (S b)
+  same_outs_ins a b e = let from = sig_spelled kind decls a in let to = sig_spelled kind decls b in types_same kind _ _ from.outs to.ins e
 
-  same_kinds_outs : (a b : ℕ) → (let from = sig_of kind decls a in let to = sig_of kind decls b in same_types from.outs to.outs ≡ true) → NodeKinds.outs (kinds a) ≡ NodeKinds.outs (kinds b)
-  same_kinds_outs a b e = let from = sig_spelled kind decls a in let to = sig_spelled kind decls b in kinds_same kind _ _ from.outs to.outs e
+  -- nodes whose inputs are spelled alike take the same types
+  pub same_ins : (a b : ℕ) → (let from = S a in let to = S b in same_types from.ins to.ins ≡ true) → NodeSig.ins (S a) ≡ NodeSig.ins (S b)
+  same_ins a b e = let from = sig_spelled kind decls a in let to = sig_spelled kind decls b in types_same kind _ _ from.ins to.ins e
 
-  same_kinds_own : (a : ℕ) → (let own = sig_of kind decls a in same_types own.ins own.outs ≡ true) → NodeKinds.ins (kinds a) ≡ NodeKinds.outs (kinds a)
-  same_kinds_own a e = let own = sig_spelled kind decls a in kinds_same kind _ _ own.ins own.outs e
+  same_outs : (a b : ℕ) → (let from = S a in let to = S b in same_types from.outs to.outs ≡ true) → NodeSig.outs (S a) ≡ NodeSig.outs (S b)
+  same_outs a b e = let from = sig_spelled kind decls a in let to = sig_spelled kind decls b in types_same kind _ _ from.outs to.outs e
 
-  joined_after : (from : Word) (words : List Word) (outs : List Kind) → unjoined_after sigs from words ≡ [] → NodeKinds.outs (kinds (place_of names (last_of from words))) ≡ outs
-      → Join kinds (NodeKinds.outs (kinds (place_of names from))) (map (number_of names) words) outs
-  joined_after from [] outs e last = last
+  same_own : (a : ℕ) → (let own = S a in same_types own.ins own.outs ≡ true) → NodeSig.ins (S a) ≡ NodeSig.outs (S a)
+  same_own a e = let own = sig_spelled kind decls a in types_same kind _ _ own.ins own.outs e
+
+  -- what there is before each member, and after the last, is what each member takes, and what comes out
+  abbrev pub Joined : List TypeText → List NodeNo → List TypeText → Type 0
+  Joined types members outs =
+      types ∷ map (λ member. let own = S member.0 in own.outs) members ≡ map (λ member. let own = S member.0 in own.ins) members ++ outs ∷ []
+
+  joined_after : (from : Word) (words : List Word) (outs : List TypeText) → unjoined_after sigs from words ≡ [] → NodeSig.outs (S (place_of names (last_of from words))) ≡ outs
+      → Joined (NodeSig.outs (S (place_of names from))) (map (number_of names) words) outs
+  joined_after from [] outs e last = λ i. last i ∷ []
   joined_after from (to ∷ words) outs e last =
       let before = sigs from in let after = sigs to in
       let both = none_either (unless (same_types before.outs after.ins) to) (unjoined_after sigs to words) e in
-      (same_kinds_outs_ins (place_of names from) (place_of names to) (holds_unless (same_types before.outs after.ins) to both.0), joined_after to words outs both.1 last)
+      let first = same_outs_ins (place_of names from) (place_of names to) (holds_unless (same_types before.outs after.ins) to both.0) in
+      let rest = joined_after to words outs both.1 last in
+      λ i. first i ∷ rest i
 
   case_joined : (number : ℕ) (name : Word) (patterns : Option (List (Option Word))) (members : List Word) → place_of names name ≡ number → IsTypedDecl (Flow name patterns members)
-      → Join kinds (NodeKinds.ins (kinds number)) (map (number_of names) members) (NodeKinds.outs (kinds number))
-  case_joined number name patterns members stands typed = subst (λ (n : ℕ). Join kinds (NodeKinds.ins (kinds n)) (map (number_of names) members) (NodeKinds.outs (kinds n))) stands (one members typed.joined (holds_unless (is_like_node sigs (sigs name) members) name typed.like))
+      → Joined (NodeSig.ins (S number)) (map (number_of names) members) (NodeSig.outs (S number))
+  case_joined number name patterns members stands typed = subst (λ (n : ℕ). Joined (NodeSig.ins (S n)) (map (number_of names) members) (NodeSig.outs (S n))) stands (one members typed.joined (holds_unless (is_like_node sigs (sigs name) members) name typed.like))
     where
       own : ℕ
       own = place_of names name
 
-      one : (members : List Word) → unjoined sigs members ≡ [] → is_like_node sigs (sigs name) members ≡ true → Join kinds (NodeKinds.ins (kinds own)) (map (number_of names) members) (NodeKinds.outs (kinds own))
-      one [] joined like = same_kinds_own own like
+      one : (members : List Word) → unjoined sigs members ≡ [] → is_like_node sigs (sigs name) members ≡ true → Joined (NodeSig.ins (S own)) (map (number_of names) members) (NodeSig.outs (S own))
+      one [] joined like = let same = same_own own like in λ i. same i ∷ []
       one (first ∷ words) joined like =
           let mine = sigs name in let from = sigs first in let to = sigs (last_of first words) in
-          let both = both_true (same_types from.ins mine.ins) (same_types to.outs mine.outs) like in
-          (sym (same_kinds_ins (place_of names first) own both.0), joined_after first words (NodeKinds.outs (kinds own)) joined (same_kinds_outs (place_of names (last_of first words)) own both.1))
+          let both = and_parts (same_types from.ins mine.ins) (same_types to.outs mine.outs) like in
+          let begins = sym (same_ins (place_of names first) own both.0) in
+          let rest = joined_after first words (NodeSig.outs (S own)) joined (same_outs (place_of names (last_of first words)) own both.1) in
+          λ i. begins i ∷ rest i
 
-  cases_joined : (number : ℕ) (name : List ℕ) → slice_get names number ≡ Some name → (ds : List Decl) → AllByRecursion IsTypedDecl ds
-      → AllByRecursion (λ case. Join kinds (NodeKinds.ins (kinds number)) case.members (NodeKinds.outs (kinds number))) (filter_map (case_of names types name) ds)
+  -- each case takes and gives what its node does
+  pub cases_joined : (number : ℕ) (name : List ℕ) → slice_get names number ≡ Some name → (ds : List Decl) → AllByRecursion IsTypedDecl ds
+      → AllByRecursion (λ case. Joined (NodeSig.ins (S number)) case.members (NodeSig.outs (S number))) (filter_map (case_of names types name) ds)
   cases_joined number name at [] all = tt
   cases_joined number name at (Flow own patterns members ∷ ds) all = one (bytes_eq own.text name) refl (cases_joined number name at ds all.1)
     where
-      one : (t : Bool) → bytes_eq own.text name ≡ t → AllByRecursion (λ case. Join kinds (NodeKinds.ins (kinds number)) case.members (NodeKinds.outs (kinds number))) (filter_map (case_of names types name) ds)
-          → AllByRecursion (λ case. Join kinds (NodeKinds.ins (kinds number)) case.members (NodeKinds.outs (kinds number)))
-          (cons_option (if t then Some (record { patterns = patterns_of types patterns; members = map (number_of names) members }) else None) (filter_map (case_of names types name) ds))
+      Are : List Case → Type 0
+      Are cases = AllByRecursion (λ case. Joined (NodeSig.ins (S number)) case.members (NodeSig.outs (S number))) cases
+
+      one : (t : Bool) → bytes_eq own.text name ≡ t → Are (filter_map (case_of names types name) ds)
+          → Are (cons_option (if t then Some (record { patterns = patterns_of types patterns; members = map (number_of names) members }) else None) (filter_map (case_of names types name) ds))
       one true e others = (case_joined number own patterns members (place_at decls number name own.text at e) all.0, others)
       one false e others = others
-  cases_joined number name at (Signature n ins outs ∷ ds) all = cases_joined number name at ds all.1
-  cases_joined number name at (Source n target ∷ ds) all = cases_joined number name at ds all.1
-  cases_joined number name at (Typedef n function ∷ ds) all = cases_joined number name at ds all.1
-  cases_joined number name at (Atomic n constraints ∷ ds) all = cases_joined number name at ds all.1
-  cases_joined number name at (Session source function ∷ ds) all = cases_joined number name at ds all.1
   cases_joined number name at (other ∷ ds) all = cases_joined number name at ds all.1
-
-  -- each case takes and gives what its node does
-  pub nodes_joined : first_fault (sig_rows meaning decls) ≡ None → (number : ℕ) (node : Node) → slice_get (nodes_of decls) number ≡ Some node → AreCasesJoined kinds (kinds number) node.body
-  nodes_joined sound number node at =
-      let made = node_made decls number node at in
-      subst (λ (n : Node). AreCasesJoined kinds (kinds number) n.body) (sym made.is) (one made.name (list_any (is_signed made.name) decls) (cases_joined number made.name made.at decls (typed_decls sound)))
-    where
-      one : (name : List ℕ) (t : Bool) → AllByRecursion (λ case. Join kinds (NodeKinds.ins (kinds number)) case.members (NodeKinds.outs (kinds number))) (filter_map (case_of names types name) decls)
-          → AreCasesJoined kinds (kinds number) (if t then Concrete (library_name name) else Abstract (filter_map (case_of names types name) decls))
-      one name true all = tt
-      one name false all = all
 
   -- ---- patterns
 
@@ -213,7 +186,8 @@ module _ (meaning : LibraryMeaning) (decls : List Decl) where
       let many = holds_unless (has_count own.ins (Some (pattern ∷ patterns))) name typed.counted in
       patterns_like (pattern ∷ patterns) own.ins (grind (arith, nat_tests, many)) typed.takes_inputs
 
-  cases_fit : (number : ℕ) (name : List ℕ) → slice_get names number ≡ Some name → (ds : List Decl) → AllByRecursion IsTypedDecl ds
+  -- the patterns of each case take the kinds of their places
+  pub cases_fit : (number : ℕ) (name : List ℕ) → slice_get names number ≡ Some name → (ds : List Decl) → AllByRecursion IsTypedDecl ds
       → AllByRecursion (λ case. FitPatterns meaning functions (NodeKinds.ins (kinds number)) case.patterns) (filter_map (case_of names types name) ds)
   cases_fit number name at [] all = tt
   cases_fit number name at (Flow own patterns members ∷ ds) all = one (bytes_eq own.text name) refl (cases_fit number name at ds all.1)
@@ -223,36 +197,18 @@ module _ (meaning : LibraryMeaning) (decls : List Decl) where
           (cons_option (if t then Some (record { patterns = patterns_of types patterns; members = map (number_of names) members }) else None) (filter_map (case_of names types name) ds))
       one true e others = (subst (λ (n : ℕ). FitPatterns meaning functions (NodeKinds.ins (kinds n)) (patterns_of types patterns)) (place_at decls number name own.text at e) (case_fits own patterns members all.0), others)
       one false e others = others
-  cases_fit number name at (Signature n ins outs ∷ ds) all = cases_fit number name at ds all.1
-  cases_fit number name at (Source n target ∷ ds) all = cases_fit number name at ds all.1
-  cases_fit number name at (Typedef n function ∷ ds) all = cases_fit number name at ds all.1
-  cases_fit number name at (Atomic n constraints ∷ ds) all = cases_fit number name at ds all.1
-  cases_fit number name at (Session source function ∷ ds) all = cases_fit number name at ds all.1
   cases_fit number name at (other ∷ ds) all = cases_fit number name at ds all.1
-
-  -- the patterns of each case take the kinds of their places
-  pub nodes_fit : first_fault (sig_rows meaning decls) ≡ None → (number : ℕ) (node : Node) → slice_get (nodes_of decls) number ≡ Some node → FitBody meaning functions (kinds number) node.body
-  nodes_fit sound number node at =
-      let made = node_made decls number node at in
-      subst (λ (n : Node). FitBody meaning functions (kinds number) n.body) (sym made.is) (one made.name (list_any (is_signed made.name) decls) (cases_fit number made.name made.at decls (typed_decls sound)))
-    where
-      one : (name : List ℕ) (t : Bool) → AllByRecursion (λ case. FitPatterns meaning functions (NodeKinds.ins (kinds number)) case.patterns) (filter_map (case_of names types name) decls)
-          → FitBody meaning functions (kinds number) (if t then Concrete (library_name name) else Abstract (filter_map (case_of names types name) decls))
-      one name true all = tt
-      one name false all = all
 
   -- ---- sources
 
-  lines_fit : (ds : List Decl) → AllByRecursion (λ d. unlike_target sigs d ≡ []) ds → AllByRecursion (Fits kinds) (filter_map (source_of names decls) ds)
+  abbrev IsFed : SourceLine → Type 0
+  IsFed line = let from = S line.node.0 in let to = S line.target.0 in from.outs ≡ to.ins
+
+  lines_fit : (ds : List Decl) → AllByRecursion (λ d. unlike_target sigs d ≡ []) ds → AllByRecursion IsFed (filter_map (source_of names decls) ds)
   lines_fit [] all = tt
   lines_fit (Source name target ∷ ds) all =
       let from = sigs name in let to = sigs target in
-      (same_kinds_outs_ins (place_of names name) (place_of names target) (holds_unless (same_types from.outs to.ins) target all.0), lines_fit ds all.1)
-  lines_fit (Signature n ins outs ∷ ds) all = lines_fit ds all.1
-  lines_fit (Flow n patterns members ∷ ds) all = lines_fit ds all.1
-  lines_fit (Typedef n function ∷ ds) all = lines_fit ds all.1
-  lines_fit (Atomic n constraints ∷ ds) all = lines_fit ds all.1
-  lines_fit (Session source function ∷ ds) all = lines_fit ds all.1
+      (same_outs_ins (place_of names name) (place_of names target) (holds_unless (same_types from.outs to.ins) target all.0), lines_fit ds all.1)
   lines_fit (other ∷ ds) all = lines_fit ds all.1
 
   abbrev TakesSource : Word → Option (List ℕ) → Type 0
@@ -273,11 +229,6 @@ module _ (meaning : LibraryMeaning) (decls : List Decl) where
           let from = sigs own in
           taken (meaning.session function.text) (holds_unless (takes_all (meaning.session function.text) from.outs) function all.0)
           ∙ ap (λ (text : List ℕ). Some (NodeKinds.outs (kinds (position_or_len (bytes_eq text) names)))) same
-  session_like source (Signature n ins outs ∷ ds) all = session_like source ds all.1
-  session_like source (Flow n patterns members ∷ ds) all = session_like source ds all.1
-  session_like source (Source n target ∷ ds) all = session_like source ds all.1
-  session_like source (Typedef n function ∷ ds) all = session_like source ds all.1
-  session_like source (Atomic n constraints ∷ ds) all = session_like source ds all.1
   session_like source (other ∷ ds) all = session_like source ds all.1
 
   abbrev IsServed : SourceLine → Type 0
@@ -286,15 +237,10 @@ module _ (meaning : LibraryMeaning) (decls : List Decl) where
   lines_served : AllByRecursion (λ d. unlike_source meaning.session sigs d ≡ []) decls → (ds : List Decl) → AllByRecursion IsServed (filter_map (source_of names decls) ds)
   lines_served all [] = tt
   lines_served all (Source name target ∷ ds) = (session_like name decls all, lines_served all ds)
-  lines_served all (Signature n ins outs ∷ ds) = lines_served all ds
-  lines_served all (Flow n patterns members ∷ ds) = lines_served all ds
-  lines_served all (Typedef n function ∷ ds) = lines_served all ds
-  lines_served all (Atomic n constraints ∷ ds) = lines_served all ds
-  lines_served all (Session source function ∷ ds) = lines_served all ds
   lines_served all (other ∷ ds) = lines_served all ds
 
   -- sources give what their targets take
-  pub sources_fit : first_fault (source_rows meaning decls) ≡ None → let program = program_of decls in AllByRecursion (Fits kinds) program.sources
+  pub sources_fit : first_fault (source_rows meaning decls) ≡ None → let program = program_of decls in AllByRecursion IsFed program.sources
   sources_fit sound =
       let targets = no_fault _ (soonest None (flat_map (unlike_target sigs) decls)) _ sound in
       lines_fit decls (none_each (unlike_target sigs) decls (none_soonest _ targets.0))
@@ -317,7 +263,8 @@ module _ (meaning : LibraryMeaning) (decls : List Decl) where
     pub named : word.text ≡ name
     pub writes : sig ≡ line_sig kind ins outs
 
-  signed_in : (Holds : Decl → Type 0) (number : ℕ) (name : List ℕ) → slice_get names number ≡ Some name → (ds : List Decl) → AllByRecursion Holds ds → list_any (is_signed name) ds ≡ true
+  -- a signed name has such a line
+  pub signed_in : (Holds : Decl → Type 0) (number : ℕ) (name : List ℕ) → slice_get names number ≡ Some name → (ds : List Decl) → AllByRecursion Holds ds → list_any (is_signed name) ds ≡ true
       → IsSigned Holds name (written kind names ds number)
   signed_in Holds number name at [] all any = absurd cc
   signed_in Holds number name at (Signature word ins outs ∷ ds) all any =
@@ -336,27 +283,4 @@ module _ (meaning : LibraryMeaning) (decls : List Decl) where
       one t true e i any more = record { word = word; ins = ins; outs = outs; holds = all.0; named = named (grind (arith, nat_tests, i)); writes = refl }
       one true false e i any more = let same = place_at decls number name word.text at e in absurd (grind (arith, nat_tests, i, same))
       one false false e i any more = more any
-  signed_in Holds number name at (Flow n patterns members ∷ ds) all any = signed_in Holds number name at ds all.1 any
-  signed_in Holds number name at (Source n target ∷ ds) all any = signed_in Holds number name at ds all.1 any
-  signed_in Holds number name at (Typedef n function ∷ ds) all any = signed_in Holds number name at ds all.1 any
-  signed_in Holds number name at (Atomic n constraints ∷ ds) all any = signed_in Holds number name at ds all.1 any
-  signed_in Holds number name at (Session source function ∷ ds) all any = signed_in Holds number name at ds all.1 any
   signed_in Holds number name at (other ∷ ds) all any = signed_in Holds number name at ds all.1 any
-
-  -- a concrete node has what one of its signature lines writes, and what holds of all lines holds of that one
-  pub concrete_signed : (order : List NodeNo) → IsOrder (nodes_of decls) order → (Holds : Decl → Type 0) → AllByRecursion Holds decls
-      → (number : ℕ) (node : Node) (library : List ℕ) → slice_get (nodes_of decls) number ≡ Some node → node.body ≡ Concrete library → (library ≡ library_name node.name) × IsSigned Holds node.name (sig_of kind decls number)
-  concrete_signed order is_order Holds all number node library at body =
-      let made = node_made decls number node at in
-      let name_is : node.name ≡ made.name = ap (λ (n : Node). n.name) made.is in
-      let own : (if list_any (is_signed made.name) decls then Concrete (library_name made.name) else Abstract (filter_map (case_of names types made.name) decls)) ≡ Concrete library = sym (ap (λ (n : Node). n.body) made.is) ∙ body in
-      let rule : sig_of kind decls number ≡ written kind names decls number = sig_rule kind decls order is_order number node at ∙ (rw body refl) in
-      let (lib, any) = one made.name (list_any (is_signed made.name) decls) own in (
-        lib ∙ ap library_name (sym name_is),
-        subst (λ (n : List ℕ). IsSigned Holds n (sig_of kind decls number)) (sym name_is)
-            (subst (IsSigned Holds made.name) (sym rule) (signed_in Holds number made.name made.at decls all any)),
-      )
-    where
-      one : (name : List ℕ) (t : Bool) → (if t then Concrete (library_name name) else Abstract (filter_map (case_of names types name) decls)) ≡ Concrete library → (library ≡ library_name name) × (t ≡ true)
-      one name true e = (cc, refl)
-      one name false e = absurd cc

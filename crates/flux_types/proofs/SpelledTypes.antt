@@ -3,6 +3,7 @@ use Rattle.std.proofs.Common.{◌≡◌, ℕ, zero, suc, Bool, true, false, ◌&
 use Rattle.std.specs.List.{slice_get, AllByRecursion}
 use Rattle.std.specs.Str.{bytes_eq}
 use Rattle.std.proofs.lemmas.Slice.Eq.{bytes_eq-Decides}
+use Rattle.std.proofs.lemmas.Bool.{and_parts}
 use Rattle.flux_values.specs.declared.values.Kind.{Kind}
 use Rattle.flux_values.specs.declared.values.Kind.TheVariants as kinds
 use Rattle.flux_model.specs.declared.signatures.TypeText.{TypeText}
@@ -17,16 +18,11 @@ use Rattle.flux_model.specs.Kinds.{kinds_of}
 use Rattle.flux_model.specs.Types.{same_types}
 use Rattle.flux_syntax.specs.declared.declarations.Param.{Param}
 use Rattle.flux_syntax.specs.declared.declarations.Decl.{Decl}
-use Rattle.flux_syntax.specs.declared.declarations.Decl.TheVariants.{Signature, Flow, Source, Typedef, Atomic, Session}
+use Rattle.flux_syntax.specs.declared.declarations.Decl.TheVariants.{Signature}
 use Rattle.flux_syntax.specs.Words.{spelling, names_of}
 use Rattle.flux_syntax.specs.ProgramOfText.{place_of}
 use Rattle.flux_types.specs.Signatures.{Kinds, with_kind, type_of, types_of, nothing, line_sig, written, last_of, case_sig, cases_sig, body_sig, sig_by, nodes_of, sig_of}
 use Rattle.flux_types.specs.Rows.{same_kind, have_kinds}
-
--- both tests hold
-pub both_true : (p q : Bool) → (p && q) ≡ true → (p ≡ true) × (q ≡ true)
-both_true true q e = (refl, e)
-both_true false q e = absurd cc
 
 -- kinds that are the same are one
 pub kind_same : (a b : Kind) → same_kind a b ≡ true → a ≡ b
@@ -46,7 +42,7 @@ kinds_had [] [] e = refl
 kinds_had [] (k ∷ ks) e = absurd cc
 kinds_had (t ∷ types) [] e = absurd cc
 kinds_had (t ∷ types) (k ∷ ks) e =
-    let both = both_true (same_kind t.kind k) (have_kinds types ks) e in
+    let both = and_parts (same_kind t.kind k) (have_kinds types ks) e in
     let head : k ≡ t.kind = sym (kind_same t.kind k both.0) in
     λ i. head i ∷ kinds_had types ks both.1 i
 
@@ -62,17 +58,17 @@ module _ (kind : Kinds) where
     pub ins : AreSpelled sig.ins
     pub outs : AreSpelled sig.outs
 
-  -- types that are spelled alike have one list of kinds
-  pub kinds_same : (a b : List TypeText) → AreSpelled a → AreSpelled b → same_types a b ≡ true → kinds_of a ≡ kinds_of b
-  kinds_same [] [] x y e = refl
-  kinds_same [] (u ∷ b) x y e = absurd cc
-  kinds_same (t ∷ a) [] x y e = absurd cc
-  kinds_same (t ∷ a) (u ∷ b) x y e =
-      let both = both_true (bytes_eq t.words u.words) (same_types a b) e in
+  -- types that are spelled alike are the same
+  pub types_same : (a b : List TypeText) → AreSpelled a → AreSpelled b → same_types a b ≡ true → a ≡ b
+  types_same [] [] x y e = refl
+  types_same [] (u ∷ b) x y e = absurd cc
+  types_same (t ∷ a) [] x y e = absurd cc
+  types_same (t ∷ a) (u ∷ b) x y e =
+      let both = and_parts (bytes_eq t.words u.words) (same_types a b) e in
       let same : t.words ≡ u.words = (bytes_eq-Decides t.words u.words).0 both.0 in
       let one : ◌≡◌ {A = Option Kind} (Some t.kind) (Some u.kind) = sym x.0 ∙ ap kind same ∙ y.0 in
       let head : t.kind ≡ u.kind = cc in
-      λ i. head i ∷ kinds_same a b x.1 y.1 both.1 i
+      λ i. record { words = same i; kind = head i } ∷ types_same a b x.1 y.1 both.1 i
 
   -- ---- what lines write is spelled so
 
@@ -101,11 +97,6 @@ module _ (kind : Kinds) where
       one : (t : Bool) → IsSigSpelled (written kind names decls number) → IsSigSpelled (if t then line_sig kind ins outs else written kind names decls number)
       one true others = record { ins = types_spelled ins; outs = types_spelled outs }
       one false others = others
-  written_spelled names (Flow name patterns members ∷ decls) number = written_spelled names decls number
-  written_spelled names (Source name target ∷ decls) number = written_spelled names decls number
-  written_spelled names (Typedef name function ∷ decls) number = written_spelled names decls number
-  written_spelled names (Atomic node constraints ∷ decls) number = written_spelled names decls number
-  written_spelled names (Session source function ∷ decls) number = written_spelled names decls number
   written_spelled names (other ∷ decls) number = written_spelled names decls number
 
   -- ---- and so is what nodes have of them

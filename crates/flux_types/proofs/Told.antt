@@ -1,17 +1,17 @@
 -- What a table of predicates tells is what their `typedef` lines say.
-use Rattle.std.proofs.Common.{◌≡◌, ◌+◌, ℕ, suc, Bool, true, false, cond, ◌||◌, if◌then◌else◌, List, [], ◌∷◌, ◌++◌, length, Option, Some, None, refl, sym, ap, ◌∙◌, arith, length-append}
-use Rattle.std.specs.List.{fold, slice_get, list_any, position_or_len}
+use Rattle.std.proofs.Common.{◌≡◌, ◌+◌, ℕ, suc, Bool, true, false, ◌||◌, if◌then◌else◌, List, [], ◌∷◌, ◌++◌, length, Option, Some, None, refl, sym, ap, ◌∙◌, arith, length-append}
+use Rattle.std.specs.List.{fold, slice_get, position_or_len}
 use Rattle.std.specs.Option.{unwrap_or}
 use Rattle.std.specs.Str.{bytes_eq}
 use Rattle.std.proofs.lemmas.Slice.Eq.{bytes_eq-Decides}
+use Rattle.std.proofs.Math.Bool.{or-false, or_assoc}
 use Rattle.flux_values.specs.declared.values.Kind.{Kind}
 use Rattle.flux_values.specs.Meanings.{LibraryMeaning}
 use Rattle.flux_syntax.specs.declared.declarations.Decl.{Decl}
-use Rattle.flux_syntax.specs.declared.declarations.Decl.TheVariants.{Signature, Flow, Source, Typedef, Handler, Atomic, Session}
+use Rattle.flux_syntax.specs.declared.declarations.Decl.TheVariants.{Typedef}
 use Rattle.flux_syntax.specs.Words.{known}
-use Rattle.flux_types.specs.declared.predicates.Predicates as tables
 use Rattle.flux_types.specs.Rows.{taken_by, function_named, predicates_of}
-use Rattle.flux_types.specs.steps.Passing.{kind_in, with_predicate, with_typedef}
+use Rattle.flux_types.specs.steps.Passing.{kind_in, with_typedef}
 
 -- the first of equal names
 abbrev first_kind : List (List ℕ) → List (Option Kind) → List ℕ → Option Kind
@@ -49,16 +49,8 @@ first_more (n ∷ names) (k ∷ kinds) name kind wanted same = one (bytes_eq wan
     one false others = others
 
 known_more : (names : List (List ℕ)) (name wanted : List ℕ) → known (names ++ name ∷ []) wanted ≡ (known names wanted || bytes_eq wanted name)
-known_more [] name wanted = or_false (bytes_eq wanted name)
-  where
-    or_false : (t : Bool) → (t || false) ≡ t
-    or_false true = refl
-    or_false false = refl
-known_more (n ∷ names) name wanted = ap (λ (t : Bool). bytes_eq wanted n || t) (known_more names name wanted) ∙ or_more (bytes_eq wanted n) (known names wanted) (bytes_eq wanted name)
-  where
-    or_more : (a b c : Bool) → (a || (b || c)) ≡ ((a || b) || c)
-    or_more true b c = refl
-    or_more false b c = refl
+known_more [] name wanted = or-false (bytes_eq wanted name)
+known_more (n ∷ names) name wanted = ap (λ (t : Bool). bytes_eq wanted n || t) (known_more names name wanted) ∙ sym (or_assoc (bytes_eq wanted n) (known names wanted) (bytes_eq wanted name))
 
 module _ (meaning : LibraryMeaning) (wanted : List ℕ) where
   abbrev told : List Decl → Option Kind
@@ -123,11 +115,6 @@ module _ (meaning : LibraryMeaning) (wanted : List ℕ) where
           all (names ++ name.text ∷ []) (kinds ++ kind ∷ []) (omega (arith, same, length-append names (name.text ∷ []), length-append kinds (kind ∷ [])))
           ∙ (rw (known_more names name.text wanted, first_more names kinds name.text kind wanted same) (new (known names wanted) (bytes_eq wanted name.text)))
           ∙ ap (or_line (known names wanted) (first_kind names kinds wanted)) (sym (line (bytes_eq wanted name.text)))
-  tells (Signature name ins outs ∷ decls) names kinds same = tells decls names kinds same
-  tells (Flow name patterns members ∷ decls) names kinds same = tells decls names kinds same
-  tells (Source name target ∷ decls) names kinds same = tells decls names kinds same
-  tells (Atomic node constraints ∷ decls) names kinds same = tells decls names kinds same
-  tells (Session source function ∷ decls) names kinds same = tells decls names kinds same
   tells (other ∷ decls) names kinds same = tells decls names kinds same
 
 -- the table of all `typedef` lines

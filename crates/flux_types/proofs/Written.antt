@@ -65,11 +65,6 @@ written_at kind names count (Signature name ins outs ∷ decls) number below = o
     one false e others =
         get_beside before (place_of names name) number (line_sig kind ins outs) (λ (same : number ≡ place_of names name). grind (arith, nat_tests, e, same))
         ∙ others
-written_at kind names count (Flow name patterns members ∷ decls) number below = written_at kind names count decls number below
-written_at kind names count (Source name target ∷ decls) number below = written_at kind names count decls number below
-written_at kind names count (Typedef name function ∷ decls) number below = written_at kind names count decls number below
-written_at kind names count (Atomic node constraints ∷ decls) number below = written_at kind names count decls number below
-written_at kind names count (Session source function ∷ decls) number below = written_at kind names count decls number below
 written_at kind names count (other ∷ decls) number below = written_at kind names count decls number below
 
 -- ---- the table

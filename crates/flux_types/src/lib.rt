@@ -12,8 +12,6 @@ mod flows;
 mod predicates;
 mod signatures;
 mod sources;
-#[cfg(test)]
-mod tests;
 mod typing;
 mod words;
 

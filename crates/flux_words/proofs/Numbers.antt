@@ -1,108 +1,135 @@
 -- Numbers of flows with commas between them, and the values of options: each is read one way.
-use Rattle.std.proofs.Common.{◌≡◌, ◌⊎◌, inl, inr, ℕ, zero, suc, ◌+◌, ◌<◌, List, [], ◌∷◌, ◌++◌, length, map, take, get_or, refl, sym, ap, ◌∙◌, subst, arith, codes}
+use Rattle.std.proofs.Common.{◌≡◌, ◌⊎◌, inl, inr, ℕ, zero, suc, ◌+◌, ◌-◌, ◌*◌, ◌<◌, ◌≤◌, List, [], ◌∷◌, ◌++◌, length, take, get_or, refl, sym, ap, ◌∙◌, subst, arith, codes}
 use Rattle.std.specs.List.{AllByRecursion, slice_split}
-use Rattle.std.specs.Fmt.{decimal}
-use Rattle.std.proofs.lemmas.Fmt.{decimal_is_IsNumeral}
-use Rattle.std.proofs.lemmas.List.{append-nil, append_cancel_left, take_more, take_all, length-append}
+use Rattle.std.proofs.lemmas.List.{append_cancel_left, take_more, take_all}
 use Rattle.flux_model.specs.declared.items.FlowNo.{FlowNo}
-use Rattle.flux_values.specs.Spellings.{BeginsDecimal}
-use Rattle.flux_spelling.proofs.Decimals.{one_decimal}
 use Rattle.flux_words.specs.declared.values.TheConstants.{NUMBER_LIMIT}
 use Rattle.flux_words.specs.declared.values.Runtime.{Runtime}
 use Rattle.flux_words.specs.declared.values.Runtime.TheVariants.{Event, Script}
 use Rattle.flux_words.specs.declared.values.JournalFormat.{JournalFormat}
 use Rattle.flux_words.specs.declared.values.JournalFormat.TheVariants.{One, Two}
-use Rattle.flux_words.specs.Values.{is_comma, digits_of, IsSmall, SpellsNumbers, SpellsRuntime, SpellsFormat, IsRuntime, IsFormat}
+use Rattle.flux_words.specs.Values.{is_comma, IsDigit, number_from, SpellsNumber, SpellEach, SpellsNumbers, SpellsRuntime, SpellsFormat, IsRuntime, IsFormat}
 use Rattle.flux_words.specs.steps.Found.{AreSoFar}
 
 -- ---- one number
 
-pub digits_read : (digits : List ℕ) (k n : ℕ) → BeginsDecimal digits NUMBER_LIMIT k n → n ≡ length digits → digits ≡ decimal k
-digits_read digits k n begins whole =
-    let e = begins.front in
-    let none : begins.rest ≡ [] = nothing begins.rest (omega (arith, whole, begins.long, ap length e, length-append (decimal k) begins.rest)) in
-    e ∙ ap (λ (l : List ℕ). decimal k ++ l) none ∙ append-nil (decimal k)
-  where
-    nothing : (l : List ℕ) → length l ≡ 0 → l ≡ []
-    nothing [] h = refl
-    nothing (c ∷ l) h = absurd (omega arith)
+-- digits behind a number spell no smaller one
+from_least : (before : ℕ) (digits : List ℕ) → before ≤ number_from before digits
+from_least before [] = omega arith
+from_least before (b ∷ digits) = let more = from_least (10 * before + (b - 48)) digits in omega (arith, more)
 
-pub begins_digits : (digits : List ℕ) (flow : FlowNo) → IsSmall flow → digits ≡ digits_of flow → BeginsDecimal digits NUMBER_LIMIT flow.0 (length digits)
-begins_digits digits flow small e = record { rest = []; small = small; front = e ∙ sym (append-nil (digits_of flow)); ends = tt; long = ap length e }
+-- how far digits have been read: the number so far, with those that are left
+pub record AreRead (digits rest : List ℕ) (number : ℕ) : Type 0 where
+  pub same : number_from number rest ≡ number_from 0 digits
+  pub small : number ≤ NUMBER_LIMIT
+  pub to : AllByRecursion IsDigit rest → AllByRecursion IsDigit digits
+  pub from : AllByRecursion IsDigit digits → AllByRecursion IsDigit rest
 
--- the number that begins digits takes all of them where they are a flow's
-pub takes_all : (digits : List ℕ) (flow : FlowNo) (k n : ℕ) → IsSmall flow → digits ≡ digits_of flow → BeginsDecimal digits NUMBER_LIMIT k n → n ≡ length digits
-takes_all digits flow k n small e begins =
-    let same = one_decimal NUMBER_LIMIT flow.0 k [] begins.rest (omega arith) small begins.small tt begins.ends (append-nil (digits_of flow) ∙ sym e ∙ begins.front) in
-    begins.long ∙ ap (λ (m : ℕ). length (decimal m)) (sym same.0) ∙ sym (ap length e)
+pub none_read : (digits : List ℕ) → AreRead digits digits 0
+none_read digits = record { same = refl; small = omega arith; to = λ all. all; from = λ all. all }
+
+pub one_read : (digits rest : List ℕ) (number b : ℕ) (others : List ℕ) → AreRead digits rest number → rest ≡ b ∷ others
+    → IsDigit b → 10 * number + (b - 48) ≤ NUMBER_LIMIT → AreRead digits others (10 * number + (b - 48))
+one_read digits rest number b others so is digit small = record {
+  same = ap (number_from number) (sym is) ∙ so.same;
+  small = small;
+  to = λ all. so.to (subst (AllByRecursion IsDigit) (sym is) (digit, all));
+  from = λ all. let own : AllByRecursion IsDigit (b ∷ others) = subst (AllByRecursion IsDigit) is (so.from all) in own.1;
+}
+
+-- what is no digit is none of a number
+pub no_digit : (digits rest : List ℕ) (number b : ℕ) (others : List ℕ) → AreRead digits rest number → rest ≡ b ∷ others
+    → (IsDigit b → ⊥) → AllByRecursion IsDigit digits → ⊥
+no_digit digits rest number b others so is other all =
+    let own : AllByRecursion IsDigit (b ∷ others) = subst (AllByRecursion IsDigit) is (so.from all) in other own.0
+
+-- past the limit no digit leads back
+past_limit : (digits rest : List ℕ) (number b : ℕ) (others : List ℕ) → AreRead digits rest number → rest ≡ b ∷ others
+    → NUMBER_LIMIT < 10 * number + (b - 48) → number_from 0 digits ≤ NUMBER_LIMIT → ⊥
+past_limit digits rest number b others so is past small =
+    let whole : number_from (10 * number + (b - 48)) others ≡ number_from 0 digits = ap (number_from number) (sym is) ∙ so.same in
+    let least = from_least (10 * number + (b - 48)) others in
+    omega (arith, whole, least, past, small)
+
+pub past_first : (digits rest : List ℕ) (number x : ℕ) → AreRead digits rest number → 1 ≤ length rest → x ≡ get_or rest 0 0 - 48
+    → NUMBER_LIMIT < 10 * number + x → number_from 0 digits ≤ NUMBER_LIMIT → ⊥
+past_first digits [] number x so some is past small = omega (arith, some)
+past_first digits (b ∷ others) number x so some is past small =
+    let own : x ≡ b - 48 = is in
+    past_limit digits (b ∷ others) number b others so refl (omega (arith, own, past)) small
 
 pub same_flow : (a b : FlowNo) → a.0 ≡ b.0 → a ≡ b
 same_flow a b e = ap (λ (n : ℕ). let f : FlowNo = record { 0 = n } in f) e
 
-one_flow : (a b : FlowNo) → IsSmall a → IsSmall b → digits_of a ≡ digits_of b → a ≡ b
-one_flow a b s t e = same_flow a b (one_decimal NUMBER_LIMIT a.0 b.0 [] [] (omega arith) s t tt tt (ap (λ (l : List ℕ). l ++ []) e)).0
+one_flow : (digits : List ℕ) (a b : FlowNo) → SpellsNumber digits a → SpellsNumber digits b → a ≡ b
+one_flow digits a b s t = same_flow a b (s.value ∙ sym t.value)
 
 -- ---- numbers
 
-one_list : (xs ys : List FlowNo) → AllByRecursion IsSmall xs → AllByRecursion IsSmall ys → map digits_of xs ≡ map digits_of ys → xs ≡ ys
-one_list [] [] s t e = refl
-one_list [] (y ∷ ys) s t e = absurd (let n = ap length e in omega arith)
-one_list (x ∷ xs) [] s t e = absurd (let n = ap length e in omega arith)
-one_list (x ∷ xs) (y ∷ ys) s t e =
-    let head : digits_of x ≡ digits_of y = cc in
-    let tail : map digits_of xs ≡ map digits_of ys = cc in
-    ap (λ (f : FlowNo). f ∷ xs) (one_flow x y s.0 t.0 head) ∙ ap (λ (l : List FlowNo). y ∷ l) (one_list xs ys s.1 t.1 tail)
+one_list : (pieces : List (List ℕ)) (xs ys : List FlowNo) → SpellEach pieces xs → SpellEach pieces ys → xs ≡ ys
+one_list [] [] [] s t = refl
+one_list [] [] (y ∷ ys) s t = absurd t
+one_list [] (x ∷ xs) ys s t = absurd s
+one_list (digits ∷ pieces) [] ys s t = absurd s
+one_list (digits ∷ pieces) (x ∷ xs) [] s t = absurd t
+one_list (digits ∷ pieces) (x ∷ xs) (y ∷ ys) s t =
+    ap (λ (f : FlowNo). f ∷ xs) (one_flow digits x y s.0 t.0) ∙ ap (λ (l : List FlowNo). y ∷ l) (one_list pieces xs ys s.1 t.1)
 
 -- no number is spelled by nothing
-no_digits : (ys : List FlowNo) → AllByRecursion IsSmall ys → [] ∷ [] ≡ map digits_of ys → ⊥
-no_digits [] s e = absurd (let n = ap length e in omega arith)
-no_digits (y ∷ ys) s e =
-    let none : [] ≡ digits_of y = cc in
-    let some = decimal_is_IsNumeral y.0 (let small = s.0 in omega arith) in
-    omega (arith, ap length none, some.0.0)
+none_empty : (ys : List FlowNo) → SpellEach ([] ∷ []) ys → ⊥
+none_empty [] s = s
+none_empty (y ∷ ys) s = let some = s.0 in omega (arith, some.some)
 
-none_empty : (list : List ℕ) (ys : List FlowNo) → list ≡ [] → AllByRecursion IsSmall ys → slice_split is_comma list ≡ map digits_of ys → ⊥
-none_empty list ys e s split = no_digits ys s (ap (slice_split is_comma) (sym e) ∙ split)
+empty_split : (list : List ℕ) (ys : List FlowNo) → list ≡ [] → SpellEach (slice_split is_comma list) ys → ⊥
+empty_split list ys e s = none_empty ys (subst (λ (l : List ℕ). SpellEach (slice_split is_comma l) ys) e s)
 
 pub one_numbers : (list : List ℕ) (xs ys : List FlowNo) → SpellsNumbers list xs → SpellsNumbers list ys → xs ≡ ys
 one_numbers list xs ys a b = by a.laid b.laid
   where
-    by : ((list ≡ []) × (xs ≡ [])) ⊎ (slice_split is_comma list ≡ map digits_of xs) → ((list ≡ []) × (ys ≡ [])) ⊎ (slice_split is_comma list ≡ map digits_of ys) → xs ≡ ys
+    by : ((list ≡ []) × (xs ≡ [])) ⊎ SpellEach (slice_split is_comma list) xs
+        → ((list ≡ []) × (ys ≡ [])) ⊎ SpellEach (slice_split is_comma list) ys → xs ≡ ys
     by (inl e) (inl f) = e.1 ∙ sym f.1
-    by (inl e) (inr f) = absurd (none_empty list ys e.0 b.small f)
-    by (inr e) (inl f) = absurd (none_empty list xs f.0 a.small e)
-    by (inr e) (inr f) = one_list xs ys a.small b.small (sym e ∙ f)
+    by (inl e) (inr f) = absurd (empty_split list ys e.0 f)
+    by (inr e) (inl f) = absurd (empty_split list xs f.0 e)
+    by (inr e) (inr f) = one_list (slice_split is_comma list) xs ys e f
 
-all_append : (xs : List FlowNo) (y : FlowNo) → AllByRecursion IsSmall xs → IsSmall y → AllByRecursion IsSmall (xs ++ y ∷ [])
-all_append [] y s t = (t, tt)
-all_append (x ∷ xs) y s t = (s.0, all_append xs y s.1 t)
+each_more : (pieces : List (List ℕ)) (xs : List FlowNo) (digits : List ℕ) (y : FlowNo) → SpellEach pieces xs → SpellsNumber digits y
+    → SpellEach (pieces ++ digits ∷ []) (xs ++ y ∷ [])
+each_more [] [] digits y s t = (t, tt)
+each_more [] (x ∷ xs) digits y s t = absurd s
+each_more (piece ∷ pieces) [] digits y s t = absurd s
+each_more (piece ∷ pieces) (x ∷ xs) digits y s t = (s.0, each_more pieces xs digits y s.1 t)
 
-map-snoc : (xs : List FlowNo) (y : FlowNo) → map digits_of (xs ++ y ∷ []) ≡ map digits_of xs ++ digits_of y ∷ []
-map-snoc [] y = refl
-map-snoc (x ∷ xs) y = ap (λ (l : List (List ℕ)). digits_of x ∷ l) (map-snoc xs y)
-
-pub number_more : (list : List ℕ) (n : ℕ) (digits : List ℕ) (numbers new : List FlowNo) (flow : FlowNo) → AreSoFar list n numbers → (n < length (slice_split is_comma list)) × (digits ≡ get_or (slice_split is_comma list) n digits) → IsSmall flow → digits ≡ digits_of flow → new ≡ numbers ++ flow ∷ []
-    → AreSoFar list (n + 1) new
-number_more list n digits numbers new flow so at small is new_ = subst (AreSoFar list (n + 1)) (sym new_) (record {
-  small = all_append numbers flow so.small small;
-  laid = map-snoc numbers flow ∙ ap (λ (l : List (List ℕ)). l ++ digits_of flow ∷ []) so.laid ∙ ap (λ (l : List ℕ). take n (slice_split is_comma list) ++ l ∷ []) (sym is ∙ at.1) ∙ sym (take_more (slice_split is_comma list) n digits at.0);
-})
+pub number_more : (list : List ℕ) (n : ℕ) (digits : List ℕ) (numbers new : List FlowNo) (flow : FlowNo) → AreSoFar list n numbers
+    → (n < length (slice_split is_comma list)) × (digits ≡ get_or (slice_split is_comma list) n digits) → SpellsNumber digits flow
+    → new ≡ numbers ++ flow ∷ [] → AreSoFar list (n + 1) new
+number_more list n digits numbers new flow so at spells new_ =
+    let pieces = slice_split is_comma list in
+    let one_more : take (n + 1) pieces ≡ take n pieces ++ digits ∷ [] =
+    take_more pieces n digits at.0 ∙ ap (λ (l : List ℕ). take n pieces ++ l ∷ []) (sym at.1) in
+    subst (AreSoFar list (n + 1)) (sym new_)
+    (subst (λ (ps : List (List ℕ)). SpellEach ps (numbers ++ flow ∷ [])) (sym one_more) (each_more (take n pieces) numbers digits flow so spells))
 
 pub all_numbers : (list : List ℕ) (n : ℕ) (numbers : List FlowNo) → AreSoFar list n numbers → n ≡ length (slice_split is_comma list) → SpellsNumbers list numbers
-all_numbers list n numbers so end = record { small = so.small; laid = inr (sym (take_all n (slice_split is_comma list) (omega (arith, end))) ∙ sym so.laid) }
+all_numbers list n numbers so end =
+    record { laid = inr (subst (λ (ps : List (List ℕ)). SpellEach ps numbers) (take_all n (slice_split is_comma list) (omega (arith, end))) so) }
 
 -- where a piece spells no number, the pieces spell none
-image : (xs : List FlowNo) (n : ℕ) (digits : List ℕ) → AllByRecursion IsSmall xs → n < length (map digits_of xs) → digits ≡ get_or (map digits_of xs) n digits → (flow : FlowNo) × IsSmall flow × (digits ≡ digits_of flow)
-image [] n digits s lt is = absurd (omega arith)
-image (x ∷ xs) zero digits s lt is = (x, s.0, is)
-image (x ∷ xs) (suc n) digits s lt is = image xs n digits s.1 (omega arith) is
+no_piece : (pieces : List (List ℕ)) (numbers : List FlowNo) (n : ℕ) (digits : List ℕ) → n < length pieces
+    → digits ≡ get_or pieces n digits → ((flow : FlowNo) → SpellsNumber digits flow → ⊥) → SpellEach pieces numbers → ⊥
+no_piece [] numbers n digits lt is none spell = absurd (omega (arith, lt))
+no_piece (piece ∷ pieces) [] n digits lt is none spell = spell
+no_piece (piece ∷ pieces) (flow ∷ numbers) zero digits lt is none spell =
+    none flow (subst (λ (d : List ℕ). SpellsNumber d flow) (sym is) spell.0)
+no_piece (piece ∷ pieces) (flow ∷ numbers) (suc n) digits lt is none spell =
+    no_piece pieces numbers n digits (omega (arith, lt)) is none spell.1
 
-pub no_numbers : (list : List ℕ) (n : ℕ) (digits : List ℕ) → (list ≡ [] → ⊥) → (n < length (slice_split is_comma list)) × (digits ≡ get_or (slice_split is_comma list) n digits) → ((flow : FlowNo) → IsSmall flow → digits ≡ digits_of flow → ⊥) → (numbers : List FlowNo) → SpellsNumbers list numbers → ⊥
+pub no_numbers : (list : List ℕ) (n : ℕ) (digits : List ℕ) → (list ≡ [] → ⊥)
+    → (n < length (slice_split is_comma list)) × (digits ≡ get_or (slice_split is_comma list) n digits)
+    → ((flow : FlowNo) → SpellsNumber digits flow → ⊥) → (numbers : List FlowNo) → SpellsNumbers list numbers → ⊥
 no_numbers list n digits some at none numbers spells = elim spells.laid [
   | inl e ↦ some e.0
-  | inr e ↦
-      let (flow, small, is) = image numbers n digits spells.small (omega (arith, at.0, ap length e)) (at.1 ∙ ap (λ (l : List (List ℕ)). get_or l n digits) e) in
-      none flow small is
+  | inr e ↦ no_piece (slice_split is_comma list) numbers n digits at.0 at.1 none e
 ]
 
 -- ---- values
@@ -117,6 +144,14 @@ one_value value (Script xs) Event s t = absurd (no_event s.0 (sym t ∙ s.1))
 one_value value (Script xs) (Script ys) s t =
     let same : s.0 ≡ t.0 = append_cancel_left (codes "script=") s.0 t.0 (sym s.1 ∙ t.1) in
     ap Script (one_numbers t.0 xs ys (subst (λ (l : List ℕ). SpellsNumbers l xs) same s.2) t.2)
+
+-- no runtime is spelled by a list that spells no numbers
+pub no_script : (value list : List ℕ) → (value ≡ codes "event" → ⊥) → value ≡ codes "script=" ++ list
+    → ((numbers : List FlowNo) → SpellsNumbers list numbers → ⊥) → (runtime : Runtime) → SpellsRuntime value runtime → ⊥
+no_script value list other is none Event s = other s
+no_script value list other is none (Script numbers) s =
+    let same : s.0 ≡ list = append_cancel_left (codes "script=") s.0 list (sym s.1 ∙ is) in
+    none numbers (subst (λ (l : List ℕ). SpellsNumbers l numbers) same s.2)
 
 pub one_runtime : (values : List (List ℕ)) (a b : Runtime) → IsRuntime values a → IsRuntime values b → a ≡ b
 one_runtime [] a b s t = s ∙ sym t

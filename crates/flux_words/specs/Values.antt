@@ -1,9 +1,8 @@
 -- The values of options: runtimes and formats of journals.
-use Rattle.std.specs.Prelude.{◌≡◌, ◌⊎◌, ℕ, ◌==◌, ◌≤◌, List, [], ◌∷◌, ◌++◌, map, codes}
+use Rattle.std.specs.Prelude.{◌≡◌, ◌⊎◌, ℕ, ◌+◌, ◌-◌, ◌*◌, ◌==◌, ◌<◌, ◌≤◌, List, [], ◌∷◌, ◌++◌, length, codes, ⊤}
 use Rattle.std.specs.List.{AllByRecursion, slice_split}
-use Rattle.std.specs.Fmt.{decimal}
 use Rattle.flux_model.specs.declared.items.FlowNo.{FlowNo}
-use Rattle.flux_words.specs.declared.values.TheConstants.{NUMBER_LIMIT}
+use Rattle.flux_words.specs.declared.values.TheConstants.{DIGIT_LIMIT, NUMBER_LIMIT}
 use Rattle.flux_words.specs.declared.values.Runtime.{Runtime}
 use Rattle.flux_words.specs.declared.values.Runtime.TheVariants.{Event, Script}
 use Rattle.flux_words.specs.declared.values.JournalFormat.{JournalFormat}
@@ -13,19 +12,33 @@ use Rattle.flux_words.specs.declared.values.JournalFormat.TheVariants.{One, Two}
 abbrev pub is_comma : ℕ → Rattle.std.specs.Prelude.Bool
 is_comma b = b == 44
 
--- a flow's number in decimal digits, without a leading zero
-abbrev pub digits_of : FlowNo → List ℕ
-digits_of flow = decimal flow.0
+-- a decimal digit
+abbrev pub IsDigit : ℕ → Type 0
+IsDigit b = (48 ≤ b) × (b ≤ 57)
 
--- a flow's number is at most 4,095
-abbrev pub IsSmall : FlowNo → Type 0
-IsSmall flow = flow.0 ≤ NUMBER_LIMIT
+-- the number that digits spell behind those of another number
+abbrev pub number_from : ℕ → List ℕ → ℕ
+number_from before [] = before
+number_from before (b ∷ digits) = number_from (10 * before + (b - 48)) digits
+
+-- a flow's number, which is at most 4,095, in 1 to 10 decimal digits, leading zeros included
+pub record SpellsNumber (digits : List ℕ) (flow : FlowNo) : Type 0 where
+  pub some : 0 < length digits
+  pub most : length digits ≤ DIGIT_LIMIT
+  pub decimal_ : AllByRecursion IsDigit digits
+  pub value : flow.0 ≡ number_from 0 digits
+  pub small : flow.0 ≤ NUMBER_LIMIT
+
+-- pieces spell numbers, one each
+abbrev pub SpellEach : List (List ℕ) → List FlowNo → Type 0
+SpellEach [] [] = ⊤
+SpellEach [] (flow ∷ numbers) = ⊥
+SpellEach (digits ∷ pieces) [] = ⊥
+SpellEach (digits ∷ pieces) (flow ∷ numbers) = SpellsNumber digits flow × SpellEach pieces numbers
 
 -- numbers with commas between them, or nothing
 pub record SpellsNumbers (list : List ℕ) (numbers : List FlowNo) : Type 0 where
-  pub small : AllByRecursion IsSmall numbers
-  pub laid : ((list ≡ []) × (numbers ≡ []))
-      ⊎ (slice_split is_comma list ≡ map digits_of numbers)
+  pub laid : ((list ≡ []) × (numbers ≡ [])) ⊎ SpellEach (slice_split is_comma list) numbers
 
 -- `event`, or `script=` and numbers
 abbrev pub SpellsRuntime : List ℕ → Runtime → Type 0

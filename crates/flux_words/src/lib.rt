@@ -8,8 +8,6 @@ mod commands;
 mod given;
 mod names;
 mod parts;
-#[cfg(test)]
-mod tests;
 mod values;
 
 pub use commands::{Asked, needs_threads, read_words};

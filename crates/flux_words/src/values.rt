@@ -2,13 +2,15 @@
 
 ghost use Rattle.std.specs.Prelude.{IfOk};
 ghost use Rattle.flux_words.specs.steps.Given.{listed};
-ghost use Rattle.flux_words.specs.steps.Found.{IsNumberRead, AreNumbersRead, IsRuntimeRead, IsFormatRead};
+ghost use Rattle.flux_words.specs.steps.Found.{IsValueRead, IsNumberRead, AreNumbersRead, IsRuntimeRead, IsFormatRead};
 
 use crate::names::strip;
 use flux_model::FlowNo;
 use flux_values::{List, Memory};
-use flux_spelling::read_decimal;
 use std::alloc::Global;
+
+/// A number has at most so many digits, leading zeros included.
+pub const DIGIT_LIMIT: usize = 10;
 
 /// The greatest number of a flow that a script names.
 pub const NUMBER_LIMIT: u32 = 4_095;
@@ -30,12 +32,34 @@ pub enum JournalFormat {
     Two,
 }
 
+/// The number that decimal digits spell, if it isn't greater than a flow's.
+fn value_of(digits: &[u8]) -> Option<u32>
+    ensures { IsValueRead digits.now result }
+{
+    let mut number = 0;
+    let mut rest = digits;
+    while let [digit, others @ ..] = rest {
+        if *digit < b'0' || b'9' < *digit {
+            return None;
+        }
+        number = 10 * number + u32::from(*digit - b'0');
+        if number > NUMBER_LIMIT {
+            return None;
+        }
+        rest = others;
+    }
+    Some(number)
+}
+
 fn read_number(digits: &[u8]) -> Option<FlowNo>
     ensures { IsNumberRead digits.now result }
 {
-    match read_decimal(digits, NUMBER_LIMIT as u64) {
-        Some((number, length)) if length == digits.len() => Some(FlowNo(number as u32)),
-        _ => None,
+    if digits.is_empty() || digits.len() > DIGIT_LIMIT {
+        return None;
+    }
+    match value_of(digits) {
+        Some(number) => Some(FlowNo(number)),
+        None => None,
     }
 }
 

@@ -1,5 +1,5 @@
 -- Steps of the reader: a part, and what is read of values.
-use Rattle.std.specs.Prelude.{◌≡◌, ℕ, List, Option, Some, None, map, take}
+use Rattle.std.specs.Prelude.{◌≡◌, ℕ, ◌≤◌, List, Option, Some, None, take}
 use Rattle.std.specs.List.{AllByRecursion, slice_split}
 use Rattle.flux_model.specs.declared.items.FlowNo.{FlowNo}
 use Rattle.flux_words.specs.declared.parts.Part.{Part as Read}
@@ -7,17 +7,24 @@ use Rattle.flux_words.specs.declared.parts.Part.TheVariants as reads
 use Rattle.flux_words.specs.declared.values.Runtime.{Runtime}
 use Rattle.flux_words.specs.declared.values.JournalFormat.{JournalFormat}
 use Rattle.flux_words.specs.Parts.{Part, word, option}
-use Rattle.flux_words.specs.Values.{is_comma, digits_of, IsSmall, SpellsNumbers, IsRuntime, IsFormat}
+use Rattle.flux_words.specs.declared.values.TheConstants.{NUMBER_LIMIT}
+use Rattle.flux_words.specs.Values.{is_comma, IsDigit, number_from, SpellsNumber, SpellEach, SpellsNumbers, IsRuntime, IsFormat}
 
 -- the part that was read
 abbrev pub part_of : Read → Part
 part_of (reads.Word name) = word name.now
 part_of (reads.Option name value) = option name value.now
 
--- what is read of digits: the number that they spell, or that they spell none
+-- the number that digits spell, or that they are no digits of a number within its limit
+abbrev pub IsValueRead : List ℕ → Option ℕ → Type 0
+IsValueRead digits (Some number) =
+    AllByRecursion IsDigit digits × (number ≡ number_from 0 digits) × (number ≤ NUMBER_LIMIT)
+IsValueRead digits None = AllByRecursion IsDigit digits → number_from 0 digits ≤ NUMBER_LIMIT → ⊥
+
+-- the flow's number that digits spell, or that they spell none
 abbrev pub IsNumberRead : List ℕ → Option FlowNo → Type 0
-IsNumberRead digits (Some flow) = IsSmall flow × (digits ≡ digits_of flow)
-IsNumberRead digits None = (flow : FlowNo) → IsSmall flow → digits ≡ digits_of flow → ⊥
+IsNumberRead digits (Some flow) = SpellsNumber digits flow
+IsNumberRead digits None = (flow : FlowNo) → SpellsNumber digits flow → ⊥
 
 abbrev pub AreNumbersRead : List ℕ → Option (List FlowNo) → Type 0
 AreNumbersRead list (Some numbers) = SpellsNumbers list numbers
@@ -32,6 +39,5 @@ IsFormatRead values (Some format) = IsFormat values format
 IsFormatRead values None = (format : JournalFormat) → IsFormat values format → ⊥
 
 -- the numbers of the first pieces between commas
-pub record AreSoFar (list : List ℕ) (n : ℕ) (numbers : List FlowNo) : Type 0 where
-  pub small : AllByRecursion IsSmall numbers
-  pub laid : map digits_of numbers ≡ take n (slice_split is_comma list)
+abbrev pub AreSoFar : List ℕ → ℕ → List FlowNo → Type 0
+AreSoFar list n numbers = SpellEach (take n (slice_split is_comma list)) numbers

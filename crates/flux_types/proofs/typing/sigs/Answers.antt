@@ -5,7 +5,7 @@ use Rattle.flux_types.proofs.Answered.{typed_is, least_is}
 use Rattle.flux_types.proofs.typing.sigs.Goals as goal
 
 pub typed-requires-clause-named : goal.typed-requires-clause-named
-typed-requires-clause-named g c = λ κs lives. c.requires.named ∙ ap named_of (sym c.as_slice.ensures)
+typed-requires-clause-named g c = c.requires.named ∙ ap named_of (sym c.as_slice.ensures)
 
 pub returns-in-None-clause-typed : goal.returns-in-None-clause-typed
 returns-in-None-clause-typed g c =

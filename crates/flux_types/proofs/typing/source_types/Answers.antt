@@ -9,10 +9,10 @@ use Rattle.flux_types.proofs.Answered.{least_is}
 use Rattle.flux_types.proofs.typing.source_types.Goals as goal
 
 pub sources-requires-clause-named : goal.sources-requires-clause-named
-sources-requires-clause-named g c = λ κs lives. c.requires.named ∙ ap named_of (sym c.as_slice.ensures)
+sources-requires-clause-named g c = c.requires.named ∙ ap named_of (sym c.as_slice.ensures)
 
 pub sources-requires-clause-sigs : goal.sources-requires-clause-sigs
-sources-requires-clause-sigs g c = λ κs lives. let kind = (g.L.Meaning.meaning c.args.library.now).kind in
+sources-requires-clause-sigs g c = let kind = (g.L.Meaning.meaning c.args.library.now).kind in
     subst (λ (l : List Decl). AreSigs kind l c.as_slice-2.result.now) (sym c.as_slice.ensures)
     (subst (λ (sigs : List NodeSig). AreSigs kind c.args.decls.now sigs) (sym c.as_slice-2.ensures) c.requires.sigs)
 

@@ -1,0 +1,51 @@
+# Completes the words of flux and ./flux in bash: source it, or let ./flux install put it where bash finds it.
+# Made by editors/make.
+_flux() {
+    local word="${COMP_WORDS[COMP_CWORD]}" before="${COMP_WORDS[COMP_CWORD - 1]}" command="${COMP_WORDS[1]-}"
+    local values="" most=0 given=0 place
+    COMPREPLY=()
+    # bash takes = for a word of its own.
+    if [ "$word" = "=" ]; then word=""; elif [ "$before" = "=" ]; then before="${COMP_WORDS[COMP_CWORD - 2]}"; fi
+    if [ "$COMP_CWORD" = 1 ]; then
+        values="check plan format run help"
+        [[ "$1" != */* ]] || values+=" prove version nodes install"
+        mapfile -t COMPREPLY < <(compgen -W "$values" -- "$word")
+        return
+    fi
+    case "$before" in
+        --docs) mapfile -t COMPREPLY < <(compgen -d -- "$word") && return ;;
+        --runtime) values="event script=" ;;
+        --journal) values="1 2" ;;
+    esac
+    if [ "$command" = run ] && [ -n "$values" ]; then
+        mapfile -t COMPREPLY < <(compgen -W "$values" -- "$word")
+        [ "${COMPREPLY[*]-}" != "script=" ] || compopt -o nospace
+        return
+    fi
+    if [[ "$command" = run && "$word" = -* ]]; then
+        mapfile -t COMPREPLY < <(compgen -W "--runtime --docs --journal" -- "$word")
+        return
+    fi
+    case "$command" in
+        check) most=1 ;;
+        plan) most=1 ;;
+        format) most=1 ;;
+        run) most=2 ;;
+        help) most=0 ;;
+    esac
+    for ((place = 2; place < COMP_CWORD; place++)); do
+        case "${COMP_WORDS[place]}" in
+            --*) place=$((place + 1)) && [ "${COMP_WORDS[place]-}" != "=" ] || place=$((place + 1)) ;;
+            *) given=$((given + 1)) ;;
+        esac
+    done
+    [ "$given" -lt "$most" ] || return
+    # The first file is a program; what else is named may be any file.
+    if [ "$given" = 0 ]; then
+        mapfile -t COMPREPLY < <(compgen -f -X '!*.flux' -- "$word"; compgen -d -S / -- "$word")
+    else
+        mapfile -t COMPREPLY < <(compgen -f -- "$word")
+    fi
+    [[ "${COMPREPLY[*]-}" != */ ]] || compopt -o nospace
+}
+complete -o filenames -F _flux flux ./flux
