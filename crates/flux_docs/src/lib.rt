@@ -8,8 +8,6 @@
 
 mod faults;
 mod reading;
-#[cfg(test)]
-mod tests;
 
 pub use faults::DocsFault;
 pub use reading::{BODIES_LIMIT, DOC_LIMIT, read_docs};

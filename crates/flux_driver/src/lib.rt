@@ -15,8 +15,6 @@ mod rules;
 mod running;
 mod statuses;
 mod telling;
-#[cfg(test)]
-mod tests;
 mod texts;
 mod writing;
 

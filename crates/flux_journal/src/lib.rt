@@ -16,8 +16,6 @@ mod lines;
 mod names;
 mod outcomes;
 mod printing;
-#[cfg(test)]
-mod tests;
 
 pub use faults::{JournalFault, LineFault};
 pub use journals::read_journal;

@@ -17,8 +17,6 @@ mod real_folders;
 mod sinks;
 mod stores;
 mod system;
-#[cfg(test)]
-mod tests;
 
 pub use asked::AskedNames;
 pub use faults::{Failed, StoreFault};

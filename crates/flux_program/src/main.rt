@@ -8,9 +8,6 @@ ghost use Rattle.flux_driver.specs.Statuses.{code_of};
 ghost use Rattle.flux_driver.specs.BuiltIn.{built_in};
 ghost use Rattle.flux_driver.specs.Top.{HasDone};
 
-#[cfg(test)]
-mod tests;
-
 use flux_driver::{Gate, OpenGate, Status, World, top};
 use flux_outside::{Folder, RealFolder, RealSink, RealStore, Sink, Store};
 use flux_values::{Bytes, List, Memory};
