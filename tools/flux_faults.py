@@ -171,7 +171,9 @@ def source_misused(it, at):
 
 
 def too_many(it, at):
-    return f"There are at most 4,096 nodes and 256 classes of constraints; this text has {len(it.order):,} nodes."
+    classes = {(one.name, one.session) for line in it.of(Atomic) for one in line.constraints}
+    return (f"There are at most 4,096 nodes and 256 classes of constraints; this text has {len(it.order):,} nodes and"
+            f" {len(classes):,} classes.")
 
 
 def cycle(it, at, path=""):
@@ -217,13 +219,15 @@ def predicate_type(it, at):
                 row = it.library.get(it.function(pattern.text))
                 found = it.types(flow.name)
                 there = found[0][place] if found and place < len(found[0]) else "another type"
-                return f"`{pattern.text}` is {row.name} of the type `{row.takes}`, and input {place + 1} of `{flow.name}` is `{there}`."
+                whose = f"input {place + 1} of `{flow.name}`"
+                return f"`{pattern.text}` is {row.name} of the type `{row.takes}`, and {whose} is `{there}`."
     return "The predicate takes another kind than the input in its place."
 
 
 def handler_types(it, at):
     line = next(one for one in it.of(Handler) if one.handler.at == at)
-    return f"`{line.handler.text}` takes {it.takes(line.handler.text)}, and must take what `{line.name}` takes, {it.takes(line.name)}."
+    takes, wanted = it.takes(line.handler.text), it.takes(line.name)
+    return f"`{line.handler.text}` takes {takes}, and must take what `{line.name}` takes, {wanted}."
 
 
 def source_types(it, at):

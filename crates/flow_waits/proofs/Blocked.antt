@@ -67,12 +67,12 @@ nothing-left list event rest e = by (append_cancel_left list [] (event ∷ rest)
 take-follows : (setup : Setup) (entries : List Entry) (flow : FlowNo) (key : Key) (their : Mode) (place : ℕ)
     → StandsAt entries flow.0 key their place
     → IsNext setup entries flow.0 (Take key their) → (event : Event) → IsMove setup entries flow event
-        → event ≡ Take key their
+    → event ≡ Take key their
 take-follows setup entries flow key their place stands next (Wait k mode) move =
     absurd (move.once key their place stands)
 take-follows setup entries flow key their place stands next (Call made) move =
     absurd (nothing-left (own_events entries flow.0) (Take key their) next.rest
-        (sym (let call = move.next in call.all) ∙ next.next))
+    (sym (let call = move.next in call.all) ∙ next.next))
 take-follows setup entries flow key their place stands next (Take k mode) move =
     next-unique setup entries flow.0 (Take k mode) (Take key their) move.next next
 take-follows setup entries flow key their place stands next (Enter node) move =
@@ -116,7 +116,7 @@ module _ (setup : Setup) (entries : List Entry) (flow : FlowNo) (event : Event)
             (against-stays key mode (modes_held entries flow.0 key) event kept against)
         by (inr stands) = stood stands (take-follows setup entries flow key stands.their stands.place stands.stands
             (standing-next setup entries flow.0 key stands.their stands.place (let l = before in l.waits) stands.stands)
-                event (entries_are_moves setup entries flow event legal))
+            event (entries_are_moves setup entries flow event legal))
 
     -- by another one
     other-blocks : (third : ℕ) → (flow.0 ≡ third → ⊥) → Blocks entries third other key mode
@@ -151,7 +151,7 @@ module _ (setup : Setup) (entries : List Entry) (flow : FlowNo) (event : Event)
 pub blocked_stay : BlockedStay
 blocked_stay setup entries flow event legal other key mode apart next (third, waits) kept =
     let same : Take waits.key waits.mode ≡ Take key mode =
-        next-unique setup entries other (Take waits.key waits.mode) (Take key mode) waits.next next in
+    next-unique setup entries other (Take waits.key waits.mode) (Take key mode) waits.next next in
     let key_is : waits.key ≡ key = cc same in
     let mode_is : waits.mode ≡ mode = cc same in (
       third,
@@ -198,7 +198,7 @@ stander-free setup entries legal flow key mode place stands holds =
         ∙ ap (λ es. events_by flow stands.before ++ es)
         (events_by-append flow (record { flow = record { 0 = flow }; event = Wait key mode } ∷ []) stands.after
         ∙ ap (λ es. es ++ events_by flow stands.after) (by_itself flow (Wait key mode)) ∙ ap (λ es. Wait key mode ∷ es)
-            stands.last)
+        stands.last)
 
     held : modes_held stands.before flow key ≡ [] → modes_held entries flow key ≡ []
     held none = ap (held_after key []) own ∙ held_after-wait key key mode [] (events_by flow stands.before) ∙ none
@@ -213,8 +213,13 @@ writers_block setup entries legal flow writer key mode place before stands their
     blocked = record {
       free = stander-free setup entries legal flow key mode place stands;
       apart = apart;
-      cause = inr (record { their = Writer; place = before; stands = their; against = writer-against mode;
-          first = behind });
+      cause = inr (record {
+        their = Writer;
+        place = before;
+        stands = their;
+        against = writer-against mode;
+        first = behind;
+      });
     };
   },
 )
@@ -222,7 +227,7 @@ writers_block setup entries legal flow writer key mode place before stands their
     apart : writer ≢ flow
     apart same =
         let one = last-unique entries (record { 0 = flow }) (Wait key Writer) (Wait key mode) before place
-            (rw same at their) stands in
+        (rw same at their) stands in
         let e = one.1 in
         omega (arith, e, lt)
 
@@ -240,9 +245,15 @@ nothing-against [] mode none against = cc against
 nothing-against (held ∷ modes) mode none against = cc none
 
 pub fresh_are_alike : FreshAreAlike
-fresh_are_alike setup entries one other key mode own fresh (third, waits) =
-    (third, record { key = key; mode = mode; next = fresh.next;
-        blocked = record { free = fresh.free; apart = apart cause; cause = turned cause } })
+fresh_are_alike setup entries one other key mode own fresh (third, waits) = (
+  third,
+  record {
+    key = key;
+    mode = mode;
+    next = fresh.next;
+    blocked = record { free = fresh.free; apart = apart cause; cause = turned cause };
+  },
+)
   where
     same : Take waits.key waits.mode ≡ Take key mode
     same = next-unique setup entries one (Take waits.key waits.mode) (Take key mode) waits.next own.next

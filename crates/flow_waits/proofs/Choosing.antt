@@ -24,58 +24,58 @@ use Rattle.flow_waits.proofs.Membership.{none_has, less_there, less_kept, less_o
 use Rattle.flow_waits.proofs.Blocked.{fresh_are_alike}
 
 module _ (setup : Setup) (entries : List Entry) (pools : Pools) (from : ℕ) (covers : Covers setup entries pools from)
-    where
-  -- a flow before all others that are looked at is the first of all, if it can go on
-  pub chosen : (flow : ℕ) → IsEarliest pools.ready from flow → CanGoOn setup entries flow
-      → IsChosen setup entries pools from flow
-  chosen flow earliest can = record {
-    first = record { can = can; first = none };
-    earliest = earliest;
-  }
-    where
-      -- none that is looked at comes before it
-      none-ready : (other : ℕ) → IsReady pools other → IsBefore from other flow → ⊥
-      none-ready other ready before = by (cases_eq flow other)
-        where
-          by : (flow ≡ other) ⊎ (flow ≡ other → ⊥) → ⊥
-          by (inl same) = before-itself from flow (subst (λ f. IsBefore from f flow) (sym same) before)
-          by (inr apart) = before-turned from flow other (earliest.first other ready apart) before
+  where
+    -- a flow before all others that are looked at is the first of all, if it can go on
+    pub chosen : (flow : ℕ) → IsEarliest pools.ready from flow → CanGoOn setup entries flow
+        → IsChosen setup entries pools from flow
+    chosen flow earliest can = record {
+      first = record { can = can; first = none };
+      earliest = earliest;
+    }
+      where
+        -- none that is looked at comes before it
+        none-ready : (other : ℕ) → IsReady pools other → IsBefore from other flow → ⊥
+        none-ready other ready before = by (cases_eq flow other)
+          where
+            by : (flow ≡ other) ⊎ (flow ≡ other → ⊥) → ⊥
+            by (inl same) = before-itself from flow (subst (λ f. IsBefore from f flow) (sym same) before)
+            by (inr apart) = before-turned from flow other (earliest.first other ready apart) before
 
-      none : (other : ℕ) → CanGoOn setup entries other → IsBefore from other flow → ⊥
-      none other goes before = by (covers.each other goes.live)
-        where
-          in-room : IsInRoom setup entries pools from other → ⊥
-          in-room room = cause room.cause
-            where
-              cause : IsBlocked setup entries other ⊎ IsBehind setup entries pools from room.key room.mode other → ⊥
-              cause (inl blocked) = goes.free blocked
-              cause (inr behind) = none-ready behind.other behind.ready
-                  (before-then from behind.other other flow behind.before before)
+        none : (other : ℕ) → CanGoOn setup entries other → IsBefore from other flow → ⊥
+        none other goes before = by (covers.each other goes.live)
+          where
+            in-room : IsInRoom setup entries pools from other → ⊥
+            in-room room = cause room.cause
+              where
+                cause : IsBlocked setup entries other ⊎ IsBehind setup entries pools from room.key room.mode other → ⊥
+                cause (inl blocked) = goes.free blocked
+                cause (inr behind) = none-ready behind.other behind.ready
+                    (before-then from behind.other other flow behind.before before)
 
-          by : IsCovered setup entries pools from other → ⊥
-          by (inl ready) = none-ready other ready before
-          by (inr (inl line)) = goes.free line.blocked
-          by (inr (inr room)) = in-room room
+            by : IsCovered setup entries pools from other → ⊥
+            by (inl ready) = none-ready other ready before
+            by (inr (inl line)) = goes.free line.blocked
+            by (inr (inr room)) = in-room room
 
-  -- where no flow is looked at, none is live
-  pub none_left : IsLegal setup entries → pools.ready ≡ [] → (flow : ℕ) → IsLive setup entries flow → ⊥
-  none_left legal none flow live = not_all_blocked setup entries legal blocked flow live
-    where
-      blocked : (other : ℕ) → IsLive setup entries other → IsBlocked setup entries other
-      blocked other there = by (covers.each other there)
-        where
-          in-room : IsInRoom setup entries pools from other → IsBlocked setup entries other
-          in-room room = cause room.cause
-            where
-              cause : IsBlocked setup entries other ⊎ IsBehind setup entries pools from room.key room.mode other
-                  → IsBlocked setup entries other
-              cause (inl is) = is
-              cause (inr behind) = absurd (none_has pools.ready behind.other none behind.ready)
+    -- where no flow is looked at, none is live
+    pub none_left : IsLegal setup entries → pools.ready ≡ [] → (flow : ℕ) → IsLive setup entries flow → ⊥
+    none_left legal none flow live = not_all_blocked setup entries legal blocked flow live
+      where
+        blocked : (other : ℕ) → IsLive setup entries other → IsBlocked setup entries other
+        blocked other there = by (covers.each other there)
+          where
+            in-room : IsInRoom setup entries pools from other → IsBlocked setup entries other
+            in-room room = cause room.cause
+              where
+                cause : IsBlocked setup entries other ⊎ IsBehind setup entries pools from room.key room.mode other
+                    → IsBlocked setup entries other
+                cause (inl is) = is
+                cause (inr behind) = absurd (none_has pools.ready behind.other none behind.ready)
 
-          by : IsCovered setup entries pools from other → IsBlocked setup entries other
-          by (inl ready) = absurd (none_has pools.ready other none ready)
-          by (inr (inl line)) = line.blocked
-          by (inr (inr room)) = in-room room
+            by : IsCovered setup entries pools from other → IsBlocked setup entries other
+            by (inl ready) = absurd (none_has pools.ready other none ready)
+            by (inr (inl line)) = line.blocked
+            by (inr (inr room)) = in-room room
 
 -- ---- flows that are no longer looked at
 
@@ -96,7 +96,7 @@ no-room key flow is = by is
 pub all_ready : (setup : Setup) (entries : List Entry) (ready : List ℕ)
     → ((flow : ℕ) → flow < length setup.items → has ready flow ≡ true)
     → ((flow : ℕ) → has ready flow ≡ true → flow < length setup.items) → (from : ℕ)
-        → Covers setup entries (record { ready = ready; readers = []; writers = [] }) from
+    → Covers setup entries (record { ready = ready; readers = []; writers = [] }) from
 all_ready setup entries ready all exist from = record {
   each = λ flow live. inl (all flow live.item);
   fresh = fresh;
@@ -121,20 +121,24 @@ abbrev pub IsParkedSo : Pools → Pools → Key → Mode → ℕ → Type 0
 IsParkedSo old new key mode flow =
     ((k : Key) (m : Mode) (other : ℕ) → IsParked old k m other → IsParked new k m other)
     × ((k : Key) (m : Mode) (other : ℕ) → IsParked new k m other
-        → IsParked old k m other ⊎ ((key ≡ k) × (mode ≡ m) × (flow ≡ other)))
+    → IsParked old k m other ⊎ ((key ≡ k) × (mode ≡ m) × (flow ≡ other)))
 
 module _ (setup : Setup) (entries : List Entry) (old new : Pools) (from flow : ℕ)
     (covers : Covers setup entries old from) (less : IsLess old.ready new.ready flow) where
   -- what becomes of the others, where those behind the flow are covered without it
   others : ((k : Key) (m : Mode) (other : ℕ) → IsParked old k m other → IsParked new k m other)
       → ((k : Key) (m : Mode) (other : ℕ) → IsParked old k m other → IsFresh setup entries flow k m
-          → IsBlocked setup entries other)
+      → IsBlocked setup entries other)
       → (other : ℕ) → flow ≢ other → IsLive setup entries other → IsCovered setup entries new from other
   others stay alike other apart live = by (covers.each other live)
     where
       in-room : IsInRoom setup entries old from other → IsInRoom setup entries new from other
-      in-room room = record { key = room.key; mode = room.mode; parked = stay room.key room.mode other room.parked;
-          cause = cause room.cause }
+      in-room room = record {
+        key = room.key;
+        mode = room.mode;
+        parked = stay room.key room.mode other room.parked;
+        cause = cause room.cause;
+      }
         where
           behind-it : IsBehind setup entries old from room.key room.mode other
               → IsBlocked setup entries other ⊎ IsBehind setup entries new from room.key room.mode other
@@ -259,56 +263,60 @@ module _ (setup : Setup) (entries : List Entry) (old new : Pools) (from flow : �
 module _ (setup : Setup) (entries : List Entry) (old new : Pools) (from flow : ℕ) (stop : Stop)
     (legal : IsLegal setup entries) (covers : Covers setup entries old from)
     (parks : Parks old new flow stop) (live : IsLive setup entries flow) (is_stop : IsStop setup entries flow stop)
-        where
-  free : HoldsKey entries flow stop.key → ⊥
-  free = by is_stop.blocked
-    where
-      by : IsBlocked setup entries flow → HoldsKey entries flow stop.key → ⊥
-      by (other, waits) holds =
-          let same : Take waits.key waits.mode ≡ Take stop.key stop.mode =
-              next-unique setup entries flow (Take waits.key waits.mode) (Take stop.key stop.mode) waits.next
-              is_stop.next in
-          let key_is : waits.key ≡ stop.key = cc same in
-          let blocked = waits.blocked in
-          blocked.free (subst (HoldsKey entries flow) (sym key_is) holds)
+  where
+    free : HoldsKey entries flow stop.key → ⊥
+    free = by is_stop.blocked
+      where
+        by : IsBlocked setup entries flow → HoldsKey entries flow stop.key → ⊥
+        by (other, waits) holds =
+            let same : Take waits.key waits.mode ≡ Take stop.key stop.mode =
+            next-unique setup entries flow (Take waits.key waits.mode) (Take stop.key stop.mode) waits.next
+            is_stop.next in
+            let key_is : waits.key ≡ stop.key = cc same in
+            let blocked = waits.blocked in
+            blocked.free (subst (HoldsKey entries flow) (sym key_is) holds)
 
-  pub parked : Covers setup entries new from
-  parked = by stop.stands refl parks.room
-    where
-      by : (b : Bool) → stop.stands ≡ b → HasRoom old new flow stop.key stop.mode b → Covers setup entries new from
-      by true stands (readers, writers) =
-          let (place, there) = is_stop.stands stands in
-          without_standing setup entries old new from flow covers parks.less readers writers
-          (record { key = stop.key; mode = stop.mode; place = place; stands = there; blocked = is_stop.blocked })
-      by false not (more, others) =
-          without_parked setup entries old new from flow covers parks.less stop.key stop.mode (kept, back)
-              (own stop.mode refl)
-          (record { live = live; next = is_stop.next; free = free;
-              stands_nowhere = λ line own place stands. is_stop.nowhere not line own place stands }) is_stop.blocked
-        where
-          own : (m : Mode) → stop.mode ≡ m → IsParked new stop.key stop.mode flow
-          own m is = more_at_own (rooms_for old stop.mode) (rooms_for new stop.mode) stop.key flow more
+    pub parked : Covers setup entries new from
+    parked = by stop.stands refl parks.room
+      where
+        by : (b : Bool) → stop.stands ≡ b → HasRoom old new flow stop.key stop.mode b → Covers setup entries new from
+        by true stands (readers, writers) =
+            let (place, there) = is_stop.stands stands in
+            without_standing setup entries old new from flow covers parks.less readers writers
+            (record { key = stop.key; mode = stop.mode; place = place; stands = there; blocked = is_stop.blocked })
+        by false not (more, others) =
+            without_parked setup entries old new from flow covers parks.less stop.key stop.mode (kept, back)
+            (own stop.mode refl)
+            (record {
+              live = live;
+              next = is_stop.next;
+              free = free;
+              stands_nowhere = λ line own place stands. is_stop.nowhere not line own place stands;
+            }) is_stop.blocked
+          where
+            own : (m : Mode) → stop.mode ≡ m → IsParked new stop.key stop.mode flow
+            own m is = more_at_own (rooms_for old stop.mode) (rooms_for new stop.mode) stop.key flow more
 
-          kept : (k : Key) (m : Mode) (other : ℕ) → IsParked old k m other → IsParked new k m other
-          kept k m other was = told (mode_cases stop.mode m)
-            where
-              told : (stop.mode ≡ m) ⊎ (stop.mode ≡ m → ⊥) → IsParked new k m other
-              told (inl same) = subst (λ q. IsParked new k q other) same
-                  (more_at_there (rooms_for old stop.mode) (rooms_for new stop.mode) stop.key flow more k other
-                      (subst (λ q. IsParked old k q other) (sym same) was))
-              told (inr apart) = ap (λ rooms. has (room_at rooms k) other) (others m apart) ∙ was
+            kept : (k : Key) (m : Mode) (other : ℕ) → IsParked old k m other → IsParked new k m other
+            kept k m other was = told (mode_cases stop.mode m)
+              where
+                told : (stop.mode ≡ m) ⊎ (stop.mode ≡ m → ⊥) → IsParked new k m other
+                told (inl same) = subst (λ q. IsParked new k q other) same
+                    (more_at_there (rooms_for old stop.mode) (rooms_for new stop.mode) stop.key flow more k other
+                    (subst (λ q. IsParked old k q other) (sym same) was))
+                told (inr apart) = ap (λ rooms. has (room_at rooms k) other) (others m apart) ∙ was
 
-          back : (k : Key) (m : Mode) (other : ℕ) → IsParked new k m other
-              → IsParked old k m other ⊎ ((stop.key ≡ k) × (stop.mode ≡ m) × (flow ≡ other))
-          back k m other is = told (mode_cases stop.mode m)
-            where
-              told : (stop.mode ≡ m) ⊎ (stop.mode ≡ m → ⊥)
-                  → IsParked old k m other ⊎ ((stop.key ≡ k) × (stop.mode ≡ m) × (flow ≡ other))
-              told (inr apart) = inl (ap (λ rooms. has (room_at rooms k) other) (sym (others m apart)) ∙ is)
-              told (inl same) = cases (more_at_cases (rooms_for old stop.mode) (rooms_for new stop.mode) stop.key flow
-                  more k other (subst (λ q. IsParked new k q other) (sym same) is))
-                where
-                  cases : ((stop.key ≡ k) × (flow ≡ other)) ⊎ IsParked old k stop.mode other
-                      → IsParked old k m other ⊎ ((stop.key ≡ k) × (stop.mode ≡ m) × (flow ≡ other))
-                  cases (inl (key_is, own_is)) = inr (key_is, same, own_is)
-                  cases (inr was) = inl (subst (λ q. IsParked old k q other) same was)
+            back : (k : Key) (m : Mode) (other : ℕ) → IsParked new k m other
+                → IsParked old k m other ⊎ ((stop.key ≡ k) × (stop.mode ≡ m) × (flow ≡ other))
+            back k m other is = told (mode_cases stop.mode m)
+              where
+                told : (stop.mode ≡ m) ⊎ (stop.mode ≡ m → ⊥)
+                    → IsParked old k m other ⊎ ((stop.key ≡ k) × (stop.mode ≡ m) × (flow ≡ other))
+                told (inr apart) = inl (ap (λ rooms. has (room_at rooms k) other) (sym (others m apart)) ∙ is)
+                told (inl same) = cases (more_at_cases (rooms_for old stop.mode) (rooms_for new stop.mode) stop.key flow
+                    more k other (subst (λ q. IsParked new k q other) (sym same) is))
+                  where
+                    cases : ((stop.key ≡ k) × (flow ≡ other)) ⊎ IsParked old k stop.mode other
+                        → IsParked old k m other ⊎ ((stop.key ≡ k) × (stop.mode ≡ m) × (flow ≡ other))
+                    cases (inl (key_is, own_is)) = inr (key_is, same, own_is)
+                    cases (inr was) = inl (subst (λ q. IsParked old k q other) same was)

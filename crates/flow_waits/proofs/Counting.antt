@@ -76,14 +76,14 @@ module _ (setup : Setup) (flow : ℕ) where
           all = ap length (events_by-append flow entries (record { flow = own; event = event } ∷ []))
               ∙ length-append (events_by flow entries) (events_by flow (record { flow = own; event = event } ∷ []))
               ∙ ap (λ (b : Bool). length (events_by flow entries) + length (cond b (event ∷ []) []))
-                  (eq-eqb own.0 flow same)
+              (eq-eqb own.0 flow same)
 
           owns : length (own_events (with_entry entries own event) flow) ≡ length (own_events entries flow) + length
               (unless_wait event)
           owns = ap length (own_events-append flow entries (record { flow = own; event = event } ∷ []))
               ∙ length-append (own_events entries flow) (own_events (record { flow = own; event = event } ∷ []) flow)
               ∙ ap (λ (b : Bool). length (own_events entries flow) + length
-                  (flat_map unless_wait (cond b (event ∷ []) []))) (eq-eqb own.0 flow same)
+              (flat_map unless_wait (cond b (event ∷ []) []))) (eq-eqb own.0 flow same)
               ∙ ap (λ es. length (own_events entries flow) + length es) (append-nil (unless_wait event))
 
           waits : (key : Key) (mode : Mode) → event ≡ Wait key mode → IsCounted (with_entry entries own event) flow
@@ -112,8 +112,10 @@ module _ (setup : Setup) (flow : ℕ) where
           told (inr no_wait) =
               let one = own-count event no_wait in
               let most = counted.most in
-              record { most = omega (arith, all, owns, one, most);
-                  no_wait = λ none. omega (arith, all, owns, one, most) }
+              record {
+                most = omega (arith, all, owns, one, most);
+                no_wait = λ none. omega (arith, all, owns, one, most);
+              }
 
       by : (own.0 ≡ flow) ⊎ (own.0 ≡ flow → ⊥) → IsCounted (with_entry entries own event) flow
       by (inl same) = here same
@@ -124,10 +126,10 @@ module _ (setup : Setup) (flow : ℕ) where
   counted-all before [] legal counted = rw (append-nil before) counted
   counted-all before (entry ∷ after) legal counted =
       let whole : before ++ entry ∷ after ≡ (before ++ entry ∷ []) ++ after =
-          sym (append_assoc before (entry ∷ []) after) in
+      sym (append_assoc before (entry ∷ []) after) in
       let legal_whole = subst (IsLegal setup) whole legal in
       let one = counted-more before entry.flow entry.event
-          (fronts_are_legal setup (before ++ entry ∷ []) after legal_whole) counted in
+      (fronts_are_legal setup (before ++ entry ∷ []) after legal_whole) counted in
       subst (λ es. IsCounted es flow) (sym whole) (counted-all (before ++ entry ∷ []) after legal_whole one)
 
   counted : (entries : List Entry) → IsLegal setup entries → IsCounted entries flow

@@ -66,7 +66,7 @@ lowest-no_wait setup old since flow event is key mode e =
     let lowest = is.allowed in
     let can = lowest.can in
     let may : IsMove setup (old ++ since) flow (Wait key mode) =
-        subst (λ (own : Event). IsMove setup (old ++ since) flow own) e is.move in
+    subst (λ (own : Event). IsMove setup (old ++ since) flow own) e is.move in
     can.free may.blocked
 
 module _ (setup : Setup) (old new : List Entry) (kept : IsDraining setup old new) where
@@ -112,7 +112,7 @@ lags setup entries after pools from flow covers ready moves = let makes = moves.
 module _ {L : Type 0} (meaning : L → LibraryMeaning) (start old new : CoreState L) (pools : Pools) (flow : FlowNo)
     (turn : Turn)
     (same : SameSetting start old) (kept : IsDraining (setup_in meaning start) start.entries old.entries)
-        (chosen : IsChosen (setup_in meaning old) old.entries pools 0 flow.0)
+    (chosen : IsChosen (setup_in meaning old) old.entries pools 0 flow.0)
     (stays : SameSetting old new) (takes : TakesTurn (setup_in meaning old) old.entries flow new.entries turn) where
   own-moves : Moves (setup_in meaning old) old.entries flow new.entries
   own-moves = can-move (setup_in meaning old) old.entries flow new.entries turn (let first = chosen.first in first.can)
@@ -133,7 +133,7 @@ module _ {L : Type 0} (meaning : L → LibraryMeaning) (start old new : CoreStat
   pub turn-lags : Covers (setup_in meaning old) old.entries pools 0 → Lags (setup_in meaning new) new.entries pools 0
   turn-lags covers = subst (λ s. Lags s new.entries pools 0) (sym (same-setup meaning old new stays))
       (lags (setup_in meaning old) old.entries new.entries pools 0 flow covers
-          (let earliest = chosen.earliest in earliest.is) own-moves)
+      (let earliest = chosen.earliest in earliest.is) own-moves)
 
   pub turn-longer : length new.entries ≡ length old.entries + 1
   turn-longer = let moves = own-moves in

@@ -29,13 +29,13 @@ cond_apart false x y apart = refl
 
 pub changed_is : (before after : Rooms) (key : Key) (now : List ℕ)
     → ((q : Key) → found after q ≡ cond (is_eq (key_cmp key q)) (Some now) (found before q))
-        → IsChanged before after key now
+    → IsChanged before after key now
 changed_is before after key now says = record {
   at = ap in_room (sym (found_is after key) ∙ says key ∙ cond_same (is_eq (key_cmp key key)) (Some now)
       (found before key) (key_cmp_same key key ∙ same_key_itself key));
   others = λ other apart. ap in_room (sym (found_is after other) ∙ says other
       ∙ cond_apart (is_eq (key_cmp key other)) (Some now) (found before other) (key_cmp_same key other ∙ apart)
-          ∙ found_is before other);
+      ∙ found_is before other);
 }
 
 -- what a look-up gives is the room
@@ -65,12 +65,14 @@ pub unchanged : (rooms after : Rooms) (key : Key) (room now : List ℕ)
     → Some room ≡ found rooms key → now ≡ room → after ≡ rooms
 unchanged rooms after key room now written there same =
     written ∙ ap (set_value (λ other. is_eq (key_cmp key other)) rooms) same ∙ set_value_same
-        (λ other. is_eq (key_cmp key other)) rooms room (sym there)
+    (λ other. is_eq (key_cmp key other)) rooms room (sym there)
 
 -- no room has no numbers
 pub none_less : (rooms : Rooms) (key : Key) (flow : ℕ) → room_at rooms key ≡ [] → IsLessAt rooms rooms key flow
-none_less rooms key flow none = record { at = λ other. rw none (and_false (not (eqb flow other)));
-    others = λ other apart. refl }
+none_less rooms key flow none = record {
+  at = λ other. rw none (and_false (not (eqb flow other)));
+  others = λ other apart. refl;
+}
   where
     and_false : (b : Bool) → false ≡ (b && false)
     and_false true = refl

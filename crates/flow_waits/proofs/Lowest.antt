@@ -34,4 +34,4 @@ pub none-live : (setup : Setup) (entries : List Entry) → IsLegal setup entries
     → length setup.items ≤ count → AreBlocked setup entries count → (flow : ℕ) → IsLive setup entries flow → ⊥
 none-live setup entries legal count enough all flow live =
     not_all_blocked setup entries legal (λ other there. let lt =
-        there.item in all other (omega (arith, lt, enough)) there) flow live
+    there.item in all other (omega (arith, lt, enough)) there) flow live

@@ -78,7 +78,7 @@ module _ (old new : Rooms) (key : Key) (flow : ℕ) where
       → has (room_at new k) other ≡ true
   more_at_there more k other is = key_cases key k
       (λ same _. ap (λ q. has (room_at new q) other) (sym same) ∙ more_there (room_at old key) (room_at new key) flow
-          more.at other (ap (λ q. has (room_at old q) other) same ∙ is))
+      more.at other (ap (λ q. has (room_at old q) other) same ∙ is))
       (λ apart _. ap (λ room. has room other) (more.others k apart) ∙ is)
 
   pub more_at_own : IsMoreAt old new key flow → has (room_at new key) flow ≡ true
@@ -88,7 +88,7 @@ module _ (old new : Rooms) (key : Key) (flow : ℕ) where
       → has (room_at old k) other ≡ true
   less_at_there less k other is = key_cases key k
       (λ same _. ap (λ q. has (room_at old q) other) (sym same) ∙ less_there (room_at old key) (room_at new key) flow
-          less.at other (ap (λ q. has (room_at new q) other) same ∙ is))
+      less.at other (ap (λ q. has (room_at new q) other) same ∙ is))
       (λ apart _. ap (λ room. has room other) (sym (less.others k apart)) ∙ is)
 
   pub less_at_own : IsLessAt old new key flow → has (room_at new key) flow ≡ true → ⊥

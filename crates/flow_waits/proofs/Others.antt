@@ -24,7 +24,7 @@ module _ (entries : List Entry) (flow : FlowNo) (event : Event) (other : ℕ) (a
   events-stay =
       events_by-append other entries (record { flow = flow; event = event } ∷ [])
       ∙ ap (λ es. events_by other entries ++ es) (by_another flow other event apart) ∙ append-nil
-          (events_by other entries)
+      (events_by other entries)
 
   own-stay : own_events more other ≡ own_events entries other
   own-stay = ap (flat_map unless_wait) events-stay
@@ -47,8 +47,11 @@ module _ (entries : List Entry) (flow : FlowNo) (event : Event) (other : ℕ) (a
   live-back setup live = record { item = live.item; goes_on = λ outcome is. live.goes_on outcome (rw events-stay is) }
 
   pub live-stays : (setup : Setup) → IsLive setup entries other → IsLive setup more other
-  live-stays setup live = record { item = live.item; goes_on =
-      λ outcome is. live.goes_on outcome (rw events-stay at is) }
+  live-stays setup live = record {
+    item = live.item;
+    goes_on =
+        λ outcome is. live.goes_on outcome (rw events-stay at is);
+  }
 
   -- the last entry, forth and back
   pub last-stays : (last : Event) (place : ℕ) → IsLast entries (record { 0 = other }) last place
@@ -58,10 +61,10 @@ module _ (entries : List Entry) (flow : FlowNo) (event : Event) (other : ℕ) (a
     after = is.after ++ record { flow = flow; event = event } ∷ [];
     stands = ap (λ es. es ++ record { flow = flow; event = event } ∷ []) is.stands
         ∙ append_assoc is.before (record { flow = record { 0 = other }; event = last } ∷ is.after)
-            (record { flow = flow; event = event } ∷ []);
+        (record { flow = flow; event = event } ∷ []);
     last = events_by-append other is.after (record { flow = flow; event = event } ∷ [])
         ∙ ap (λ es. es ++ events_by other (record { flow = flow; event = event } ∷ [])) is.last ∙ by_another flow other
-            event apart;
+        event apart;
     at = is.at;
   }
 
@@ -74,14 +77,14 @@ module _ (entries : List Entry) (flow : FlowNo) (event : Event) (other : ℕ) (a
           → events_by other rest ≡ []
       front-last rest e =
           sym (append-nil (events_by other rest)) ∙ ap (λ es. events_by other rest ++ es)
-              (sym (by_another flow other event apart))
+          (sym (by_another flow other event apart))
           ∙ sym (events_by-append other rest (record { flow = flow; event = event } ∷ [])) ∙ ap (events_by other)
-              (sym e) ∙ is.last
+          (sym e) ∙ is.last
 
       by : IsEnd entries (record { flow = flow; event = event }) is.before
           (record { flow = record { 0 = other }; event = last }) is.after
           ⊎ InFront entries (record { flow = flow; event = event }) is.before
-              (record { flow = record { 0 = other }; event = last }) is.after
+          (record { flow = record { 0 = other }; event = last }) is.after
           → IsLast entries (record { 0 = other }) last place
       by (inl end) = absurd (apart (ap (λ (x : Entry). x.flow.0) end.same))
       by (inr front) = record {

@@ -58,9 +58,10 @@ each-all : (Is : List Entry → FlowNo → Event → Type 0) (P : Entry → Type
 each-all Is P gives before [] each = tt
 each-all Is P gives before (entry ∷ after) each =
     let whole : before ++ entry ∷ after ≡ (before ++ entry ∷ []) ++ after =
-        sym (append_assoc before (entry ∷ []) after) in
-    (gives before entry.flow entry.event (each before after entry.flow entry.event refl),
-    each-all Is P gives (before ++ entry ∷ []) after (subst (EachStands Is) whole each))
+    sym (append_assoc before (entry ∷ []) after) in (
+      gives before entry.flow entry.event (each before after entry.flow entry.event refl),
+      each-all Is P gives (before ++ entry ∷ []) after (subst (EachStands Is) whole each),
+    )
 
 pub each-holds : (Is : List Entry → FlowNo → Event → Type 0) (P : Entry → Type 0)
     → ((before : List Entry) (flow : FlowNo) (event : Event) → Is before flow event
@@ -105,7 +106,7 @@ module _ (Allows : List Entry → FlowNo → Event → Type 0) (setup : Setup) (
   pub scheduling-few : length entries ≤ most_entries setup
   scheduling-few = few-entries setup entries kept.legal
 
-  pub scheduled : ((flow : ℕ) → IsLive setup entries flow → ⊥) → IsScheduled Allows setup old entries
+  abbrev pub scheduled : ((flow : ℕ) → IsLive setup entries flow → ⊥) → IsScheduled Allows setup old entries
   scheduled over = record { more = kept.more; added = kept.added; each = kept.each; over = over }
 
 pub move-longer : (setup : Setup) (entries after : List Entry) (flow : FlowNo) (event : Event)
@@ -122,7 +123,7 @@ legal-on Allows setup old before [] each legal = rw (append-nil before) legal
 legal-on Allows setup old before (entry ∷ after) each legal =
     let own = each before after entry.flow entry.event refl in
     let whole : before ++ entry ∷ after ≡ (before ++ entry ∷ []) ++ after =
-        sym (append_assoc before (entry ∷ []) after) in
+    sym (append_assoc before (entry ∷ []) after) in
     subst (λ es. IsLegal setup (old ++ es)) (sym whole)
     (legal-on Allows setup old (before ++ entry ∷ []) after (subst (EachStands (IsAllowed Allows setup old)) whole each)
     (subst (IsLegal setup) (append_assoc old before (entry ∷ []))

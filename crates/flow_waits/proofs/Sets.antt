@@ -69,7 +69,7 @@ module _ (s : BTreeSet ℕ) (from : ℕ) (r : List ℕ) (range : IsKeyRangeOf na
       at_most : (other : ℕ) → found s.keys other ≡ true → from ≤ other → flow ≤ other
       at_most other there le =
           le_from_not_gt flow other (subst (λ (l : List ℕ). IfSome (slice_get l 0) (λ k. IsLeBy nat_cmp k other)) is
-              (range.2 other (not_gt from other le, tt) there))
+          (range.2 other (not_gt from other le, tt) there))
 
       above : from ≤ flow
       above = le_from_not_gt from flow inside.0.0

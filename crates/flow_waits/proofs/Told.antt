@@ -38,7 +38,7 @@ pub last-event : (before : List Entry) (flow : FlowNo) (event : Event) (entries 
 last-event before flow event entries journal entry added same last =
     let whole : journal ≡ before ++ record { flow = flow; event = event } ∷ [] = same ∙ added in
     let one : Some entry ≡ Some (record { flow = flow; event = event }) =
-        (rw whole at last) ∙ last-is before (record { flow = flow; event = event }) in
+    (rw whole at last) ∙ last-is before (record { flow = flow; event = event }) in
     let own : entry ≡ record { flow = flow; event = event } = cc one in
     ap (λ (e : Entry). e.event) (sym own)
 
@@ -55,12 +55,12 @@ module _ (setup : Setup) (entries : List Entry) (legal : IsLegal setup entries) 
   owed_or flow live = subst (λ es. IsCovered setup es pools from flow ⊎ IsOwed es lags.event pools flow)
       (sym lags.added)
       (carried setup lags.before lags.flow lags.event split pools lags.was from covers lags.ready lags.later flow
-          (subst (λ es. IsLive setup es flow) lags.added live))
+      (subst (λ es. IsLive setup es flow) lags.added live))
 
   are-fresh : AreFresh setup entries pools
   are-fresh key mode flow parked = subst (λ es. IsFresh setup es flow key mode) (sym lags.added)
       (parked-fresh setup lags.before lags.flow lags.event split pools lags.was from covers lags.ready lags.later key
-          mode flow parked)
+      mode flow parked)
 
   -- an event that neither takes nor drops a key
   pub told-other : ((key : Key) (mode : Mode) → lags.event ≡ Take key mode → ⊥)
@@ -79,7 +79,7 @@ module _ (setup : Setup) (entries : List Entry) (legal : IsLegal setup entries) 
         where
           none : ((lags.event ≡ Drop owed.key) × (place : ℕ) × StandsAt entries flow owed.key owed.mode place)
               ⊎ (((lags.event ≡ Drop owed.key) ⊎ (lags.event ≡ Take owed.key owed.mode)) × IsParked pools owed.key
-                  owed.mode flow) → ⊥
+              owed.mode flow) → ⊥
           none (inl (drops, place, stands)) = no_drop owed.key drops
           none (inr (inl drops, parked)) = no_drop owed.key drops
           none (inr (inr takes, parked)) = no_take owed.key owed.mode takes
@@ -107,7 +107,7 @@ module _ (setup : Setup) (entries : List Entry) (legal : IsLegal setup entries) 
 
           cause : ((lags.event ≡ Drop owed.key) × (place : ℕ) × StandsAt entries flow owed.key owed.mode place)
               ⊎ (((lags.event ≡ Drop owed.key) ⊎ (lags.event ≡ Take owed.key owed.mode)) × IsParked pools owed.key
-                  owed.mode flow) → IsCovered setup entries new from flow
+              owed.mode flow) → IsCovered setup entries new from flow
           cause (inl (drops, place, stands)) = unlike drops
           cause (inr (inl drops, parked)) = unlike drops
           cause (inr (inr other, parked)) =
@@ -120,63 +120,63 @@ module _ (setup : Setup) (entries : List Entry) (legal : IsLegal setup entries) 
   module _ (one two new : Pools) (key : Key) (line : List Waiter) (drops : lags.event ≡ Drop key)
       (first : Wakes pools one key Reader from)
       (second : Wakes one two key Writer from) (is_line : IsLineAt entries key line) (last : WakesLine two new line)
-          where
-    fresh-one : AreFresh setup entries one
-    fresh-one = woken-fresh setup entries pools one key Reader from first are-fresh
+    where
+      fresh-one : AreFresh setup entries one
+      fresh-one = woken-fresh setup entries pools one key Reader from first are-fresh
 
-    fresh-two : AreFresh setup entries two
-    fresh-two = woken-fresh setup entries one two key Writer from second fresh-one
+      fresh-two : AreFresh setup entries two
+      fresh-two = woken-fresh setup entries one two key Writer from second fresh-one
 
-    after-one : (flow : ℕ) → IsCovered setup entries one from flow → IsCovered setup entries new from flow
-    after-one flow is = line-covered setup entries legal two new key from line is_line last flow
-        (woken-covered setup entries one two key Writer from second flow is)
+      after-one : (flow : ℕ) → IsCovered setup entries one from flow → IsCovered setup entries new from flow
+      after-one flow is = line-covered setup entries legal two new key from line is_line last flow
+          (woken-covered setup entries one two key Writer from second flow is)
 
-    served-room : (mode : Mode) (flow : ℕ) → IsParked pools key mode flow → IsCovered setup entries new from flow
-    served-room Reader flow parked = after-one flow (woken-owed setup entries pools one key Reader from first are-fresh
-        flow parked)
-    served-room Writer flow parked = by (woken-kept setup entries pools one key Reader from first key Writer flow
-        parked)
-      where
-        by : IsParked one key Writer flow ⊎ IsReady one flow → IsCovered setup entries new from flow
-        by (inl there) = line-covered setup entries legal two new key from line is_line last flow
-            (woken-owed setup entries one two key Writer from second fresh-one flow there)
-        by (inr ready) = after-one flow (inl ready)
+      served-room : (mode : Mode) (flow : ℕ) → IsParked pools key mode flow → IsCovered setup entries new from flow
+      served-room Reader flow parked = after-one flow (woken-owed setup entries pools one key Reader from first are-fresh
+          flow parked)
+      served-room Writer flow parked = by (woken-kept setup entries pools one key Reader from first key Writer flow
+          parked)
+        where
+          by : IsParked one key Writer flow ⊎ IsReady one flow → IsCovered setup entries new from flow
+          by (inl there) = line-covered setup entries legal two new key from line is_line last flow
+              (woken-owed setup entries one two key Writer from second fresh-one flow there)
+          by (inr ready) = after-one flow (inl ready)
 
-    pub told-drop : Covers setup entries new from
-    told-drop = record {
-      each = λ flow live. by flow (owed_or flow live);
-      fresh = line-fresh setup entries legal two new key from line is_line last fresh-two;
-      apart = line-apart setup entries legal two new key from line is_line last fresh-two
-          (woken-apart setup entries one two key Writer from second fresh-one
-              (woken-apart setup entries pools one key Reader from first are-fresh covers.apart));
-      exist = line-exist setup entries legal two new key from line is_line last
-          (woken-exist setup entries one two key Writer from second fresh-one
-              (woken-exist setup entries pools one key Reader from first are-fresh covers.exist));
-    }
-      where
-        by : (flow : ℕ) → IsCovered setup entries pools from flow ⊎ IsOwed entries lags.event pools flow
-            → IsCovered setup entries new from flow
-        by flow (inl is) = after-one flow (woken-covered setup entries pools one key Reader from first flow is)
-        by flow (inr owed) = cause owed.cause
-          where
-            here : lags.event ≡ Drop owed.key → owed.key ≡ key
-            here other = let same : Drop key ≡ Drop owed.key = sym drops ∙ other in cc
+      pub told-drop : Covers setup entries new from
+      told-drop = record {
+        each = λ flow live. by flow (owed_or flow live);
+        fresh = line-fresh setup entries legal two new key from line is_line last fresh-two;
+        apart = line-apart setup entries legal two new key from line is_line last fresh-two
+            (woken-apart setup entries one two key Writer from second fresh-one
+            (woken-apart setup entries pools one key Reader from first are-fresh covers.apart));
+        exist = line-exist setup entries legal two new key from line is_line last
+            (woken-exist setup entries one two key Writer from second fresh-one
+            (woken-exist setup entries pools one key Reader from first are-fresh covers.exist));
+      }
+        where
+          by : (flow : ℕ) → IsCovered setup entries pools from flow ⊎ IsOwed entries lags.event pools flow
+              → IsCovered setup entries new from flow
+          by flow (inl is) = after-one flow (woken-covered setup entries pools one key Reader from first flow is)
+          by flow (inr owed) = cause owed.cause
+            where
+              here : lags.event ≡ Drop owed.key → owed.key ≡ key
+              here other = let same : Drop key ≡ Drop owed.key = sym drops ∙ other in cc
 
-            cause : ((lags.event ≡ Drop owed.key) × (place : ℕ) × StandsAt entries flow owed.key owed.mode place)
-                ⊎ (((lags.event ≡ Drop owed.key) ⊎ (lags.event ≡ Take owed.key owed.mode)) × IsParked pools owed.key
-                    owed.mode flow) → IsCovered setup entries new from flow
-            cause (inl (other, place, stands)) =
-                line-owed setup entries legal two new key from line is_line last flow owed.mode place
-                    (subst (λ k. StandsAt entries flow k owed.mode place) (here other) stands)
-            cause (inr (inl other, parked)) = served-room owed.mode flow
-                (subst (λ k. IsParked pools k owed.mode flow) (here other) parked)
-            cause (inr (inr takes, parked)) = absurd (neither (sym takes ∙ drops))
-              where
-                neither : Take owed.key owed.mode ≡ Drop key → ⊥
-                neither e = cc
+              cause : ((lags.event ≡ Drop owed.key) × (place : ℕ) × StandsAt entries flow owed.key owed.mode place)
+                  ⊎ (((lags.event ≡ Drop owed.key) ⊎ (lags.event ≡ Take owed.key owed.mode)) × IsParked pools owed.key
+                  owed.mode flow) → IsCovered setup entries new from flow
+              cause (inl (other, place, stands)) =
+                  line-owed setup entries legal two new key from line is_line last flow owed.mode place
+                  (subst (λ k. StandsAt entries flow k owed.mode place) (here other) stands)
+              cause (inr (inl other, parked)) = served-room owed.mode flow
+                  (subst (λ k. IsParked pools k owed.mode flow) (here other) parked)
+              cause (inr (inr takes, parked)) = absurd (neither (sym takes ∙ drops))
+                where
+                  neither : Take owed.key owed.mode ≡ Drop key → ⊥
+                  neither e = cc
 
-    pub drop-ready : StayReady pools new
-    drop-ready flow ready =
-        line-ready setup entries legal two new key from line is_line last flow
-        (woken-ready setup entries one two key Writer from second flow
-            (woken-ready setup entries pools one key Reader from first flow ready))
+      pub drop-ready : StayReady pools new
+      drop-ready flow ready =
+          line-ready setup entries legal two new key from line is_line last flow
+          (woken-ready setup entries one two key Writer from second flow
+          (woken-ready setup entries pools one key Reader from first flow ready))

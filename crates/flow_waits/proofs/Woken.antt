@@ -48,8 +48,12 @@ covered-more setup entries old new from flow more stays (inr (inr room)) = by (s
     cause : IsBlocked setup entries flow ⊎ IsBehind setup entries old from room.key room.mode flow
         → IsBlocked setup entries flow ⊎ IsBehind setup entries new from room.key room.mode flow
     cause (inl blocked) = inl blocked
-    cause (inr behind) = inr (record { other = behind.other; ready = more behind.other behind.ready;
-        fresh = behind.fresh; before = behind.before })
+    cause (inr behind) = inr (record {
+      other = behind.other;
+      ready = more behind.other behind.ready;
+      fresh = behind.fresh;
+      before = behind.before;
+    })
 
     by : IsParked new room.key room.mode flow ⊎ IsReady new flow → IsCovered setup entries new from flow
     by (inr ready) = inl ready
@@ -74,7 +78,7 @@ module _ (setup : Setup) (entries : List Entry) (old new : Pools) (key : Key) (m
       here same (inl (none, ready, stay)) = rw (← same, ← stay, same) parked
       here same (inr (first, moves)) =
           subst (λ q. IsParked old k q flow) same (less_at_there (rooms_for old mode) (rooms_for new mode) key first
-              moves.left k flow (subst (λ q. IsParked new k q flow) (sym same) parked))
+          moves.left k flow (subst (λ q. IsParked new k q flow) (sym same) parked))
 
       by : (mode ≡ m) ⊎ (mode ≡ m → ⊥) → IsParked old k m flow
       by (inl same) = here same wakes.first
@@ -87,7 +91,7 @@ module _ (setup : Setup) (entries : List Entry) (old new : Pools) (key : Key) (m
           → IsParked new k m flow ⊎ IsReady new flow
       here same (inl (none, ready, stay)) =
           inl (subst (λ q. IsParked new k q flow) same
-              (ap (λ rooms. has (room_at rooms k) flow) stay ∙ subst (λ q. IsParked old k q flow) (sym same) parked))
+          (ap (λ rooms. has (room_at rooms k) flow) stay ∙ subst (λ q. IsParked old k q flow) (sym same) parked))
       here same (inr (first, moves)) = told (less_at_kept (rooms_for old mode) (rooms_for new mode) key first moves.left
           k flow (subst (λ q. IsParked old k q flow) (sym same) parked))
         where
@@ -116,11 +120,11 @@ module _ (setup : Setup) (entries : List Entry) (old new : Pools) (key : Key) (m
           let one = fresh key mode flow (subst (IsParked old key mode) same earliest.is) in
           let other = fresh k m flow (woken-back k m flow parked) in
           let takes : Take key mode ≡ Take k m = next-unique setup entries flow (Take key mode) (Take k m) one.next
-              other.next in
+          other.next in
           let key_is : key ≡ k = cc takes in
           let mode_is : mode ≡ m = cc takes in
           less_at_own (rooms_for old mode) (rooms_for new mode) key first moves.left
-              (rw (key_is, same) (subst (λ q. IsParked new k q flow) (sym mode_is) parked))
+          (rw (key_is, same) (subst (λ q. IsParked new k q flow) (sym mode_is) parked))
 
       by : WakesFirst old.ready new.ready (rooms_for old mode) (rooms_for new mode) key from → ⊥
       by (inl (none, same, stay)) = apart k m flow (woken-back k m flow parked) (rw same at ready)
@@ -202,9 +206,13 @@ module _ (entries : List Entry) (key : Key) where
 
       by : (eqb flow waiter.flow.0 ≡ true) ⊎ (has (cond (is_writer waiter.mode) [] (served_of line)) flow ≡ true)
           → (has (served_of line) flow ≡ true → (mode : Mode) × (at : ℕ) × StandsAt entries flow key mode at)
-              → (mode : Mode) × (at : ℕ) × StandsAt entries flow key mode at
-      by (inl same) more = (waiter.mode, place, subst (λ (f : ℕ). StandsAt entries f key waiter.mode place)
-          (sym (eqb-true flow waiter.flow.0 same)) stands)
+          → (mode : Mode) × (at : ℕ) × StandsAt entries flow key mode at
+      by (inl same) more = (
+        waiter.mode,
+        place,
+        subst (λ (f : ℕ). StandsAt entries f key waiter.mode place)
+            (sym (eqb-true flow waiter.flow.0 same)) stands,
+      )
       by (inr there) more = more (rest (is_writer waiter.mode) there)
 
   -- who stands there is served, or stands behind a writer
@@ -220,13 +228,13 @@ module _ (entries : List Entry) (key : Key) where
   served-or-behind [] flow mode place order is stands = absurd is
   served-or-behind (waiter ∷ line) flow mode place ((at, stand, behind), order) (inl same) stands =
       inl (left (eqb flow.0 waiter.flow.0) (has (cond (is_writer waiter.mode) [] (served_of line)) flow.0)
-          (eq-eqb flow.0 waiter.flow.0 (ap (λ (w : Waiter). w.flow.0) (sym same))))
+      (eq-eqb flow.0 waiter.flow.0 (ap (λ (w : Waiter). w.flow.0) (sym same))))
   served-or-behind (waiter ∷ line) flow mode place ((at, stand, behind), order) (inr there) stands =
       by waiter.mode refl (served-or-behind line flow mode place order there stands)
     where
       by : (m : Mode) → waiter.mode ≡ m → (has (served_of line) flow.0 ≡ true) ⊎ IsBehindWriter place
           → ((eqb flow.0 waiter.flow.0 || has (cond (is_writer m) [] (served_of line)) flow.0) ≡ true) ⊎ IsBehindWriter
-              place
+          place
       by Writer writes more = inr (record {
         writer = waiter.flow.0;
         earlier = at;
@@ -279,7 +287,7 @@ module _ (setup : Setup) (entries : List Entry) (legal : IsLegal setup entries) 
       by (inl served) =
           let (own, place, stands) = served-stands entries key line flow is_line.order served in
           next-item setup entries flow (Take key own) (standing-next setup entries flow key own place legal.waits
-              stands)
+          stands)
       by (inr was) = exist flow was
 
   pub line-owed : (flow : ℕ) (mode : Mode) (place : ℕ) → StandsAt entries flow key mode place
@@ -287,7 +295,7 @@ module _ (setup : Setup) (entries : List Entry) (legal : IsLegal setup entries) 
   line-owed flow mode place stands =
       by (served-or-behind entries key line (record { 0 = flow }) mode place is_line.order
       (in-from_contains line (record { flow = record { 0 = flow }; mode = mode })
-          (is_line.all (record { 0 = flow }) mode place stands)) stands)
+      (is_line.all (record { 0 = flow }) mode place stands)) stands)
     where
       by : (has (served_of line) flow ≡ true) ⊎ IsBehindWriter entries key place → IsCovered setup entries new from flow
       by (inl served) = inl (wakes.ready_ flow ∙ left (has (served_of line) flow) (has old.ready flow) served)

@@ -13,9 +13,9 @@ ghost use Rattle.flow_waits.specs.steps.Covers.{Covers, IsChosen, Lags, StayRead
 use crate::numbers::Numbers;
 use crate::rooms::Rooms;
 use flow_core::{Core, Stop};
+use flow_model::{Event, Key};
 use flux_library::Library;
 use flux_model::{FlowNo, Mode};
-use flow_model::{Event, Key};
 use flux_table::Waiter;
 use flux_values::Memory;
 use std::alloc::Global;

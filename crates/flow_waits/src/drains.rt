@@ -9,10 +9,9 @@ ghost use Rattle.flow_waits.specs.Drains.{DrainsTo};
 
 use crate::candidates::Candidates;
 use crate::turns::take_turn;
-use flow_core::Core;
+use flow_core::{Core, Gate, OpenGate};
 use flux_library::Library;
 use flux_model::FlowNo;
-use flow_core::{Gate, OpenGate};
 use flux_values::Memory;
 
 /// The lowest-numbered flow that has not ended and isn't blocked. There is one wherever a flow is live.

@@ -6,10 +6,9 @@ ghost use Rattle.flow_waits.specs.Turns.{TakesTurn};
 ghost use Rattle.flow_core.specs.Runs.{LeavesOthers};
 ghost use Rattle.flow_waits.specs.Driven.{IsJobOf, MakesCall};
 
-use flow_core::{Core, Job, Step};
+use flow_core::{Core, Gate, Job, Step};
 use flux_library::Library;
 use flux_model::FlowNo;
-use flow_core::Gate;
 use flux_values::Memory;
 
 /// What a flow made of its turn.

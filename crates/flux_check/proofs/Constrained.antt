@@ -79,12 +79,7 @@ on_all node (Atomic own cs ∷ decls) c is = one (bytes_eq own.text node) is (on
         two (inl i) = among_left c cs (flat_map constraints_of decls) i
         two (inr i) = among_right c cs (flat_map constraints_of decls) (more i)
     one false is more = among_right c cs (flat_map constraints_of decls) (more is)
-on_all node (Signature name ins outs ∷ decls) c is = on_all node decls c is
-on_all node (Flow name patterns members ∷ decls) c is = on_all node decls c is
-on_all node (Source name target ∷ decls) c is = on_all node decls c is
-on_all node (Typedef name function ∷ decls) c is = on_all node decls c is
-on_all node (Handler own codes handler ∷ decls) c is = on_all node decls c is
-on_all node (Session source function ∷ decls) c is = on_all node decls c is
+on_all node (other ∷ decls) c is = on_all node decls c is
 
 -- with the node of its line
 pub record IsLineOf (node : List ℕ) (decls : List Decl) (c : Constraint) : Type 0 where

@@ -1,17 +1,20 @@
 -- Names in both scopes, by the constraints that were seen and by those before.
-use Rattle.std.proofs.Common.{◌≡◌, ℕ, ◌||◌, ◌&&◌, Bool, true, false, not, List, [], ◌∷◌, ◌++◌, inl, inr, ◌⊎◌, refl, sym, ap, subst, ◌∙◌}
+use Rattle.std.proofs.Common.{◌≡◌, ℕ, ◌||◌, ◌&&◌, Bool, true, false, not, List, [], ◌∷◌, ◌++◌, inl, inr, ◌⊎◌, refl, sym, ap, ◌∙◌}
 use Rattle.std.specs.Bool.{beq}
 use Rattle.std.specs.List.{list_any}
 use Rattle.std.specs.Str.{bytes_eq}
 use Rattle.std.proofs.lemmas.List.Folds.{list_any-append}
 use Rattle.std.proofs.lemmas.List.{append_assoc}
+use Rattle.std.proofs.Math.Bool.{and-false, or-false}
+use Rattle.flux_check.proofs.Rowless.{no_word}
+use Rattle.flux_syntax.proofs.Found.{any_same}
+use Rattle.flux_syntax.proofs.RowLemmas.{none_either}
 use Rattle.flux_syntax.specs.declared.declarations.Word.{Word}
-use Rattle.flux_syntax.specs.declared.declarations.Constraint.{Constraint}
 use Rattle.flux_names.specs.Rows.{word_if}
 use Rattle.flux_check.specs.Rows.{ConstraintOn, is_other_scope, both_scopes_after}
 use Rattle.flux_check.specs.steps.Seen.{Flags, has_flag, is_crossed, and_scope, and_scopes, crossed_by}
 use Rattle.flux_names.proofs.Symbols.{bytes_same}
-use Rattle.flux_check.proofs.Flagged.{or_last, has_more, any_same}
+use Rattle.flux_check.proofs.Flagged.{has_more}
 use Rattle.flux_check.proofs.Constrained.{IsAmong, among_left, among_right, among_any}
 
 -- ---- as they were seen
@@ -46,7 +49,7 @@ crossed_from seen before (own ∷ ons) same =
         let new : Bool = bytes_eq node own.node.text && bytes_eq name mine.name.text && beq flag mine.session in
         has_more seen own.node.text mine.name.text mine.session node name flag
         ∙ ap (λ (b : Bool). b || new) (same node name flag)
-        ∙ ap (λ (b : Bool). flagged before node name flag || b) (sym (or_last new))
+        ∙ ap (λ (b : Bool). flagged before node name flag || b) (sym (or-false new))
         ∙ sym (list_any-append (λ (b : ConstraintOn). let c = b.constraint in bytes_eq node b.node.text && bytes_eq name c.name.text && beq flag c.session) before (own ∷ []))
 
 -- those whose other scope was seen are those whose other scope stood before
@@ -62,14 +65,6 @@ crossed_append seen (own ∷ first) second =
 
 -- ---- where the row doesn't stand
 
-nil_append : (a b : List Word) → a ++ b ≡ [] → (a ≡ []) × (b ≡ [])
-nil_append [] b e = (refl, e)
-nil_append (w ∷ a) b e = absurd cc
-
-unworded : (t : Bool) (w : Word) → word_if t w ≡ [] → t ≡ false
-unworded true w e = absurd cc
-unworded false w e = refl
-
 no_other : (x : ConstraintOn) (before : List ConstraintOn) (y : ConstraintOn) → list_any (is_other_scope x) before ≡ false → IsAmong y before → is_other_scope x y ≡ false
 no_other x before y none is = one (is_other_scope x y) refl
   where
@@ -81,11 +76,11 @@ apart_before : (before ons : List ConstraintOn) → both_scopes_after before ons
 apart_before before [] e x y is other = absurd is
 apart_before before (own ∷ ons) e x y is other =
     let mine = own.constraint in
-    let both = nil_append (word_if (list_any (is_other_scope own) before) mine.name) (both_scopes_after (before ++ own ∷ []) ons) e in
+    let both = none_either (word_if (list_any (is_other_scope own) before) mine.name) (both_scopes_after (before ++ own ∷ []) ons) e in
     one both.0 is (λ i. apart_before (before ++ own ∷ []) ons both.1 x y i (among_left y before (own ∷ []) other))
   where
     one : (let mine = own.constraint in word_if (list_any (is_other_scope own) before) mine.name ≡ []) → (x ≡ own) ⊎ IsAmong x ons → (IsAmong x ons → is_other_scope x y ≡ false) → is_other_scope x y ≡ false
-    one none (inl same) more = ap (λ (o : ConstraintOn). is_other_scope o y) same ∙ no_other own before y (let mine = own.constraint in unworded (list_any (is_other_scope own) before) mine.name none) other
+    one none (inl same) more = ap (λ (o : ConstraintOn). is_other_scope o y) same ∙ no_other own before y (let mine = own.constraint in no_word (list_any (is_other_scope own) before) mine.name none) other
     one none (inr i) more = more i
 
 never_other : (a : Bool) → not (beq a a) ≡ false
@@ -98,15 +93,11 @@ other_turned true false = refl
 other_turned false true = refl
 other_turned false false = refl
 
-and_none : (a : Bool) → (a && false) ≡ false
-and_none true = refl
-and_none false = refl
-
 not_itself : (x : ConstraintOn) → is_other_scope x x ≡ false
 not_itself x =
     let c = x.constraint in
     ap (λ (t : Bool). bytes_eq x.node.text x.node.text && bytes_eq c.name.text c.name.text && t) (never_other c.session)
-    ∙ and_none (bytes_eq x.node.text x.node.text && bytes_eq c.name.text c.name.text)
+    ∙ and-false (bytes_eq x.node.text x.node.text && bytes_eq c.name.text c.name.text)
 
 turned : (x y : ConstraintOn) → is_other_scope x y ≡ is_other_scope y x
 turned x y =
@@ -119,7 +110,7 @@ apart : (before ons : List ConstraintOn) → both_scopes_after before ons ≡ []
 apart before [] e x y is other = absurd is
 apart before (own ∷ ons) e x y is other =
     let mine = own.constraint in
-    let both = nil_append (word_if (list_any (is_other_scope own) before) mine.name) (both_scopes_after (before ++ own ∷ []) ons) e in
+    let both = none_either (word_if (list_any (is_other_scope own) before) mine.name) (both_scopes_after (before ++ own ∷ []) ons) e in
     let last : IsAmong own (before ++ own ∷ []) = among_right own before (own ∷ []) (inl refl) in
     one is other (λ z i. apart_before (before ++ own ∷ []) ons both.1 z own i last) (λ i j. apart (before ++ own ∷ []) ons both.1 x y i j)
   where

@@ -4,7 +4,8 @@ use Rattle.std.specs.Bool.{beq}
 use Rattle.std.specs.List.{list_any, list_all, flat_map}
 use Rattle.std.specs.Str.{bytes_eq}
 use Rattle.std.proofs.lemmas.List.Folds.{list_any-append}
-use Rattle.std.proofs.lemmas.Slice.Eq.{bytes_eq-Decides}
+use Rattle.std.proofs.Math.Bool.{or_assoc, and-false, or-false}
+use Rattle.flux_syntax.proofs.Found.{any_same}
 use Rattle.flux_values.specs.declared.answers.Mode.{Mode}
 use Rattle.flux_values.specs.declared.answers.Mode.TheVariants.{Reader, Writer}
 use Rattle.flux_values.specs.declared.meanings.Sig.{Sig}
@@ -14,25 +15,21 @@ use Rattle.flux_model.specs.Modes.{at_least}
 use Rattle.flux_syntax.specs.declared.declarations.Word.{Word}
 use Rattle.flux_syntax.specs.declared.declarations.Constraint.{Constraint}
 use Rattle.flux_syntax.specs.declared.declarations.Decl.{Decl}
-use Rattle.flux_syntax.specs.declared.declarations.Decl.TheVariants.{Signature, Flow, Source, Typedef, Handler, Atomic, Session}
+use Rattle.flux_syntax.specs.declared.declarations.Decl.TheVariants.{Signature, Atomic}
 use Rattle.flux_syntax.specs.ProgramOfText.{constraints_on}
 use Rattle.flux_names.specs.Rows.{word_if, library_node}
 use Rattle.flux_names.proofs.Symbols.{bytes_same, flat_map_same}
 use Rattle.flux_check.specs.Rows.{ConstraintOn, constraints_in, protects, are_protected, unprotected_in, unprotected}
 use Rattle.flux_check.specs.steps.Seen.{Flags, has_flag, is_writer, and_mode, and_modes, is_held, are_held, unheld_in}
-use Rattle.flux_check.proofs.Flagged.{or_last, has_more, any_same}
+use Rattle.flux_check.proofs.Flagged.{has_more}
 
 -- ---- modes as they were seen
 
 abbrev flagged : List ConstraintOn → List ℕ → List ℕ → Bool → Bool
 flagged ons node name flag = list_any (λ (b : ConstraintOn). let c = b.constraint in bytes_eq node b.node.text && bytes_eq name c.name.text && beq flag (is_writer c.mode)) ons
 
-or_assoc : (a b c : Bool) → ((a || b) || c) ≡ (a || (b || c))
-or_assoc true b c = refl
-or_assoc false b c = refl
-
 modes_from : (seen : Flags) (ons : List ConstraintOn) (node name : List ℕ) (flag : Bool) → has_flag (and_modes seen ons) node name flag ≡ (has_flag seen node name flag || flagged ons node name flag)
-modes_from seen [] node name flag = sym (or_last (has_flag seen node name flag))
+modes_from seen [] node name flag = sym (or-false (has_flag seen node name flag))
 modes_from seen (own ∷ ons) node name flag =
     let mine = own.constraint in
     let new : Bool = bytes_eq node own.node.text && bytes_eq name mine.name.text && beq flag (is_writer mine.mode) in
@@ -81,12 +78,8 @@ or_and false false true false y = refl
 or_and false false false true y = refl
 or_and false false false false y = refl
 
-and_none : (k : Bool) → (k && false) ≡ false
-and_none true = refl
-and_none false = refl
-
 split : {X : Type 0} (p q : X → Bool) (k : Bool) (xs : List X) → list_any (λ x. p x || (k && q x)) xs ≡ (list_any p xs || (k && list_any q xs))
-split p q k [] = sym (and_none k)
+split p q k [] = sym (and-false k)
 split p q k (x ∷ xs) = ap (λ (b : Bool). (p x || (k && q x)) || b) (split p q k xs) ∙ or_and (p x) (q x) k (list_any p xs) (list_any q xs)
 
 -- the constraints of a node among those of all
@@ -104,12 +97,7 @@ any_on node p (Atomic own cs ∷ decls) =
     ∙ ap (λ (b : Bool). b || list_any p (flat_map (constraints_on node) decls)) (own_line node p own cs (bytes_eq own.text node) refl)
     ∙ ap (λ (b : Bool). list_any (λ (b : ConstraintOn). bytes_eq b.node.text node && p b.constraint) (constraints_in (Atomic own cs)) || b) (any_on node p decls)
     ∙ sym (list_any-append (λ (b : ConstraintOn). bytes_eq b.node.text node && p b.constraint) (constraints_in (Atomic own cs)) (flat_map constraints_in decls))
-any_on node p (Signature name ins outs ∷ decls) = any_on node p decls
-any_on node p (Flow name patterns members ∷ decls) = any_on node p decls
-any_on node p (Source name target ∷ decls) = any_on node p decls
-any_on node p (Typedef name function ∷ decls) = any_on node p decls
-any_on node p (Handler own codes handler ∷ decls) = any_on node p decls
-any_on node p (Session source function ∷ decls) = any_on node p decls
+any_on node p (other ∷ decls) = any_on node p decls
 
 module _ (meaning : LibraryMeaning) (all : List Decl) where
   abbrev ons : List ConstraintOn
@@ -136,12 +124,7 @@ module _ (meaning : LibraryMeaning) (all : List Decl) where
 
   unheld_is : (d : Decl) → unheld_in meaning seen d ≡ unprotected_in meaning all d
   unheld_is (Signature name ins outs) = ap (λ (b : Bool). word_if (not b) name) (are_held_is name.text (library_node meaning name.text))
-  unheld_is (Flow name patterns members) = refl
-  unheld_is (Source name target) = refl
-  unheld_is (Typedef name function) = refl
-  unheld_is (Handler own codes handler) = refl
-  unheld_is (Atomic own cs) = refl
-  unheld_is (Session source function) = refl
+  unheld_is other = refl
 
   -- the signatures whose cells aren't protected by the modes that were seen are those of the row
   pub unheld_are : flat_map (unheld_in meaning seen) all ≡ unprotected meaning all

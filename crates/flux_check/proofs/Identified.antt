@@ -67,11 +67,7 @@ all_identified : (text : List ℕ) (names : List (List ℕ)) (decls : List Decl)
 all_identified text names [] stand all = all
 all_identified text names (Signature name ins outs ∷ decls) stand all = let own = stand.0.0.0 in all_identified text (and_name names (Some name)) decls stand.1 (with_word names name all own.name)
 all_identified text names (Flow name patterns members ∷ decls) stand all = let own = stand.0.0.0 in all_identified text (and_name names (Some name)) decls stand.1 (with_word names name all own.name)
-all_identified text names (Source name target ∷ decls) stand all = all_identified text names decls stand.1 all
-all_identified text names (Typedef name function ∷ decls) stand all = all_identified text names decls stand.1 all
-all_identified text names (Handler node codes handler ∷ decls) stand all = all_identified text names decls stand.1 all
-all_identified text names (Atomic node constraints ∷ decls) stand all = all_identified text names decls stand.1 all
-all_identified text names (Session source function ∷ decls) stand all = all_identified text names decls stand.1 all
+all_identified text names (other ∷ decls) stand all = all_identified text names decls stand.1 all
 
 nodes_identified : (of : List ℕ → Node) → ((name : List ℕ) → (let node = of name in node.name ≡ name)) → (names : List (List ℕ)) → AllByRecursion IsIdentifier names → AllByRecursion (λ node. IsIdentifier node.name) (map of names)
 nodes_identified of same [] all = tt
@@ -103,12 +99,7 @@ both_identified (c ∷ a) b x y = (x.0, both_identified a b x.1 y)
 lines_identified : (text : List ℕ) (decls : List Decl) → AllStandIn text decls → AllByRecursion (λ (c : Constraint). let name = c.name in IsIdentifier name.text) (flat_map constraints_of decls)
 lines_identified text [] stand = tt
 lines_identified text (Atomic node constraints ∷ decls) stand = both_identified constraints (flat_map constraints_of decls) (constraints_identified constraints text stand.0.0.1) (lines_identified text decls stand.1)
-lines_identified text (Signature name ins outs ∷ decls) stand = lines_identified text decls stand.1
-lines_identified text (Flow name patterns members ∷ decls) stand = lines_identified text decls stand.1
-lines_identified text (Source name target ∷ decls) stand = lines_identified text decls stand.1
-lines_identified text (Typedef name function ∷ decls) stand = lines_identified text decls stand.1
-lines_identified text (Handler node codes handler ∷ decls) stand = lines_identified text decls stand.1
-lines_identified text (Session source function ∷ decls) stand = lines_identified text decls stand.1
+lines_identified text (other ∷ decls) stand = lines_identified text decls stand.1
 
 -- classes in canonical order stand apart
 pub classes_apart : (classes : List Class) → AreCanonical classes → AreClassesApart classes

@@ -2,6 +2,7 @@
 use Rattle.std.proofs.Common.{◌≡◌, ◌<◌, ℕ, zero, suc, inl, inr, Bool, true, false, if◌then◌else◌, List, [], ◌∷◌, ◌++◌, length, map, Option, Some, None, refl, sym, ap, subst, ◌∙◌, arith, append_assoc}
 use Rattle.std.specs.List.{slice_get, AllByRecursion}
 use Rattle.std.proofs.lemmas.List.{append-nil}
+use Rattle.flux_check.proofs.Numbered.{all_at}
 use Rattle.flux_values.specs.Meanings.{LibraryMeaning}
 use Rattle.flux_faults.specs.declared.faults.FaultKind.{FaultKind}
 use Rattle.flux_faults.specs.declared.faults.FaultKind.TheVariants.{Cycle, HandlerTypes, NoSession}
@@ -26,12 +27,12 @@ use Rattle.flux_syntax.specs.declared.declarations.Decl.{Decl}
 use Rattle.flux_syntax.specs.Declares.{Declares}
 use Rattle.flux_syntax.specs.Unexpected as syntax
 use Rattle.flux_syntax.specs.Words.{naming, known, and_name, names_after, names_of, unless_known, first_words_after, first_words}
-use Rattle.flux_syntax.specs.ProgramOfText.{places, program_of, named_of}
-use Rattle.flux_syntax.specs.Least.{Row, fault_or, soonest, first_fault, IsLeastFault}
-use Rattle.flux_syntax.proofs.Standing.{AllStandIn, all_stand, text_few}
+use Rattle.flux_syntax.specs.ProgramOfText.{places, program_of}
+use Rattle.flux_syntax.specs.Least.{Row, fault_or, first_fault, IsLeastFault}
+use Rattle.flux_syntax.proofs.Standing.{all_stand, text_few}
 use Rattle.flux_names.specs.Rows.{rows}
 use Rattle.flux_names.specs.Resolving.{IsResolved}
-use Rattle.flux_types.specs.Signatures.{nodes_of, sig_of, AreSigs}
+use Rattle.flux_types.specs.Signatures.{nodes_of, sig_of}
 use Rattle.flux_types.specs.Rows.{sig_rows, source_rows}
 use Rattle.flux_types.specs.Typing.{AreTyped}
 use Rattle.flux_types.proofs.Written.{sigs_same}
@@ -39,7 +40,7 @@ use Rattle.flux_edges.specs.Places.{least_of}
 use Rattle.flux_edges.specs.Handlers.{unlike_handlers}
 use Rattle.flux_edges.specs.Sessions.{unserved_sources}
 use Rattle.flux_edges.specs.Rows.{handler_rows, session_rows}
-use Rattle.flux_edges.proofs.Texts.{HasNode, handlers_least, sessions_least}
+use Rattle.flux_edges.proofs.Texts.{handlers_least, sessions_least}
 use Rattle.flux_hoist.specs.Sets.{held_by}
 use Rattle.flux_check.specs.Rows.{constraint_rows, size_rows, last_rows, edge_rows, later_rows}
 use Rattle.flux_check.specs.Judgement.{AreOrdered, AreJoined, IsCycleOf, AreChecked, IsRefusalOf}
@@ -77,11 +78,6 @@ sites_many decls =
 
 -- ---- cycles
 
-pub at_of : {A : Type 0} (P : A → Type 0) (xs : List A) (n : ℕ) (x : A) → slice_get xs n ≡ Some x → AllByRecursion P xs → P x
-at_of P [] n x at all = absurd cc
-at_of P (y ∷ xs) zero x at all = let same : y ≡ x = cc in subst P same all.0
-at_of P (y ∷ xs) (suc n) x at all = at_of P xs n x at all.1
-
 below_of : (count x : ℕ) (numbers : List NodeNo) → AreBelow count numbers → IsIn x numbers → x < count
 below_of count x [] all is = absurd is
 below_of count x (n ∷ numbers) all (inl e) = omega (arith, e, all.0)
@@ -92,7 +88,7 @@ led_below nodes from x all is = one (slice_get nodes from) refl
   where
     one : (found : Option Node) → slice_get nodes from ≡ found → x < length nodes
     one None e = let h : IsIn x (numbers_of leads_to None) = rw e at is in absurd h
-    one (Some node) e = let h : IsIn x (leads_to node) = rw e at is in below_of (length nodes) x (leads_to node) (at_of (λ n. AreBelow (length nodes) (leads_to n)) nodes from node e all) h
+    one (Some node) e = let h : IsIn x (leads_to node) = rw e at is in below_of (length nodes) x (leads_to node) (all_at (λ n. AreBelow (length nodes) (leads_to n)) nodes from node e all) h
 
 last_below : (nodes : List Node) (from : ℕ) (others : List NodeNo) (last : NodeNo) → AllByRecursion (λ node. AreBelow (length nodes) (leads_to node)) nodes → IsLed nodes from (others ++ last ∷ []) → last.0 < length nodes
 last_below nodes from [] last all led = led_below nodes from last.0 all led.0

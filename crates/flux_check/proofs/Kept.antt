@@ -1,5 +1,5 @@
 -- What was found of sound declarations is what a checked program keeps.
-use Rattle.std.proofs.Common.{ℕ, List, refl}
+use Rattle.std.proofs.Common.{ℕ, List, refl, sym, subst}
 use Rattle.std.specs.List.{AllByRecursion}
 use Rattle.flux_values.specs.Meanings.{LibraryMeaning}
 use Rattle.flux_model.specs.declared.programs.NodeNo.{NodeNo}
@@ -15,6 +15,9 @@ use Rattle.flux_syntax.specs.ProgramOfText.{program_of}
 use Rattle.flux_syntax.proofs.Standing.{all_stand}
 use Rattle.flux_types.specs.Signatures.{nodes_of, AreSigs}
 use Rattle.flux_hoist.specs.Sets.{held_by}
+use Rattle.flux_hoist.specs.Types.{TypesAgree}
+use Rattle.flux_types.proofs.Written.{sigs_same}
+use Rattle.flux_check.proofs.Joins.{types_agree}
 use Rattle.flux_check.specs.Judgement.{AreJoined, AreChecked}
 use Rattle.flux_check.specs.steps.Checking.{AreSizes}
 use Rattle.flux_check.proofs.Soundness.{sound}
@@ -35,6 +38,8 @@ checked meaning text decls order sigs sets sizes declared numbered ordered are j
         numbered = numbered;
         named = names_kept text decls numbered.canonical (all_stand decls text declared);
         acyclic = joined.ordered.acyclic;
+        many = are.many;
+        types = subst (TypesAgree (program_of decls)) (sym (sigs_same meaning.kind decls sigs are)) (types_agree meaning decls joined);
         agree = for_library.kinds_are.agree;
         ordered = ordered;
         locks = locks;

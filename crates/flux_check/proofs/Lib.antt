@@ -6,7 +6,6 @@ pub mod Held
 pub mod Constrained
 pub mod Crossed
 pub mod Rowless
-pub mod Spelled
 pub mod Numbered
 pub mod Roles
 pub mod Joins

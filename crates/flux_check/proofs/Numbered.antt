@@ -1,8 +1,10 @@
 -- The nodes of declarations, by number and by name.
-use Rattle.std.proofs.Common.{◌≡◌, ◌+◌, ℕ, zero, suc, Bool, true, false, ◌||◌, not, cond, List, [], ◌∷◌, map, Some, refl, sym, ap, ◌∙◌, arith}
-use Rattle.std.specs.List.{slice_get, position_or_len}
+use Rattle.std.proofs.Common.{◌≡◌, ◌+◌, ℕ, zero, suc, Bool, true, false, ◌||◌, not, cond, List, [], ◌∷◌, map, Some, refl, sym, ap, subst, ◌∙◌, arith}
+use Rattle.std.specs.List.{slice_get, position_or_len, AllByRecursion}
 use Rattle.std.specs.Str.{bytes_eq}
 use Rattle.std.proofs.lemmas.Slice.Eq.{bytes_eq-Decides}
+use Rattle.std.proofs.lemmas.Option.{slice_get-map}
+use Rattle.std.specs.Option.{option_map}
 use Rattle.flux_model.specs.declared.programs.Node.{Node}
 use Rattle.flux_syntax.specs.declared.declarations.Word.{Word}
 use Rattle.flux_syntax.specs.declared.declarations.Decl.{Decl}
@@ -30,21 +32,6 @@ text_back a b e = text_same b a (sym (same_text a b e))
 pub not_both : (t : Bool) → t ≡ true → t ≡ false → ⊥
 not_both true a b = absurd cc
 not_both false a b = absurd cc
-
--- one of two holds where the first does
-pub first_true : (a b : Bool) → a ≡ true → (a || b) ≡ true
-first_true true b e = refl
-first_true false b e = absurd cc
-
--- and where the second does
-pub second_true : (a b : Bool) → b ≡ true → (a || b) ≡ true
-second_true true b e = refl
-second_true false b e = e
-
--- neither of two holds
-pub both_false : (a b : Bool) → (a || b) ≡ false → (a ≡ false) × (b ≡ false)
-both_false true b e = absurd cc
-both_false false b e = (refl, e)
 
 -- ---- names
 
@@ -93,10 +80,11 @@ first_unknown names w words e = one (known names w.text) refl e
 abbrev pub node_named : List Decl → List ℕ → Node
 node_named decls name = node_of (names_of decls) (texts_of defined decls) (classes_of decls) decls name
 
-get_map : {X Y : Type 0} (f : X → Y) (xs : List X) (k : ℕ) (x : X) → slice_get xs k ≡ Some x → slice_get (map f xs) k ≡ Some (f x)
-get_map f [] k x e = absurd cc
-get_map f (y ∷ xs) zero x e = let own : y ≡ x = cc in ap (λ z. Some (f z)) own
-get_map f (y ∷ xs) (suc k) x e = get_map f xs k x e
+-- what holds of each element holds of the one at a place
+pub all_at : {X : Type 0} (P : X → Type 0) (xs : List X) (k : ℕ) (x : X) → slice_get xs k ≡ Some x → AllByRecursion P xs → P x
+all_at P [] k x at all = absurd cc
+all_at P (y ∷ xs) zero x at all = let same : y ≡ x = cc in subst P same all.0
+all_at P (y ∷ xs) (suc k) x at all = all_at P xs k x at all.1
 
 -- the element behind one of a mapped list
 pub record IsImage {X Y : Type 0} (f : X → Y) (xs : List X) (k : ℕ) (y : Y) : Type 0 where
@@ -112,4 +100,4 @@ map_get f (x ∷ xs) (suc k) y e = let image = map_get f xs k y e in record { fr
 
 -- a known word's number is that of its node
 pub known_node : (decls : List Decl) (w : Word) → known (names_of decls) w.text ≡ true → slice_get (nodes_of decls) (place_of (names_of decls) w) ≡ Some (node_named decls w.text)
-known_node decls w e = get_map (node_named decls) (names_of decls) (place_of (names_of decls) w) w.text (known_at (names_of decls) w.text e)
+known_node decls w e = slice_get-map (node_named decls) (names_of decls) (place_of (names_of decls) w) ∙ ap (option_map (node_named decls)) (known_at (names_of decls) w.text e)

@@ -1,8 +1,7 @@
 -- Faults of declarations stand at places of their words.
 use Rattle.std.proofs.Common.{◌≡◌, ◌≤◌, ◌+◌, ℕ, zero, suc, min, inl, inr, Bool, true, false, not, nat_lt, if◌then◌else◌, List, [], ◌∷◌, ◌++◌, length, map, filter, drop, Option, Some, None, refl, ap, ◌∙◌, arith}
-use Rattle.std.specs.List.{slice_get, list_any, flat_map, filter_map, AllByRecursion}
-use Rattle.std.specs.Option.{is_none, is_some}
-use Rattle.flux_values.specs.declared.meanings.Sig.{Sig}
+use Rattle.std.specs.List.{list_any, flat_map, filter_map, AllByRecursion}
+use Rattle.flux_check.proofs.Numbered.{all_at}
 use Rattle.flux_values.specs.Meanings.{LibraryMeaning}
 use Rattle.flux_faults.specs.declared.faults.FaultKind.{FaultKind}
 use Rattle.flux_faults.specs.declared.faults.StaticFault.{StaticFault}
@@ -14,7 +13,7 @@ use Rattle.flux_syntax.specs.declared.declarations.Param.{Param}
 use Rattle.flux_syntax.specs.declared.declarations.Constraint.{Constraint}
 use Rattle.flux_syntax.specs.declared.declarations.Decl.{Decl}
 use Rattle.flux_syntax.specs.declared.declarations.Decl.TheVariants.{Signature, Flow, Source, Typedef, Handler, Atomic, Session}
-use Rattle.flux_syntax.specs.Words.{naming, defined, sourced, known, and_name, names_of, unless_known, first_words_after, first_words, listed, texts_of}
+use Rattle.flux_syntax.specs.Words.{naming, defined, sourced, known, and_name, names_of, unless_known, first_words_after, first_words, listed}
 use Rattle.flux_syntax.specs.ProgramOfText.{places, class_of, constraints_of, is_on}
 use Rattle.flux_syntax.specs.Least.{Row, sooner, soonest, fault_or, first_fault}
 use Rattle.flux_syntax.proofs.Standing.{StandsIn, fault_words, code_words, AllStandIn}
@@ -29,14 +28,6 @@ use Rattle.flux_check.specs.Judgement.{IsDeclsFault}
 
 some_pair : (x y : FaultKind × ℕ) → ◌≡◌ {A = Option (FaultKind × ℕ)} (Some x) (Some y) → x ≡ y
 some_pair x y e = cc
-
-rows_at : {A : Type 0} (P : A → Type 0) (xs : List A) (n : ℕ) (x : A) → slice_get xs n ≡ Some x → AllByRecursion P xs → P x
-rows_at P [] n x at all = absurd cc
-rows_at P (y ∷ xs) zero x at all = let same : y ≡ x = cc in elim_to same all.0
-  where
-    elim_to : y ≡ x → P y → P x
-    elim_to e h = rw (← e) h
-rows_at P (y ∷ xs) (suc n) x at all = rows_at P xs n x at all.1
 
 module _ (n : ℕ) where
   abbrev Within : Word → Type 0
@@ -135,48 +126,24 @@ module _ (n : ℕ) where
   naming_in : (d : Decl) → DeclIn d → AllIn (listed (naming d))
   naming_in (Signature name ins outs) h = (h.0.0, tt)
   naming_in (Flow name patterns members) h = (h.0.0, tt)
-  naming_in (Source name target) h = tt
-  naming_in (Typedef name function) h = tt
-  naming_in (Handler node codes handler) h = tt
-  naming_in (Atomic node constraints) h = tt
-  naming_in (Session source function) h = tt
+  naming_in other h = tt
 
   defined_in : (d : Decl) → DeclIn d → AllIn (listed (defined d))
   defined_in (Typedef name function) h = (h.0.0, tt)
-  defined_in (Signature name ins outs) h = tt
-  defined_in (Flow name patterns members) h = tt
-  defined_in (Source name target) h = tt
-  defined_in (Handler node codes handler) h = tt
-  defined_in (Atomic node constraints) h = tt
-  defined_in (Session source function) h = tt
+  defined_in other h = tt
 
   sourced_in : (d : Decl) → DeclIn d → AllIn (listed (sourced d))
   sourced_in (Source name target) h = (h.0.0, tt)
-  sourced_in (Signature name ins outs) h = tt
-  sourced_in (Flow name patterns members) h = tt
-  sourced_in (Typedef name function) h = tt
-  sourced_in (Handler node codes handler) h = tt
-  sourced_in (Atomic node constraints) h = tt
-  sourced_in (Session source function) h = tt
+  sourced_in other h = tt
 
   handled_in : (d : Decl) → DeclIn d → AllIn (listed (names.handled d))
   handled_in (Handler node [] handler) h = (h.0.0, tt)
   handled_in (Handler node (code ∷ codes) handler) h = tt
-  handled_in (Signature name ins outs) h = tt
-  handled_in (Flow name patterns members) h = tt
-  handled_in (Source name target) h = tt
-  handled_in (Typedef name function) h = tt
-  handled_in (Atomic node constraints) h = tt
-  handled_in (Session source function) h = tt
+  handled_in other h = tt
 
   sessioned_in : (d : Decl) → DeclIn d → AllIn (listed (names.sessioned d))
   sessioned_in (Session source function) h = (h.0.0, tt)
-  sessioned_in (Signature name ins outs) h = tt
-  sessioned_in (Flow name patterns members) h = tt
-  sessioned_in (Source name target) h = tt
-  sessioned_in (Typedef name function) h = tt
-  sessioned_in (Handler node codes handler) h = tt
-  sessioned_in (Atomic node constraints) h = tt
+  sessioned_in other h = tt
 
   members_in : (patterns : Option (List (Option Word))) (members : List Word) → AllIn (fault_words (Flow (record { text = []; at = 0 }) patterns members)) → AllIn members
   members_in None members h = h.1
@@ -190,9 +157,7 @@ module _ (n : ℕ) where
   inner_in (Flow name patterns members) h = flow_members name patterns members h
   inner_in (Handler node codes handler) h = h.0
   inner_in (Atomic node constraints) h = (h.0.0, tt)
-  inner_in (Signature name ins outs) h = tt
-  inner_in (Typedef name function) h = tt
-  inner_in (Session source function) h = tt
+  inner_in other h = tt
 
   used_in : (d : Decl) → DeclIn d → AllIn (names.used_names d)
   used_in d h =
@@ -202,12 +167,7 @@ module _ (n : ℕ) where
   patterns_in : (d : Decl) → DeclIn d → AllIn (names.pattern_words d)
   patterns_in (Flow name None members) h = tt
   patterns_in (Flow name (Some patterns) members) h = left_in (filter_map (λ pattern. pattern) patterns) members h.0.1
-  patterns_in (Signature name ins outs) h = tt
-  patterns_in (Source name target) h = tt
-  patterns_in (Typedef name function) h = tt
-  patterns_in (Handler node codes handler) h = tt
-  patterns_in (Atomic node constraints) h = tt
-  patterns_in (Session source function) h = tt
+  patterns_in other h = tt
 
   -- ---- rows on names
 
@@ -235,48 +195,23 @@ module _ (n : ℕ) where
       both_in (flat_map (names.unknown_type meaning) ins) (flat_map (names.unknown_type meaning) outs)
       (flat_in (λ param. Within param.ty) (names.unknown_type meaning) (type_in meaning) ins i)
       (flat_in (λ param. Within param.ty) (names.unknown_type meaning) (type_in meaning) outs o)
-  types_in meaning (Flow name patterns members) h = tt
-  types_in meaning (Source name target) h = tt
-  types_in meaning (Typedef name function) h = tt
-  types_in meaning (Handler node codes handler) h = tt
-  types_in meaning (Atomic node constraints) h = tt
-  types_in meaning (Session source function) h = tt
+  types_in meaning other h = tt
 
   absent_in : (meaning : LibraryMeaning) (d : Decl) → DeclIn d → AllIn (names.not_in meaning d)
   absent_in meaning (Signature name ins outs) h = if_in _ name h.0.0
-  absent_in meaning (Flow name patterns members) h = tt
-  absent_in meaning (Source name target) h = tt
-  absent_in meaning (Typedef name function) h = tt
-  absent_in meaning (Handler node codes handler) h = tt
-  absent_in meaning (Atomic node constraints) h = tt
-  absent_in meaning (Session source function) h = tt
+  absent_in meaning other h = tt
 
   unlike_in : (meaning : LibraryMeaning) (d : Decl) → DeclIn d → AllIn (names.unlike meaning d)
   unlike_in meaning (Signature name ins outs) h = if_in _ name h.0.0
-  unlike_in meaning (Flow name patterns members) h = tt
-  unlike_in meaning (Source name target) h = tt
-  unlike_in meaning (Typedef name function) h = tt
-  unlike_in meaning (Handler node codes handler) h = tt
-  unlike_in meaning (Atomic node constraints) h = tt
-  unlike_in meaning (Session source function) h = tt
+  unlike_in meaning other h = tt
 
   function_in : (meaning : LibraryMeaning) (d : Decl) → DeclIn d → AllIn (names.unknown_function meaning d)
   function_in meaning (Typedef name function) h = if_in _ function h.0.1.0
-  function_in meaning (Signature name ins outs) h = tt
-  function_in meaning (Flow name patterns members) h = tt
-  function_in meaning (Source name target) h = tt
-  function_in meaning (Handler node codes handler) h = tt
-  function_in meaning (Atomic node constraints) h = tt
-  function_in meaning (Session source function) h = tt
+  function_in meaning other h = tt
 
   session_in : (meaning : LibraryMeaning) (d : Decl) → DeclIn d → AllIn (names.unknown_session meaning d)
   session_in meaning (Session source function) h = if_in _ function h.0.1.0
-  session_in meaning (Signature name ins outs) h = tt
-  session_in meaning (Flow name patterns members) h = tt
-  session_in meaning (Source name target) h = tt
-  session_in meaning (Typedef name function) h = tt
-  session_in meaning (Handler node codes handler) h = tt
-  session_in meaning (Atomic node constraints) h = tt
+  session_in meaning other h = tt
 
   first_in : (known_names : List (List ℕ)) (decls : List Decl) → DeclsIn decls → AllIn (first_words_after known_names decls)
   first_in known_names [] h = tt
@@ -298,12 +233,7 @@ module _ (n : ℕ) where
   held_in : (decls : List Decl) → DeclsIn decls → AllByRecursion ConstraintIn (flat_map constraints_of decls)
   held_in [] h = tt
   held_in (Atomic node constraints ∷ decls) h = all_constraints constraints (flat_map constraints_of decls) (mapped_in (λ c. c.name) constraints h.0.0.1) (held_in decls h.1)
-  held_in (Signature name ins outs ∷ decls) h = held_in decls h.1
-  held_in (Flow name patterns members ∷ decls) h = held_in decls h.1
-  held_in (Source name target ∷ decls) h = held_in decls h.1
-  held_in (Typedef name function ∷ decls) h = held_in decls h.1
-  held_in (Handler node codes handler ∷ decls) h = held_in decls h.1
-  held_in (Session source function ∷ decls) h = held_in decls h.1
+  held_in (other ∷ decls) h = held_in decls h.1
 
   classes_in : (before constraints : List Constraint) → AllByRecursion ConstraintIn constraints → AllIn (names.class_words_after before constraints)
   classes_in before [] h = tt
@@ -325,12 +255,7 @@ module _ (n : ℕ) where
   codes_in : (decls : List Decl) → DeclsIn decls → AllByRecursion CodeIn (flat_map names.codes_in decls)
   codes_in [] h = tt
   codes_in (Handler node codes handler ∷ decls) h = all_codes (names.codes_in (Handler node codes handler)) (flat_map names.codes_in decls) (codes_on node codes h.0.1) (codes_in decls h.1)
-  codes_in (Signature name ins outs ∷ decls) h = codes_in decls h.1
-  codes_in (Flow name patterns members ∷ decls) h = codes_in decls h.1
-  codes_in (Source name target ∷ decls) h = codes_in decls h.1
-  codes_in (Typedef name function ∷ decls) h = codes_in decls h.1
-  codes_in (Atomic node constraints ∷ decls) h = codes_in decls h.1
-  codes_in (Session source function ∷ decls) h = codes_in decls h.1
+  codes_in (other ∷ decls) h = codes_in decls h.1
 
   bad_codes_in : (before codes : List names.CodeOn) → AllByRecursion CodeIn codes → AllIn (names.bad_codes_after before codes)
   bad_codes_in before [] h = tt
@@ -391,30 +316,15 @@ module _ (n : ℕ) where
       one : (ms : List Word) → AllIn ms → AllIn (types.unjoined sigs ms)
       one [] i = tt
       one (m ∷ ms) i = unjoined_in sigs m ms i.1
-  joins_in sigs (Signature name ins outs) h = tt
-  joins_in sigs (Source name target) h = tt
-  joins_in sigs (Typedef name function) h = tt
-  joins_in sigs (Handler node codes handler) h = tt
-  joins_in sigs (Atomic node constraints) h = tt
-  joins_in sigs (Session source function) h = tt
+  joins_in sigs other h = tt
 
   counts_in : (sigs : types.WordSigs) (d : Decl) → DeclIn d → AllIn (types.miscounted_in sigs d)
   counts_in sigs (Flow name patterns members) h = unless_in _ name h.0.0
-  counts_in sigs (Signature name ins outs) h = tt
-  counts_in sigs (Source name target) h = tt
-  counts_in sigs (Typedef name function) h = tt
-  counts_in sigs (Handler node codes handler) h = tt
-  counts_in sigs (Atomic node constraints) h = tt
-  counts_in sigs (Session source function) h = tt
+  counts_in sigs other h = tt
 
   cases_in : (sigs : types.WordSigs) (d : Decl) → DeclIn d → AllIn (types.unlike_node_in sigs d)
   cases_in sigs (Flow name patterns members) h = unless_in _ name h.0.0
-  cases_in sigs (Signature name ins outs) h = tt
-  cases_in sigs (Source name target) h = tt
-  cases_in sigs (Typedef name function) h = tt
-  cases_in sigs (Handler node codes handler) h = tt
-  cases_in sigs (Atomic node constraints) h = tt
-  cases_in sigs (Session source function) h = tt
+  cases_in sigs other h = tt
 
   inputs_in : (predicates : types.Predicates) (patterns : List (Option Word)) (inputs : List TypeText) → AllIn (filter_map (λ pattern. pattern) patterns) → AllIn (types.unlike_inputs predicates patterns inputs)
   inputs_in predicates [] inputs h = tt
@@ -428,48 +338,23 @@ module _ (n : ℕ) where
   predicates_in sigs predicates (Flow name None members) h = tt
   predicates_in sigs predicates (Flow name (Some patterns) members) h =
       let own = sigs name in inputs_in predicates patterns own.ins (left_in (filter_map (λ pattern. pattern) patterns) members h.0.1)
-  predicates_in sigs predicates (Signature name ins outs) h = tt
-  predicates_in sigs predicates (Source name target) h = tt
-  predicates_in sigs predicates (Typedef name function) h = tt
-  predicates_in sigs predicates (Handler node codes handler) h = tt
-  predicates_in sigs predicates (Atomic node constraints) h = tt
-  predicates_in sigs predicates (Session source function) h = tt
+  predicates_in sigs predicates other h = tt
 
   targets_in : (sigs : types.WordSigs) (d : Decl) → DeclIn d → AllIn (types.unlike_target sigs d)
   targets_in sigs (Source name target) h = unless_in _ target h.0.1.0
-  targets_in sigs (Signature name ins outs) h = tt
-  targets_in sigs (Flow name patterns members) h = tt
-  targets_in sigs (Typedef name function) h = tt
-  targets_in sigs (Handler node codes handler) h = tt
-  targets_in sigs (Atomic node constraints) h = tt
-  targets_in sigs (Session source function) h = tt
+  targets_in sigs other h = tt
 
   functions_in : (meaning : LibraryMeaning) (sigs : types.WordSigs) (d : Decl) → DeclIn d → AllIn (types.unlike_source meaning.session sigs d)
   functions_in meaning sigs (Session source function) h = unless_in _ function h.0.1.0
-  functions_in meaning sigs (Signature name ins outs) h = tt
-  functions_in meaning sigs (Flow name patterns members) h = tt
-  functions_in meaning sigs (Source name target) h = tt
-  functions_in meaning sigs (Typedef name function) h = tt
-  functions_in meaning sigs (Handler node codes handler) h = tt
-  functions_in meaning sigs (Atomic node constraints) h = tt
+  functions_in meaning sigs other h = tt
 
   handlers_in : (sigs : ℕ → NodeSig) (node_names : List (List ℕ)) (d : Decl) → DeclIn d → AllIn (edges.unlike_handler sigs node_names d)
   handlers_in sigs node_names (Handler node codes handler) h = unless_in _ handler h.0.1.0
-  handlers_in sigs node_names (Signature name ins outs) h = tt
-  handlers_in sigs node_names (Flow name patterns members) h = tt
-  handlers_in sigs node_names (Source name target) h = tt
-  handlers_in sigs node_names (Typedef name function) h = tt
-  handlers_in sigs node_names (Atomic node constraints) h = tt
-  handlers_in sigs node_names (Session source function) h = tt
+  handlers_in sigs node_names other h = tt
 
   unserved_in : (decls : List Decl) (d : Decl) → DeclIn d → AllIn (edges.unserved_source decls d)
   unserved_in decls (Source name target) h = unless_in _ name h.0.0
-  unserved_in decls (Signature name ins outs) h = tt
-  unserved_in decls (Flow name patterns members) h = tt
-  unserved_in decls (Typedef name function) h = tt
-  unserved_in decls (Handler node codes handler) h = tt
-  unserved_in decls (Atomic node constraints) h = tt
-  unserved_in decls (Session source function) h = tt
+  unserved_in decls other h = tt
 
   scopes_in : (before ons : List ConstraintOn) → AllByRecursion (λ (o : ConstraintOn). let c = o.constraint in Within c.name) ons → AllIn (both_scopes_after before ons)
   scopes_in before [] h = tt
@@ -490,32 +375,17 @@ module _ (n : ℕ) where
   ons_in : (decls : List Decl) → DeclsIn decls → AllByRecursion (λ (o : ConstraintOn). let c = o.constraint in Within c.name) (flat_map constraints_in decls)
   ons_in [] h = tt
   ons_in (Atomic node constraints ∷ decls) h = all_ons (constraints_in (Atomic node constraints)) (flat_map constraints_in decls) (ons_with node constraints (mapped_in (λ c. c.name) constraints h.0.0.1)) (ons_in decls h.1)
-  ons_in (Signature name ins outs ∷ decls) h = ons_in decls h.1
-  ons_in (Flow name patterns members ∷ decls) h = ons_in decls h.1
-  ons_in (Source name target ∷ decls) h = ons_in decls h.1
-  ons_in (Typedef name function ∷ decls) h = ons_in decls h.1
-  ons_in (Handler node codes handler ∷ decls) h = ons_in decls h.1
-  ons_in (Session source function ∷ decls) h = ons_in decls h.1
+  ons_in (other ∷ decls) h = ons_in decls h.1
 
   cells_in : (meaning : LibraryMeaning) (decls : List Decl) (d : Decl) → DeclIn d → AllIn (unprotected_in meaning decls d)
   cells_in meaning decls (Signature name ins outs) h = if_in _ name h.0.0
-  cells_in meaning decls (Flow name patterns members) h = tt
-  cells_in meaning decls (Source name target) h = tt
-  cells_in meaning decls (Typedef name function) h = tt
-  cells_in meaning decls (Handler node codes handler) h = tt
-  cells_in meaning decls (Atomic node constraints) h = tt
-  cells_in meaning decls (Session source function) h = tt
+  cells_in meaning decls other h = tt
 
   large_in : (size : Word → ℕ) (total : ℕ) (decls : List Decl) → DeclsIn decls → AllIn (too_large_after size total decls)
   large_in size total [] h = tt
   large_in size total (Source name target ∷ decls) h =
       both_in (past_limit (total + size target) name) (too_large_after size (total + size target) decls) (if_in (nat_lt SIZE_LIMIT (total + size target)) name h.0.0.0) (large_in size (total + size target) decls h.1)
-  large_in size total (Signature name ins outs ∷ decls) h = large_in size total decls h.1
-  large_in size total (Flow name patterns members ∷ decls) h = large_in size total decls h.1
-  large_in size total (Typedef name function ∷ decls) h = large_in size total decls h.1
-  large_in size total (Handler node codes handler ∷ decls) h = large_in size total decls h.1
-  large_in size total (Atomic node constraints ∷ decls) h = large_in size total decls h.1
-  large_in size total (Session source function ∷ decls) h = large_in size total decls h.1
+  large_in size total (other ∷ decls) h = large_in size total decls h.1
 
   later_in : (meaning : LibraryMeaning) (decls : List Decl) → DeclsIn decls → RowsIn (later_rows meaning decls)
   later_in meaning decls h =
@@ -562,7 +432,7 @@ module _ (n : ℕ) where
 
   decls_in : (meaning : LibraryMeaning) (decls : List Decl) (fault : StaticFault) → DeclsIn decls → IsDeclsFault meaning decls fault → fault.at ≤ n
   decls_in meaning decls fault h (inl f) = fault_in (names.rows meaning decls) fault.kind fault.at (names_in meaning decls h) f.is
-  decls_in meaning decls fault h (inr (inl c)) = let cycle = c.cycle in rows_at (λ at. at ≤ n) (places (first_words decls)) _ fault.at cycle.site (places_in (first_words decls) (first_in [] decls h))
+  decls_in meaning decls fault h (inr (inl c)) = let cycle = c.cycle in all_at (λ at. at ≤ n) (places (first_words decls)) _ fault.at cycle.site (places_in (first_words decls) (first_in [] decls h))
   decls_in meaning decls fault h (inr (inr (inl l))) = let first = l.first in fault_in (later_rows meaning decls) fault.kind fault.at (later_in meaning decls h) first.is
   decls_in meaning decls fault h (inr (inr (inr l))) = let first = l.first in fault_in (size_rows l.locks decls) fault.kind fault.at (large_in (flow_size l.locks decls) 0 decls h, tt) first.is
 

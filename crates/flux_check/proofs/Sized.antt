@@ -1,7 +1,8 @@
 -- Fault 27 along the program is that of the declarations, and where it doesn't stand the sizes are those of the program.
-use Rattle.std.proofs.Common.{◌≡◌, ◌≤◌, ◌+◌, ℕ, Bool, true, false, nat_lt, if◌then◌else◌, List, [], ◌∷◌, ◌++◌, map, Option, Some, None, refl, sym, ap, ◌∙◌, arith}
+use Rattle.std.proofs.Common.{◌≡◌, ◌≤◌, ◌+◌, ℕ, Bool, true, false, nat_lt, if◌then◌else◌, List, [], ◌∷◌, ◌++◌, map, Option, None, refl, sym, ap, ◌∙◌, arith}
 use Rattle.std.specs.List.{filter_map}
 use Rattle.std.proofs.lemmas.Bool.Decides.{nat_tests}
+use Rattle.flux_syntax.proofs.RowLemmas.{none_soonest}
 use Rattle.flux_faults.specs.declared.faults.FaultKind.TheVariants.{PlanTooLarge}
 use Rattle.flux_model.specs.declared.programs.Program.{Program}
 use Rattle.flux_model.specs.declared.programs.SourceLine.{SourceLine}
@@ -9,9 +10,9 @@ use Rattle.flux_model.specs.Locks.{Holds}
 use Rattle.flux_model.specs.Sizes.{source_size, total_size}
 use Rattle.flux_syntax.specs.declared.declarations.Word.{Word}
 use Rattle.flux_syntax.specs.declared.declarations.Decl.{Decl}
-use Rattle.flux_syntax.specs.declared.declarations.Decl.TheVariants.{Signature, Flow, Source, Typedef, Handler, Atomic, Session}
+use Rattle.flux_syntax.specs.declared.declarations.Decl.TheVariants.{Source}
 use Rattle.flux_syntax.specs.Words.{names_of}
-use Rattle.flux_syntax.specs.ProgramOfText.{number_of, place_of, source_of, program_of}
+use Rattle.flux_syntax.specs.ProgramOfText.{number_of, source_of, program_of}
 use Rattle.flux_syntax.specs.Least.{soonest, fault_or}
 use Rattle.flux_syntax.proofs.Soonest.{soonest_append}
 use Rattle.flux_hoist.specs.declared.checked.TheConstants.{SIZE_LIMIT}
@@ -20,14 +21,6 @@ use Rattle.flux_check.specs.Rows.{flow_size, past_limit, too_large_after}
 use Rattle.flux_hoist.specs.Counted.{capped, size_at, AreCounted}
 use Rattle.flux_check.specs.steps.Summing.{large_along, line_size}
 use Rattle.flux_check.specs.steps.Checking.{AreSizes}
-
-no_words : (words : List Word) → soonest None words ≡ None → words ≡ []
-no_words [] e = refl
-no_words (word ∷ words) e = absurd (some words (word.at) e)
-  where
-    some : (ws : List Word) (at : ℕ) → soonest (Some at) ws ≡ None → ⊥
-    some [] at none = cc
-    some (w ∷ ws) at none = some ws _ none
 
 same_limit : (total t : ℕ) (name : Word) → total ≡ capped t → past_limit total name ≡ past_limit t name
 same_limit total t name is = ap (λ (b : Bool). if b then name ∷ [] else []) (one (nat_lt SIZE_LIMIT t) refl)
@@ -52,12 +45,7 @@ module _ (locks : Holds) (decls : List Decl) (table : List ℕ) (stands : AreCou
       large_is (capped (total + capped (size_at table node.0 + 1))) (t + flow_size locks decls target) (soonest place (past_limit (capped (total + capped (size_at table node.0 + 1))) name)) ds more
       ∙ ap (λ (l : List Word). soonest (soonest place l) (too_large_after (flow_size locks decls) (t + flow_size locks decls target) ds)) (same_limit (capped (total + capped (size_at table node.0 + 1))) (t + flow_size locks decls target) name more)
       ∙ sym (soonest_append place (past_limit (t + flow_size locks decls target) name) (too_large_after (flow_size locks decls) (t + flow_size locks decls target) ds))
-  large_is total t place (Signature name ins outs ∷ ds) is = large_is total t place ds is
-  large_is total t place (Flow name patterns members ∷ ds) is = large_is total t place ds is
-  large_is total t place (Typedef name function ∷ ds) is = large_is total t place ds is
-  large_is total t place (Handler node codes handler ∷ ds) is = large_is total t place ds is
-  large_is total t place (Atomic node constraints ∷ ds) is = large_is total t place ds is
-  large_is total t place (Session source function ∷ ds) is = large_is total t place ds is
+  large_is total t place (other ∷ ds) is = large_is total t place ds is
 
   -- ---- within the limit
 
@@ -76,12 +64,7 @@ module _ (locks : Holds) (decls : List Decl) (table : List ℕ) (stands : AreCou
   small t (Source name target ∷ ds) le e =
       let both = within (t + flow_size locks decls target) name (too_large_after (flow_size locks decls) (t + flow_size locks decls target) ds) e in
       let more = small (t + flow_size locks decls target) ds both.0 both.1 in omega (arith, more)
-  small t (Signature name ins outs ∷ ds) le e = small t ds le e
-  small t (Flow name patterns members ∷ ds) le e = small t ds le e
-  small t (Typedef name function ∷ ds) le e = small t ds le e
-  small t (Handler node codes handler ∷ ds) le e = small t ds le e
-  small t (Atomic node constraints ∷ ds) le e = small t ds le e
-  small t (Session source function ∷ ds) le e = small t ds le e
+  small t (other ∷ ds) le e = small t ds le e
 
   lines_are : (lines : List SourceLine) → total_size locks program lines ≤ SIZE_LIMIT → map (line_size table) lines ≡ map (source_size locks program) lines
   lines_are [] le = refl
@@ -95,7 +78,7 @@ module _ (locks : Holds) (decls : List Decl) (table : List ℕ) (stands : AreCou
 
   pub are_sizes : soonest None (too_large_after (flow_size locks decls) 0 decls) ≡ None → AreSizes locks decls program (map (line_size table) program.sources)
   are_sizes none =
-      let few = small 0 decls (omega arith) (no_words (too_large_after (flow_size locks decls) 0 decls) none) in
+      let few = small 0 decls (omega arith) (none_soonest (too_large_after (flow_size locks decls) 0 decls) none) in
       record {
         sound = ap (λ (place : Option ℕ). fault_or PlanTooLarge place None) none;
         are = lines_are program.sources (omega (arith, few));

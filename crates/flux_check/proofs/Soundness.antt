@@ -3,6 +3,8 @@ use Rattle.std.proofs.Common.{◌≡◌, ℕ, inl, inr, ◌⊎◌, Bool, true, f
 use Rattle.std.specs.Bool.{beq}
 use Rattle.std.specs.List.{slice_get, list_any, list_all, filter_map, flat_map, AllByRecursion, Contains}
 use Rattle.std.specs.Str.{bytes_eq}
+use Rattle.std.proofs.lemmas.Bool.{and_parts}
+use Rattle.flux_syntax.proofs.RowLemmas.{none_either}
 use Rattle.flux_values.specs.declared.answers.Mode.{Mode}
 use Rattle.flux_values.specs.declared.answers.Mode.TheVariants.{Reader, Writer}
 use Rattle.flux_values.specs.declared.meanings.Sig.{Sig}
@@ -14,7 +16,6 @@ use Rattle.flux_model.specs.declared.programs.NodeNo.{NodeNo}
 use Rattle.flux_model.specs.declared.programs.Node.{Node}
 use Rattle.flux_model.specs.declared.programs.Case.{Case}
 use Rattle.flux_model.specs.declared.programs.HandleArm.{HandleArm}
-use Rattle.flux_model.specs.declared.programs.SourceLine.{SourceLine}
 use Rattle.flux_model.specs.declared.programs.Body.TheVariants.{Concrete, Abstract}
 use Rattle.flux_model.specs.declared.programs.Body.{Body}
 use Rattle.flux_model.specs.declared.signatures.NodeSig.{NodeSig}
@@ -22,14 +23,14 @@ use Rattle.flux_model.specs.Leading.{members_of, handlers_of, leads_to}
 use Rattle.flux_model.specs.Children.{IsIn}
 use Rattle.flux_model.specs.Numbered.{IsNumbered}
 use Rattle.flux_model.specs.Ordering.{IsOrder}
-use Rattle.flux_model.specs.Kinds.{NodeKinds, node_kinds, kinds_at, AreCasesJoined, AreHandlersJoined}
+use Rattle.flux_model.specs.Kinds.{NodeKinds, node_kinds, kinds_at}
 use Rattle.flux_model.specs.Modes.{at_least}
 use Rattle.flux_model.specs.Locks.{declared_on}
 use Rattle.flux_model.specs.Soundness.{IsLike, IsBodyLike, IsPlain, IsSourceNode, FitBody, IsProtected, AreCellsProtected, HasOneScope, HasSession, IsSound}
 use Rattle.flux_model.proofs.NodeLists.{in_either}
 use Rattle.flux_syntax.specs.declared.declarations.Word.{Word}
 use Rattle.flux_syntax.specs.declared.declarations.Decl.{Decl}
-use Rattle.flux_syntax.specs.declared.declarations.Decl.TheVariants.{Signature, Flow, Source, Typedef, Handler, Atomic, Session}
+use Rattle.flux_syntax.specs.declared.declarations.Decl.TheVariants.{Flow, Source, Handler}
 use Rattle.flux_syntax.specs.Words.{defined, known, names_of, texts_of, function_of}
 use Rattle.flux_syntax.specs.ProgramOfText.{place_of, number_of, is_signed, case_of, arm_of, class_of, constraints_on, classes_of, declared_by, source_of, library_name, program_of}
 use Rattle.flux_names.specs.Rows.{among, not_among, source_nodes}
@@ -37,13 +38,14 @@ use Rattle.flux_types.specs.Signatures.{written, body_sig, nodes_of, sig_of, Are
 use Rattle.flux_types.proofs.Written.{sig_rule, sigs_same}
 use Rattle.flux_check.specs.Rows.{constraints_in, protects, are_protected}
 use Rattle.flux_check.specs.Judgement.{AreJoined}
-use Rattle.flux_check.proofs.Rowless.{nil_append, IsClean, all_clean, no_crossed}
+use Rattle.flux_check.proofs.Rowless.{IsClean, all_clean, no_crossed, no_types}
 use Rattle.flux_check.proofs.Numbered.{same_text, text_same, first_known, first_unknown, node_named, map_get, known_node}
 use Rattle.flux_check.proofs.Roles.{signed_plain, source_signed, written_like, signed_protected}
-use Rattle.flux_check.proofs.Spelled.{both_true as and_true}
 use Rattle.flux_check.proofs.Crossed.{one_scope}
 use Rattle.flux_check.proofs.Constrained.{any_among, on_line, declares, declared_from}
-use Rattle.flux_check.proofs.Joins.{K, cases_joined, cases_fit, handlers_joined, sources_fit, sessions_like}
+use Rattle.flux_hoist.proofs.TypedKinds.{kinds_agree}
+use Rattle.flux_types.proofs.SoundTypes.{typed_decls, cases_fit, sessions_fit}
+use Rattle.flux_check.proofs.Joins.{types_agree}
 
 at_least_more : (a b c : Mode) → at_least a b ≡ true → at_least b c ≡ true → at_least a c ≡ true
 at_least_more Writer b c e f = refl
@@ -67,7 +69,7 @@ module _ (meaning : LibraryMeaning) (all : List Decl) (order : List NodeNo) (is_
   nodes = nodes_of all
 
   abbrev kinds : ℕ → NodeKinds
-  kinds = K meaning all
+  kinds number = node_kinds (sig_of meaning.kind all number)
 
   clean : AllByRecursion (IsClean meaning all) all
   clean = all_clean meaning all joined_all
@@ -118,12 +120,7 @@ module _ (meaning : LibraryMeaning) (all : List Decl) (order : List NodeNo) (is_
           let here = c.0 in
           rw i (both_plain (map (number_of names) members) (flat_map (λ case. case.members) (filter_map (case_of names types name) decls)) (plain_words members here.named here.plain) more)
       one false i more = rw i more
-  cases_plain name (Signature own ins outs ∷ decls) c = cases_plain name decls c.1
-  cases_plain name (Source own target ∷ decls) c = cases_plain name decls c.1
-  cases_plain name (Typedef own function ∷ decls) c = cases_plain name decls c.1
-  cases_plain name (Handler node codes handler ∷ decls) c = cases_plain name decls c.1
-  cases_plain name (Atomic node constraints ∷ decls) c = cases_plain name decls c.1
-  cases_plain name (Session source function ∷ decls) c = cases_plain name decls c.1
+  cases_plain name (other ∷ decls) c = cases_plain name decls c.1
 
   handlers_plain : (name : List ℕ) (decls : List Decl) → AllByRecursion (IsClean meaning all) decls → ArePlain (handlers_of (filter_map (arm_of names name) decls))
   handlers_plain name [] c = λ led is. absurd is
@@ -139,12 +136,7 @@ module _ (meaning : LibraryMeaning) (all : List Decl) (order : List NodeNo) (is_
           let b = first_unknown (source_nodes meaning all) node (handler ∷ []) here.plain in
           rw i (both_plain (map (number_of names) (handler ∷ [])) (handlers_of (filter_map (arm_of names name) decls)) (plain_words (handler ∷ []) a.1 b.1) more)
       one false i more = rw i more
-  handlers_plain name (Signature own ins outs ∷ decls) c = handlers_plain name decls c.1
-  handlers_plain name (Flow own patterns members ∷ decls) c = handlers_plain name decls c.1
-  handlers_plain name (Source own target ∷ decls) c = handlers_plain name decls c.1
-  handlers_plain name (Typedef own function ∷ decls) c = handlers_plain name decls c.1
-  handlers_plain name (Atomic node constraints ∷ decls) c = handlers_plain name decls c.1
-  handlers_plain name (Session source function ∷ decls) c = handlers_plain name decls c.1
+  handlers_plain name (other ∷ decls) c = handlers_plain name decls c.1
 
   -- ---- sources
 
@@ -158,14 +150,9 @@ module _ (meaning : LibraryMeaning) (all : List Decl) (order : List NodeNo) (is_
   origins_are (Source name target ∷ decls) c =
       let here = c.0 in
       let a = first_known names name (target ∷ []) here.named in
-      let b = first_known (source_nodes meaning all) name [] (nil_append (not_among (source_nodes meaning all) (name ∷ [])) [] here.origins).0 in
+      let b = first_known (source_nodes meaning all) name [] (none_either (not_among (source_nodes meaning all) (name ∷ [])) [] here.origins).0 in
       (origin_word name a.0 b.0, origins_are decls c.1)
-  origins_are (Signature own ins outs ∷ decls) c = origins_are decls c.1
-  origins_are (Flow own patterns members ∷ decls) c = origins_are decls c.1
-  origins_are (Typedef own function ∷ decls) c = origins_are decls c.1
-  origins_are (Handler node codes handler ∷ decls) c = origins_are decls c.1
-  origins_are (Atomic node constraints ∷ decls) c = origins_are decls c.1
-  origins_are (Session source function ∷ decls) c = origins_are decls c.1
+  origins_are (other ∷ decls) c = origins_are decls c.1
 
   targets_are : (decls : List Decl) → AllByRecursion (IsClean meaning all) decls → AllByRecursion (λ line. IsPlain meaning (slice_get nodes line.target.0)) (filter_map (source_of names all) decls)
   targets_are [] c = tt
@@ -174,12 +161,7 @@ module _ (meaning : LibraryMeaning) (all : List Decl) (order : List NodeNo) (is_
       let a = first_known names name (target ∷ []) here.named in
       let b = first_known names target [] a.1 in
       (plain_word target b.0 (first_unknown (source_nodes meaning all) target [] here.plain).0, targets_are decls c.1)
-  targets_are (Signature own ins outs ∷ decls) c = targets_are decls c.1
-  targets_are (Flow own patterns members ∷ decls) c = targets_are decls c.1
-  targets_are (Typedef own function ∷ decls) c = targets_are decls c.1
-  targets_are (Handler node codes handler ∷ decls) c = targets_are decls c.1
-  targets_are (Atomic node constraints ∷ decls) c = targets_are decls c.1
-  targets_are (Session source function ∷ decls) c = targets_are decls c.1
+  targets_are (other ∷ decls) c = targets_are decls c.1
 
   -- ---- nodes
 
@@ -191,17 +173,13 @@ module _ (meaning : LibraryMeaning) (all : List Decl) (order : List NodeNo) (is_
   members_plain name false = cases_plain name all clean
 
   module _ (number : ℕ) (name : List ℕ) (at : slice_get names number ≡ Some name) where
-    body_joined : (signed : Bool) → AreCasesJoined kinds (kinds number) (body name signed)
-    body_joined true = tt
-    body_joined false = cases_joined meaning all all clean number name at
-
     body_fits : (signed : Bool) → FitBody meaning (texts_of function_of all) (kinds number) (body name signed)
     body_fits true = tt
-    body_fits false = cases_fit meaning all all clean number name at
+    body_fits false = cases_fit meaning all number name at all (typed_decls meaning all (no_types meaning all joined_all).0)
 
     body_like : (signed : Bool) → list_any (is_signed name) all ≡ signed
         → sig_of meaning.kind all number ≡ body_sig (sig_of meaning.kind all) (written meaning.kind names all number) (body name signed) → IsBodyLike meaning (kinds number) (body name signed)
-    body_like true is rule = subst (λ (sig : NodeSig). IsLike (meaning.node (library_name name)) (node_kinds sig)) (sym rule) (written_like meaning all all clean number name at is)
+    body_like true is rule = subst (λ (sig : NodeSig). IsLike (meaning.node (library_name name)) (node_kinds sig)) (sym rule) (written_like meaning all number name at clean is)
     body_like false is rule = tt
 
     module _ (here : slice_get nodes number ≡ Some (node_named all name)) where
@@ -209,7 +187,7 @@ module _ (meaning : LibraryMeaning) (all : List Decl) (order : List NodeNo) (is_
       cell_protected cell e =
           let (c, is, protected) = any_among (protects cell) (flat_map (constraints_on name) all) e in
           let d = declares all name c is in
-          let both = and_true (bytes_eq c.name.text cell.name) (at_least c.mode cell.mode) protected in
+          let both = and_parts (bytes_eq c.name.text cell.name) (at_least c.mode cell.mode) protected in
           let hold = d.hold in
           record {
             hold = hold;
@@ -223,7 +201,7 @@ module _ (meaning : LibraryMeaning) (all : List Decl) (order : List NodeNo) (is_
       cells_protected : (cells : List CellUse) → list_all (λ cell. list_any (protects cell) (flat_map (constraints_on name) all)) cells ≡ true → AllByRecursion (IsProtected (program_of all) number) cells
       cells_protected [] e = tt
       cells_protected (cell ∷ cells) e =
-          let both = and_true (list_any (protects cell) (flat_map (constraints_on name) all)) (list_all (λ cell. list_any (protects cell) (flat_map (constraints_on name) all)) cells) e in
+          let both = and_parts (list_any (protects cell) (flat_map (constraints_on name) all)) (list_all (λ cell. list_any (protects cell) (flat_map (constraints_on name) all)) cells) e in
           (cell_protected cell both.0, cells_protected cells both.1)
 
       sig_protected : (found : Option Sig) → are_protected (flat_map (constraints_on name) all) found ≡ true → IfSome found (λ sig. AllByRecursion (IsProtected (program_of all) number) sig.cells)
@@ -231,14 +209,12 @@ module _ (meaning : LibraryMeaning) (all : List Decl) (order : List NodeNo) (is_
       sig_protected (Some sig) e = cells_protected sig.cells e
 
       body_safe : (signed : Bool) → list_any (is_signed name) all ≡ signed → AreCellsProtected meaning (program_of all) number (body name signed)
-      body_safe true is = sig_protected (meaning.node (library_name name)) (signed_protected meaning all all clean name is)
+      body_safe true is = sig_protected (meaning.node (library_name name)) (signed_protected meaning all number name at clean is)
       body_safe false is = tt
 
   -- what each node of a number has
   record IsGood (number : ℕ) (node : Node) : Type 0 where
     plain : (led : ℕ) → IsIn led (leads_to node) → IsPlain meaning (slice_get nodes led)
-    joined : AreCasesJoined kinds (kinds number) node.body
-    handlers : AreHandlersJoined kinds (kinds number) (handlers_of node.on_fail)
     like : IsBodyLike meaning (kinds number) node.body
     fits : FitBody meaning (texts_of function_of all) (kinds number) node.body
     safe : AreCellsProtected meaning (program_of all) number node.body
@@ -247,8 +223,6 @@ module _ (meaning : LibraryMeaning) (all : List Decl) (order : List NodeNo) (is_
   named_good number name at here = record {
     plain = both_plain (members_of (body name (list_any (is_signed name) all))) (handlers_of (filter_map (arm_of names name) all))
         (members_plain name (list_any (is_signed name) all)) (handlers_plain name all clean);
-    joined = body_joined number name at (list_any (is_signed name) all);
-    handlers = handlers_joined meaning all all clean number name at;
     like = body_like number name at (list_any (is_signed name) all) refl (sig_rule meaning.kind all order is_order number (node_named all name) here);
     fits = body_fits number name at (list_any (is_signed name) all);
     safe = body_safe number name at here (list_any (is_signed name) all) refl;
@@ -296,14 +270,10 @@ module _ (meaning : LibraryMeaning) (all : List Decl) (order : List NodeNo) (is_
     targets = targets_are all clean;
     members = λ number node at led is. let g = good number node at in g.plain led is;
     kinds_are = record {
-      agree = record {
-        cases_ = λ number node at. let g = good number node at in g.joined;
-        handlers = λ number node at. let g = good number node at in g.handlers;
-        sources = sources_fit meaning all all clean;
-      };
+      agree = kinds_agree (sig_of meaning.kind all) (program_of all) (types_agree meaning all joined_all);
       like = λ number node at. let g = good number node at in g.like;
       patterns = λ number node at. let g = good number node at in g.fits;
-      sessions = sessions_like meaning all clean all;
+      sessions = sessions_fit meaning all (no_types meaning all joined_all).1;
     };
     protected = λ number node at. let g = good number node at in g.safe;
     scopes = one_scope_each;

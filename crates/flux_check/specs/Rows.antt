@@ -19,7 +19,7 @@ use Rattle.flux_syntax.specs.Words.{names_of}
 use Rattle.flux_syntax.specs.ProgramOfText.{place_of, constraints_on}
 use Rattle.flux_syntax.specs.Least.{Row}
 use Rattle.flux_names.specs.Rows.{word_if, library_node}
-use Rattle.flux_hoist.specs.declared.checked.TheConstants.{SIZE_LIMIT}
+use Rattle.flux_hoist.specs.Counted.{size_limit}
 use Rattle.flux_types.specs.Signatures.{nodes_of, sig_of}
 use Rattle.flux_types.specs.Rows.{sig_rows, source_rows}
 use Rattle.flux_edges.specs.Rows.{handler_rows, session_rows}
@@ -88,7 +88,7 @@ abbrev pub flow_size : Holds → List Decl → Word → ℕ
 flow_size locks decls target = size_of locks (nodes_of decls) (place_of (names_of decls) target) + 1
 
 abbrev pub past_limit : ℕ → Word → List Word
-past_limit total name = if nat_lt SIZE_LIMIT total then name ∷ [] else []
+past_limit total name = if nat_lt size_limit total then name ∷ [] else []
 
 abbrev pub too_large_after : (Word → ℕ) → ℕ → List Decl → List Word
 too_large_after size total [] = []

@@ -11,7 +11,5 @@ mod constraints;
 mod scopes;
 mod seen;
 mod sizing;
-#[cfg(test)]
-mod tests;
 
 pub use checking::check;

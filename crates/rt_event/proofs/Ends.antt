@@ -45,9 +45,9 @@ pub ended-more : (setup : Setup) (entries : List Entry) (flow : FlowNo) (event :
     → has_ended (entries ++ record { flow = flow; event = event } ∷ []) flow.0 ≡ is_end event
 ended-more setup entries flow event live =
     ap (list_any is_end) (events_by-append flow.0 entries (record { flow = flow; event = event } ∷ []) ∙ ap
-        (λ es. events_by flow.0 entries ++ es) (by_itself flow.0 event))
+    (λ es. events_by flow.0 entries ++ es) (by_itself flow.0 event))
     ∙ any-push is_end (events_by flow.0 entries) event ∙ ap (λ b. b || is_end event)
-        (live-none setup entries flow.0 live)
+    (live-none setup entries flow.0 live)
 
 over-is : (event : Event) → IsPassing event → IsOver (is_end event) event
 over-is (End outcome) passes = tt
@@ -88,13 +88,13 @@ pub still-live : (setup : Setup) (entries : List Entry) (flow : FlowNo) (event :
     → IsLive setup (entries ++ record { flow = flow; event = event } ∷ []) flow.0
 still-live setup entries flow event on live =
     live-is setup (entries ++ record { flow = flow; event = event } ∷ []) flow.0 live.item
-        (ended-more setup entries flow event live ∙ no-end event on)
+    (ended-more setup entries flow event live ∙ no-end event on)
 
 pub still-awake : (setup : Setup) (entries : List Entry) (flow : FlowNo) (event : Event) → (EndsTurn event → ⊥)
     → IsInLine setup (entries ++ record { flow = flow; event = event } ∷ []) flow.0 → ⊥
 still-awake setup entries flow event on line =
     let own : IsLast (entries ++ record { flow = flow; event = event } ∷ []) flow event (length entries) =
-        record { before = entries; after = []; stands = refl; last = refl; at = refl } in
+    record { before = entries; after = []; stands = refl; last = refl; at = refl } in
     let same = last-unique (entries ++ record { flow = flow; event = event } ∷ []) flow event (Wait line.key line.mode)
-        (length entries) line.place own line.stands in
+    (length entries) line.place own line.stands in
     on (subst EndsTurn (sym same.0) tt)

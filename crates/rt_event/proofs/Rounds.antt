@@ -68,7 +68,7 @@ owner-later setup entries pools from (Some flow) owner (same, kept) one other re
 module _ (setup : Setup) (old entries after : List Entry) (pools : Pools) (from : ℕ) (on_turn : Option FlowNo)
     (owner : FlowNo) (ends : Bool)
     (kept : IsRounding setup old entries from on_turn) (is_owner : IsOwner setup entries pools from on_turn owner)
-        (makes : MakesTurn setup entries owner after ends) where
+    (makes : MakesTurn setup entries owner after ends) where
   own : MakesOwn setup entries owner after ends
   own = makes (owner-live setup entries pools from on_turn owner is_owner)
       (owner-awake setup entries pools from on_turn owner is_owner)
@@ -172,7 +172,7 @@ module _ {L : Type 0} (meaning : L → LibraryMeaning) (start old new : CoreStat
   core-lags = subst (λ s. Lags s new.entries pools (owner.0 + 1))
       (sym (same-setup meaning start new (same-then start old new same stays)))
       (rounding-lags (setup_in meaning start) start.entries old.entries new.entries pools from on_turn owner ends kept
-          start-owner start-makes
+      start-owner start-makes
       (subst (λ s. Covers s old.entries pools from) (same-setup meaning start old same) leads.covers))
 
   pub core-stays : (told : Pools) → StayReady pools told → Covers (setup_in meaning new) new.entries told (owner.0 + 1)
@@ -181,7 +181,7 @@ module _ {L : Type 0} (meaning : L → LibraryMeaning) (start old new : CoreStat
       let both = same-setup meaning start new (same-then start old new same stays) in
       subst (λ s. Stays s new.entries told (owner.0 + 1) (turn_after ends owner)) (sym both)
       (rounding-stays (setup_in meaning start) start.entries old.entries new.entries pools from on_turn owner ends kept
-          start-owner start-makes told ready
+      start-owner start-makes told ready
       (subst (λ s. Covers s new.entries told (owner.0 + 1)) both covers))
 
   pub core-legal : GoesOnLegally meaning start new

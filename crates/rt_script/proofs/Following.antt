@@ -34,8 +34,13 @@ pub record IsFollowing {L : Type 0} (meaning : L → LibraryMeaning) (start core
 
 pub following-none : {L : Type 0} (meaning : L → LibraryMeaning) (core : CoreState L)
     → IsLegal (setup_in meaning core) core.entries → IsFollowing meaning core core []
-following-none meaning core legal = record { same = same-itself core; turns = refl; more = [];
-    added = sym (append-nil core.entries); legal = legal }
+following-none meaning core legal = record {
+  same = same-itself core;
+  turns = refl;
+  more = [];
+  added = sym (append-nil core.entries);
+  legal = legal;
+}
 
 module _ {L : Type 0} (meaning : L → LibraryMeaning) (start core : CoreState L) (numbers : List FlowNo)
     (kept : IsFollowing meaning start core numbers) where
@@ -47,7 +52,7 @@ module _ {L : Type 0} (meaning : L → LibraryMeaning) (start core : CoreState L
       → GoesOnLegally meaning start new
   following-stays new stays same =
       goes-on meaning start new (same-then start core new kept.same stays) kept.more (same ∙ kept.added)
-          (subst (IsLegal (setup_in meaning start)) (sym same) kept.legal)
+      (subst (IsLegal (setup_in meaning start)) (sym same) kept.legal)
 
   pub following-more : (new : CoreState L) (flow : FlowNo) → SameSetting core new
       → IsTurn (setup_in meaning core) core.entries flow new.entries

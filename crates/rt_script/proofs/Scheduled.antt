@@ -35,21 +35,25 @@ module _ (setup : Setup) (old : List Entry) (numbers : List FlowNo) where
     each = each;
     turns = subst (λ ns. AreTurns setup old ns (old ++ since)) (sym (whole ∙ append-nil done)) turns;
   }
-  listed-by done (flow ∷ left) since new whole turns each (between, turn, rest) = by turn
+  listed-by done (flow ∷ left) since new whole turns each (between, turn, rest) =
+      by turn (λ longer own given after. listed-by (done ++ flow ∷ []) left longer new next own given after)
     where
       next : numbers ≡ (done ++ flow ∷ []) ++ left
       next = whole ∙ sym (append_assoc done (flow ∷ []) left)
 
-      by : IsTurn setup (old ++ since) flow between → IsListed new
-      by (inl (rests, same)) =
-          listed-by (done ++ flow ∷ []) left since new next
+      by : IsTurn setup (old ++ since) flow between
+          → ((longer : List Entry) → AreTurns setup old (done ++ flow ∷ []) (old ++ longer) → EachStands Allowed longer
+          → AreTurns setup (old ++ longer) left new → IsListed new)
+          → IsListed new
+      by (inl (rests, same)) go =
+          go since
           (turns-more setup old (old ++ since) (old ++ since) done flow turns (inl (rests, refl))) each
           (subst (λ es. AreTurns setup es left new) same rest)
-      by (inr (event, makes)) =
+      by (inr (event, makes)) go =
           let longer = since ++ record { flow = flow; event = event } ∷ [] in
           let added : between ≡ old ++ longer =
-              makes.added ∙ append_assoc old since (record { flow = flow; event = event } ∷ []) in
-          listed-by (done ++ flow ∷ []) left longer new next
+          makes.added ∙ append_assoc old since (record { flow = flow; event = event } ∷ []) in
+          go longer
           (subst (AreTurns setup old (done ++ flow ∷ [])) added
           (turns-more setup old (old ++ since) between done flow turns (inr (event, makes))))
           (each-more Allowed since flow event each
@@ -67,7 +71,7 @@ module _ (setup : Setup) (old : List Entry) (numbers : List FlowNo) where
       → Allowed (is.more ++ before) flow event
   later-allowed between is before flow event own =
       let whole : between ++ before ≡ old ++ (is.more ++ before) =
-          ap (λ es. es ++ before) is.added ∙ append_assoc old is.more before in
+      ap (λ es. es ++ before) is.added ∙ append_assoc old is.more before in
       record {
         allowed = inr (is.more, before, refl, is.turns, subst (λ es. IsLowest setup es flow.0) whole own.allowed);
         move = subst (λ es. IsMove setup es flow event) whole own.move;

@@ -12,7 +12,7 @@ use Rattle.flux_model.specs.Sizes.{source_size, total_size}
 use Rattle.flux_syntax.specs.declared.declarations.Decl.{Decl}
 use Rattle.flux_syntax.specs.Declares.{Declares}
 use Rattle.flux_syntax.specs.Least.{first_fault}
-use Rattle.flux_hoist.specs.declared.checked.TheConstants.{SIZE_LIMIT}
+use Rattle.flux_hoist.specs.Counted.{size_limit}
 use Rattle.flux_check.specs.Rows.{size_rows}
 use Rattle.flux_check.specs.Judgement.{IsCycleOf, IsDeclsFault}
 
@@ -24,7 +24,7 @@ IsDeclared decls = (text : List ℕ) × Declares decls text
 pub record AreSizes (locks : Holds) (decls : List Decl) (program : Program) (sizes : List ℕ) : Type 0 where
   pub sound : first_fault (size_rows locks decls) ≡ None
   pub are : sizes ≡ map (source_size locks program) program.sources
-  pub small : total_size locks program program.sources ≤ SIZE_LIMIT
+  pub small : total_size locks program program.sources ≤ size_limit
 
 -- a cycle, or no memory
 abbrev pub IsCycleRefusal : Named → CheckFault → Type 0

@@ -20,15 +20,15 @@ pub loop-candidates-smaller : goal.loop-candidates-smaller
 loop-candidates-smaller g c =
     let chosen = rw c.in-Some.is at c.in_ok-flow.ensures.first in
     let after = turn-drains g.L.Meaning.meaning c.args.core.now c.loop-candidates.core c.take_turn.new.core
-        c.first.new.self c.in-Some.flow c.in_ok-take_turn.field-0
+    c.first.new.self c.in-Some.flow c.in_ok-take_turn.field-0
     c.loop-candidates.invariant.0 c.loop-candidates.invariant.1 chosen c.take_turn.ensures.others.setting
-        c.in_ok-take_turn.ensures.ok in
+    c.in_ok-take_turn.ensures.ok in
     let longer = turn-longer g.L.Meaning.meaning c.args.core.now c.loop-candidates.core c.take_turn.new.core
-        c.first.new.self c.in-Some.flow c.in_ok-take_turn.field-0
+    c.first.new.self c.in-Some.flow c.in_ok-take_turn.field-0
     c.loop-candidates.invariant.0 c.loop-candidates.invariant.1 chosen c.take_turn.ensures.others.setting
-        c.in_ok-take_turn.ensures.ok in
+    c.in_ok-take_turn.ensures.ok in
     let few = draining-few (setup_in g.L.Meaning.meaning c.args.core.now) c.args.core.now.entries
-        c.take_turn.new.core.entries after in
+    c.take_turn.new.core.entries after in
     omega (arith, longer, few)
 
 pub loop-candidates-preserved : goal.loop-candidates-preserved
@@ -39,7 +39,7 @@ loop-candidates-preserved g c =
       turn-drains g.L.Meaning.meaning c.args.core.now c.loop-candidates.core c.take_turn.new.core c.first.new.self
           c.in-Some.flow c.in_ok-take_turn.field-0
           c.loop-candidates.invariant.0 c.loop-candidates.invariant.1 chosen c.take_turn.ensures.others.setting
-              c.in_ok-take_turn.ensures.ok,
+          c.in_ok-take_turn.ensures.ok,
       c.in_ok-told.ensures.covers,
     )
 
@@ -47,14 +47,14 @@ pub returns-in_err-told-clause-legal : goal.returns-in_err-told-clause-legal
 returns-in_err-told-clause-legal g c =
     let chosen = rw c.in-Some.is at c.in_ok-flow.ensures.first in
     turn-legal g.L.Meaning.meaning c.args.core.now c.loop-candidates.core c.take_turn.new.core c.first.new.self
-        c.in-Some.flow c.in_ok-take_turn.field-0
+    c.in-Some.flow c.in_ok-take_turn.field-0
     c.loop-candidates.invariant.0 c.loop-candidates.invariant.1 chosen c.take_turn.ensures.others.setting
-        c.in_ok-take_turn.ensures.ok
+    c.in_ok-take_turn.ensures.ok
 
 pub returns-clause-ok : goal.returns-clause-ok
 returns-clause-ok g c =
     drained (setup_in g.L.Meaning.meaning c.args.core.now) c.args.core.now.entries c.loop-candidates.core.entries
-        c.loop-candidates.invariant.1
+    c.loop-candidates.invariant.1
     (subst (λ s. (flow : ℕ) → IsLive s c.loop-candidates.core.entries flow → ⊥)
-        (same-setup g.L.Meaning.meaning c.args.core.now c.loop-candidates.core c.loop-candidates.invariant.0)
+    (same-setup g.L.Meaning.meaning c.args.core.now c.loop-candidates.core c.loop-candidates.invariant.0)
     (rw c.in_default.is at c.in_ok-flow.ensures.first))

@@ -33,5 +33,5 @@ pub returns : goal.returns
 returns g c =
     let setup = setup_in g.L.Meaning.meaning c.args.core.now in
     none-live setup c.args.core.now.entries (let kept = c.journal-journal.ensures.kept in kept.legal)
-        c.loop-number.number (omega (arith, c.loop-number-test.false, c.flows-number-end.ensures))
-        c.loop-number.invariant
+    c.loop-number.number (omega (arith, c.loop-number-test.false, c.flows-number-end.ensures))
+    c.loop-number.invariant

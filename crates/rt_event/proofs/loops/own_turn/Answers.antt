@@ -5,5 +5,5 @@ use Rattle.rt_event.proofs.loops.own_turn.Goals as goal
 pub returns-in-Went-clause-ok : goal.returns-in-Went-clause-ok
 returns-in-Went-clause-ok g c =
     λ live awake. went-own (setup_in g.L.Meaning.meaning c.args.core.now) c.args.core.now.entries
-        c.take_turn.new.core.entries c.args.owner c.is_ended.result c.is_ended.ensures
+    c.take_turn.new.core.entries c.args.owner c.is_ended.result c.is_ended.ensures
     (rw c.in-Went.is at c.in_ok-take_turn.ensures.ok) live

@@ -18,29 +18,29 @@ loop-candidates-init g c = (
 pub told-requires : goal.told-requires
 told-requires g c =
     core-lags g.L.Meaning.meaning c.args.core.now c.loop-candidates.core c.own_turn.new.core c.next_owner.new.candidates
-        c.loop-candidates.from c.loop-candidates.on_turn c.in-Some.owner c.in_ok-ends.ends
+    c.loop-candidates.from c.loop-candidates.on_turn c.in-Some.owner c.in_ok-ends.ends
     c.loop-candidates.invariant.0 c.loop-candidates.invariant.1 (rw c.in-Some.is at c.in_ok-owner.ensures)
-        c.own_turn.ensures.others.setting c.in_ok-ends.ensures.ok
+    c.own_turn.ensures.others.setting c.in_ok-ends.ensures.ok
 
 pub returns-in_err-told-clause-legal : goal.returns-in_err-told-clause-legal
 returns-in_err-told-clause-legal g c =
     core-legal g.L.Meaning.meaning c.args.core.now c.loop-candidates.core c.own_turn.new.core
-        c.next_owner.new.candidates c.loop-candidates.from c.loop-candidates.on_turn c.in-Some.owner c.in_ok-ends.ends
+    c.next_owner.new.candidates c.loop-candidates.from c.loop-candidates.on_turn c.in-Some.owner c.in_ok-ends.ends
     c.loop-candidates.invariant.0 c.loop-candidates.invariant.1 (rw c.in-Some.is at c.in_ok-owner.ensures)
-        c.own_turn.ensures.others.setting c.in_ok-ends.ensures.ok
+    c.own_turn.ensures.others.setting c.in_ok-ends.ensures.ok
 
 pub loop-candidates-smaller : goal.loop-candidates-smaller
 loop-candidates-smaller g c =
     let rounds = core-rounds g.L.Meaning.meaning c.args.core.now c.loop-candidates.core c.own_turn.new.core
-        c.next_owner.new.candidates c.loop-candidates.from c.loop-candidates.on_turn c.in-Some.owner c.in_ok-ends.ends
+    c.next_owner.new.candidates c.loop-candidates.from c.loop-candidates.on_turn c.in-Some.owner c.in_ok-ends.ends
     c.loop-candidates.invariant.0 c.loop-candidates.invariant.1 (rw c.in-Some.is at c.in_ok-owner.ensures)
-        c.own_turn.ensures.others.setting c.in_ok-ends.ensures.ok in
+    c.own_turn.ensures.others.setting c.in_ok-ends.ensures.ok in
     let longer = core-longer g.L.Meaning.meaning c.args.core.now c.loop-candidates.core c.own_turn.new.core
-        c.next_owner.new.candidates c.loop-candidates.from c.loop-candidates.on_turn c.in-Some.owner c.in_ok-ends.ends
+    c.next_owner.new.candidates c.loop-candidates.from c.loop-candidates.on_turn c.in-Some.owner c.in_ok-ends.ends
     c.loop-candidates.invariant.0 c.loop-candidates.invariant.1 (rw c.in-Some.is at c.in_ok-owner.ensures)
-        c.own_turn.ensures.others.setting c.in_ok-ends.ensures.ok in
+    c.own_turn.ensures.others.setting c.in_ok-ends.ensures.ok in
     let few = rounding-few (setup_in g.L.Meaning.meaning c.args.core.now) c.args.core.now.entries
-        c.own_turn.new.core.entries (c.in-Some.owner.0 + 1) (turn_after c.in_ok-ends.ends c.in-Some.owner) rounds in
+    c.own_turn.new.core.entries (c.in-Some.owner.0 + 1) (turn_after c.in_ok-ends.ends c.in-Some.owner) rounds in
     omega (arith, longer, few)
 
 pub loop-candidates-preserved : goal.loop-candidates-preserved
@@ -54,24 +54,24 @@ loop-candidates-preserved g c =
       subst (IsRounding (setup_in g.L.Meaning.meaning c.args.core.now) c.args.core.now.entries
           c.own_turn.new.core.entries (c.in-Some.owner.0 + 1)) (sym turn)
           (core-rounds g.L.Meaning.meaning c.args.core.now c.loop-candidates.core c.own_turn.new.core
-              c.next_owner.new.candidates c.loop-candidates.from c.loop-candidates.on_turn c.in-Some.owner
-              c.in_ok-ends.ends
+          c.next_owner.new.candidates c.loop-candidates.from c.loop-candidates.on_turn c.in-Some.owner
+          c.in_ok-ends.ends
           c.loop-candidates.invariant.0 c.loop-candidates.invariant.1 (rw c.in-Some.is at c.in_ok-owner.ensures)
-              c.own_turn.ensures.others.setting c.in_ok-ends.ensures.ok),
+          c.own_turn.ensures.others.setting c.in_ok-ends.ensures.ok),
       subst (Stays (setup_in g.L.Meaning.meaning c.own_turn.new.core) c.own_turn.new.core.entries c.told.new.self
           (c.in-Some.owner.0 + 1)) (sym turn)
           (core-stays g.L.Meaning.meaning c.args.core.now c.loop-candidates.core c.own_turn.new.core
-              c.next_owner.new.candidates c.loop-candidates.from c.loop-candidates.on_turn c.in-Some.owner
-              c.in_ok-ends.ends
+          c.next_owner.new.candidates c.loop-candidates.from c.loop-candidates.on_turn c.in-Some.owner
+          c.in_ok-ends.ends
           c.loop-candidates.invariant.0 c.loop-candidates.invariant.1 (rw c.in-Some.is at c.in_ok-owner.ensures)
-              c.own_turn.ensures.others.setting c.in_ok-ends.ensures.ok
+          c.own_turn.ensures.others.setting c.in_ok-ends.ensures.ok
           c.told.new.self c.in_ok-told.ensures.ready c.in_ok-told.ensures.covers),
     )
 
 pub returns-clause-ok : goal.returns-clause-ok
 returns-clause-ok g c =
     rounded (setup_in g.L.Meaning.meaning c.args.core.now) c.args.core.now.entries c.loop-candidates.core.entries
-        c.loop-candidates.from c.loop-candidates.on_turn c.loop-candidates.invariant.1
+    c.loop-candidates.from c.loop-candidates.on_turn c.loop-candidates.invariant.1
     (subst (λ s. (flow : ℕ) → IsLive s c.loop-candidates.core.entries flow → ⊥)
-        (same-setup g.L.Meaning.meaning c.args.core.now c.loop-candidates.core c.loop-candidates.invariant.0)
+    (same-setup g.L.Meaning.meaning c.args.core.now c.loop-candidates.core c.loop-candidates.invariant.0)
     (let leads = rw c.in_default.is at c.in_ok-owner.ensures in leads.owner))

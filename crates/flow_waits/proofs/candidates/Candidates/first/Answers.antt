@@ -15,12 +15,12 @@ pub loop-number-preserved-then-is_ended : goal.loop-number-preserved-then-is_end
 loop-number-preserved-then-is_ended g c =
     without_ended (setup_in g.L.Meaning.meaning c.args.core.now) c.args.core.now.entries c.loop-number.self
     (record { ready = c.remove.new.self; readers = c.self.inside.readers; writers = c.self.inside.writers }) c.args.from
-        c.in-Some.number
+    c.in-Some.number
     c.loop-number.invariant (subst (λ pools. IsLess pools.ready c.remove.new.self c.in-Some.number) c.self.view_is
-        c.remove.ensures.less)
+    c.remove.ensures.less)
     (ap (λ pools. pools.readers) c.self.view_is) (ap (λ pools. pools.writers) c.self.view_is)
     (ended-over (setup_in g.L.Meaning.meaning c.args.core.now) c.args.core.now.entries c.in-Some.number
-        (sym c.is_ended.ensures ∙ c.if-is_ended.true))
+    (sym c.is_ended.ensures ∙ c.if-is_ended.true))
 
 pub stop_at-requires : goal.stop_at-requires
 stop_at-requires g c = c.loop-number.invariant.exist c.in-Some.number
@@ -30,20 +30,20 @@ stop_at-requires g c = c.loop-number.invariant.exist c.in-Some.number
 pub loop-number-preserved : goal.loop-number-preserved
 loop-number-preserved g c =
     parked (setup_in g.L.Meaning.meaning c.args.core.now) c.args.core.now.entries c.loop-number.self c.park.new.self
-        c.args.from c.in-Some.number c.in-Some-stop_at.stop
+    c.args.from c.in-Some.number c.in-Some-stop_at.stop
     (let kept = c.journal-journal.ensures.kept in kept.legal) c.loop-number.invariant
-        c.in_ok-park-in-Some-stop_at.ensures.ok
+    c.in_ok-park-in-Some-stop_at.ensures.ok
     (live-is (setup_in g.L.Meaning.meaning c.args.core.now) c.args.core.now.entries c.in-Some.number
-        (c.loop-number.invariant.exist c.in-Some.number
-        (let e = subst (λ pools. IsEarliest pools.ready c.args.from c.in-Some.number) c.self.view_is c.in-Some.ensures
-        in e.is))
+    (c.loop-number.invariant.exist c.in-Some.number
+    (let e = subst (λ pools. IsEarliest pools.ready c.args.from c.in-Some.number) c.self.view_is c.in-Some.ensures
+    in e.is))
     (sym c.is_ended.ensures ∙ c.if-is_ended.false)) c.in-Some-stop_at.ensures
 
 pub returns-in-None-clause-first : goal.returns-in-None-clause-first
 returns-in-None-clause-first g c =
     chosen (setup_in g.L.Meaning.meaning c.args.core.now) c.args.core.now.entries c.loop-number.self c.args.from
-        c.loop-number.invariant c.in-Some.number (subst (λ pools. IsEarliest pools.ready c.args.from c.in-Some.number)
-        c.self.view_is c.in-Some.ensures)
+    c.loop-number.invariant c.in-Some.number (subst (λ pools. IsEarliest pools.ready c.args.from c.in-Some.number)
+    c.self.view_is c.in-Some.ensures)
     (record {
       live = live-is (setup_in g.L.Meaning.meaning c.args.core.now) c.args.core.now.entries c.in-Some.number
           (c.loop-number.invariant.exist c.in-Some.number
@@ -56,6 +56,6 @@ returns-in-None-clause-first g c =
 pub returns-clause-first : goal.returns-clause-first
 returns-clause-first g c =
     none_left (setup_in g.L.Meaning.meaning c.args.core.now) c.args.core.now.entries c.loop-number.self c.args.from
-        c.loop-number.invariant
+    c.loop-number.invariant
     (let kept = c.journal-journal.ensures.kept in kept.legal)
-        (ap (λ pools. pools.ready) (sym c.self.view_is) ∙ c.in_default.ensures)
+    (ap (λ pools. pools.ready) (sym c.self.view_is) ∙ c.in_default.ensures)

@@ -18,8 +18,8 @@ returns-in-Some-clause-ok c =
 pub returns-in-Some-clause-err : goal.returns-in-Some-clause-err
 returns-in-Some-clause-err c =
     on_err_weaker c.add.result (λ same. unchanged c.self.inside.rooms.entries _ c.args.key c.in-Some.flows.now
-        c.add.new.self (c.get_mut.follows.holds c.add.new.self).0 c.in-Some.ensures.value same ∙ c.self.view_is)
-        c.add.ensures.err
+    c.add.new.self (c.get_mut.follows.holds c.add.new.self).0 c.in-Some.ensures.value same ∙ c.self.view_is)
+    c.add.ensures.err
 
 pub returns-in_ok-insert-in-None-clause-ok : goal.returns-in_ok-insert-in-None-clause-ok
 returns-in_ok-insert-in-None-clause-ok c =
@@ -28,6 +28,6 @@ returns-in_ok-insert-in-None-clause-ok c =
     subst (λ rooms. IsMoreAt rooms c.insert.new.self.entries c.args.key c.args.flow) same
     (more_at before c.insert.new.self.entries c.args.key c.args.flow c.new-flows.result c.add-in-None.new.self
     (changed_is before c.insert.new.self.entries c.args.key c.add-in-None.new.self
-        c.in_ok-insert-in-None.ensures.updates.0) (ap (λ m. room_at m.entries c.args.key)
-        c.get_mut.follows.holds-at-none ∙ room_is c.self.inside.rooms.entries c.args.key None c.in-None.ensures.value
-        ∙ sym c.new-flows.ensures) c.in_ok-add-in-None.ensures.ok)
+    c.in_ok-insert-in-None.ensures.updates.0) (ap (λ m. room_at m.entries c.args.key)
+    c.get_mut.follows.holds-at-none ∙ room_is c.self.inside.rooms.entries c.args.key None c.in-None.ensures.value
+    ∙ sym c.new-flows.ensures) c.in_ok-add-in-None.ensures.ok)

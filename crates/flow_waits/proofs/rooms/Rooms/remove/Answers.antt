@@ -10,7 +10,7 @@ returns-in_default c =
     subst (λ rooms. IsLessAt rooms before c.args.key c.args.flow) same
     (none_less before c.args.key c.args.flow
     (ap (λ m. room_at m.entries c.args.key) c.get_mut.follows.holds-at-none ∙ room_is c.self.inside.rooms.entries
-        c.args.key None c.in_default.ensures.value))
+    c.args.key None c.in_default.ensures.value))
 
 pub returns : goal.returns
 returns c =
