@@ -23,7 +23,7 @@ use Rattle.flux_table.proofs.Orderly.{contains_without}
 line_less : (old : Locks) (key k : Key) (line : List Waiter) (waiter : Waiter)
     → (Contains line waiter → Contains (lines_of old key) waiter)
     → (b : Bool) → same_key key k ≡ b → Contains (cond b line (lines_of old k)) waiter
-        → Contains (lines_of old k) waiter
+    → Contains (lines_of old k) waiter
 line_less old key k line waiter less true same is = subst (λ q. Contains (lines_of old q) waiter)
     (same_key_is key k same) (less is)
 line_less old key k line waiter less false apart is = is
@@ -32,7 +32,7 @@ pub stood_take : (old new : Locks) (stood : List (Key × Waiter)) (flow : ℕ) (
     → HaveStood old stood → Takes old new flow key mode → HaveStood new stood
 stood_take old new stood flow key mode have takes k waiter is =
     have k waiter (line_less old key k (line_without (lines_of old key) flow) waiter
-        (contains_without (lines_of old key) flow waiter) (same_key key k) refl
+    (contains_without (lines_of old key) flow waiter) (same_key key k) refl
     (subst (λ lines. Contains (lines k) waiter) takes.lines is))
 
 pub stood_follows : (taken : Taken) (old new : Locks) (stood : List (Key × Waiter)) (flow : ℕ) (key : Key) (mode : Mode)
@@ -43,7 +43,7 @@ stood_follows (Busy holder) old new stood flow key mode have same =
 
 line_more : (old : Locks) (stood : List (Key × Waiter)) (key k : Key) (last waiter : Waiter) → HaveStood old stood
     → (b : Bool) → same_key key k ≡ b → Contains (cond b (lines_of old key ++ last ∷ []) (lines_of old k)) waiter
-        → Contains (stood ++ (key, last) ∷ []) (k, waiter)
+    → Contains (stood ++ (key, last) ∷ []) (k, waiter)
 line_more old stood key k last waiter have true same is =
     let here = same_key_is key k same in
     elim (Contains-push_cases (lines_of old key) last waiter is) [
@@ -60,18 +60,18 @@ pub stood_wait : (old new : Locks) (stood : List (Key × Waiter)) (flow : FlowNo
     → HaveStood new (stood ++ (key, record { flow = flow; mode = mode }) ∷ [])
 stood_wait old new stood flow key mode have waits k waiter is =
     line_more old stood key k (record { flow = flow; mode = mode }) waiter have (same_key key k) refl
-        (subst (λ lines. Contains (lines k) waiter) waits.lines is)
+    (subst (λ lines. Contains (lines k) waiter) waits.lines is)
 
 pub only_at : (locks : Locks) (stood : List (Key × Waiter)) (flow : ℕ) (key : Key) (mode : Mode) → HaveStood locks stood
     → All (λ (s : Key × Waiter). s.1.flow.0 ≡ flow → (s.0 ≡ key) × (s.1.mode ≡ mode)) stood
-        → StandsOnlyAt (lines_of locks) flow key mode
+    → StandsOnlyAt (lines_of locks) flow key mode
 only_at locks stood flow key mode have all k waiter is own =
     All-contains (λ (s : Key × Waiter). s.1.flow.0 ≡ flow → (s.0 ≡ key) × (s.1.mode ≡ mode)) stood (k, waiter) all
-        (have k waiter is) own
+    (have k waiter is) own
 
 pub nowhere : (locks : Locks) (stood : List (Key × Waiter)) (flow : ℕ) → HaveStood locks stood
     → All (λ (s : Key × Waiter). s.1.flow.0 ≢ flow) stood → (k : Key) (waiter : Waiter)
-        → Contains (lines_of locks k) waiter → waiter.flow.0 ≢ flow
+    → Contains (lines_of locks k) waiter → waiter.flow.0 ≢ flow
 nowhere locks stood flow have all k waiter is = All-contains (λ (s : Key × Waiter). s.1.flow.0 ≢ flow) stood (k, waiter)
     all (have k waiter is)
 

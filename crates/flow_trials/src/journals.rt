@@ -5,10 +5,10 @@ ghost use Rattle.flux_model.specs.Numbered.{IsNumbered};
 
 use crate::troubles::Trouble;
 use flow_core::Core;
+use flow_model::Journal;
 use flux_hoist::Checked;
 use flux_journal::{JournalFault, print_journal, read_journal};
 use flux_library::Library;
-use flow_model::Journal;
 use flux_values::{Bytes, Memory};
 use std::alloc::Global;
 

@@ -3,9 +3,9 @@
 ghost use Rattle.std.specs.Prelude.{◌≡◌, ◌<◌, length};
 
 use flow_core::{Core, Step};
+use flow_model::{Event, Key};
 use flux_library::Library;
 use flux_model::FlowNo;
-use flow_model::{Event, Key};
 use flux_values::Memory;
 use std::alloc::Global;
 use std::collections::{BTreeMap, VecDeque};

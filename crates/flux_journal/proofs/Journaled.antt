@@ -14,7 +14,7 @@ use Rattle.flux_journal.specs.declared.faults.JournalFault.{JournalFault}
 use Rattle.flux_journal.specs.declared.faults.JournalFault.TheVariants as faults
 use Rattle.flux_journal.specs.Formats.{head_line}
 use Rattle.flux_journal.specs.Spelled.{IsEntryLine}
-use Rattle.flux_journal.specs.Journals.{is_line_end, without_empty_last, lines_of, is_headed, head_count, event_lines, HasHead, FitsFormat, AreEntryLines, ReadsAs, IsHeadBad, IsEventBad, IsBadLine, HasCause, IsOrMemory}
+use Rattle.flux_journal.specs.Journals.{is_line_end, without_empty_last, lines_of, is_headed, head_count, event_lines, HasHead, FitsFormat, AreEntryLines, ReadsAs, IsHeadBad, IsEventBad, IsBadLine, HasCause, IsOrMemory, IsWellHeaded}
 use Rattle.flux_journal.specs.steps.Cuts.{HasNone, IsCut, IsNumber}
 use Rattle.flux_journal.specs.steps.Lines.{IsFirstLine, IsHeadFor, IsBadAmong, AreEntriesRead, AreReadSoFar, AreCountedSoFar}
 use Rattle.flux_journal.proofs.Cutting.{same_cut, no_cut, one_number}
@@ -207,6 +207,15 @@ pub headed_read : (p : Program) (text head rest : List ℕ) (count : ℕ) → tr
 headed_read p text head rest count is first count_is h r read =
     all_read p text 2 true (sym is) refl (has_head text head rest first (subst (IsHeadFor head) count_is h)) r
     (subst (λ (l : List (List ℕ)). AreEntriesRead p l 2 r) (sym (ap (drop 1) first.lines)) read)
+
+-- a text of format 1 needs no head, and one of format 2 has the one that was found
+pub headless_well : (text : List ℕ) → false ≡ is_headed text → IsWellHeaded text
+headless_well text is = subst (λ (u : Bool). FitsFormat u (lines_of text)) is tt
+
+pub headed_well : (text head rest : List ℕ) (count : ℕ) → true ≡ is_headed text → IsFirstLine text head rest → count ≡ length (lines_of rest)
+    → IsHeadFor head count → IsWellHeaded text
+headed_well text head rest count is first count_is h =
+    subst (λ (u : Bool). FitsFormat u (lines_of text)) is (has_head text head rest first (subst (IsHeadFor head) count_is h))
 
 some_is : (a b : List ℕ) → Some a ≡ Some b → a ≡ b
 some_is a b e = cc

@@ -8,10 +8,10 @@ use crate::cursors::Cursor;
 use crate::cuts::{behind, cut};
 use crate::faults::LineFault;
 use crate::names::find_cell;
-use flux_model::{CallResult, NodeNo, Program, Put};
 use flow_model::CallMade;
-use flux_values::{Answer, Bytes, EMISSION_LIMIT, List, TextBytes, Value};
+use flux_model::{CallResult, NodeNo, Program, Put};
 use flux_spelling::read_text_within;
+use flux_values::{Answer, Bytes, EMISSION_LIMIT, List, TextBytes, Value};
 use std::alloc::Global;
 
 impl Cursor<'_> {

@@ -7,8 +7,8 @@ ghost use Rattle.flux_journal.specs.steps.Reading.{IsPartRead, IsWordRead, IsNot
 
 use crate::cuts::behind;
 use crate::faults::LineFault;
-use flux_values::{Value, ValueFault};
 use flux_spelling::{read_decimal, read_value};
+use flux_values::{Value, ValueFault};
 use std::alloc::Global;
 
 /// What is left of a line.

@@ -8,14 +8,14 @@ ghost use Rattle.flux_model.specs.Numbered.{IsNumbered};
 ghost use Rattle.flux_journal.specs.declared.faults.JournalFault.TheVariants as faults;
 ghost use Rattle.flux_journal.specs.Formats.{printed_journal_2};
 ghost use Rattle.flux_journal.specs.Entries.{AreEntriesOf};
-ghost use Rattle.flux_journal.specs.Journals.{lines_of, is_headed, ReadsAs, IsBadLine, HasCause, IsOrMemory};
+ghost use Rattle.flux_journal.specs.Journals.{lines_of, is_headed, IsWellHeaded, ReadsAs, IsBadLine, HasCause, IsOrMemory};
 ghost use Rattle.flux_journal.specs.steps.Lines.{IsFirstLine, IsHeadFor, AreEntriesRead};
 
 use crate::cuts::{behind, cut, read_number};
 use crate::faults::{JournalFault, LineFault};
 use crate::lines::Reader;
-use flux_model::Program;
 use flow_model::Journal;
+use flux_model::Program;
 use flux_values::List;
 use std::alloc::Global;
 
@@ -116,6 +116,8 @@ pub fn read_journal(alloc: Global, program: &Program, bytes: &[u8]) -> Result<Jo
         → IsOrMemory (Ok journal) result }
     ensures bad { (line : ℕ) → IsBadLine program.now bytes.now line
         → IsOrMemory (Err (faults.BadLine line)) result }
+    // A bad head is told without taking memory.
+    ensures head { (IsWellHeaded bytes.now → ⊥) → result ≡ Err (faults.BadLine 1) }
     // The printed texts of a journal of the program's entries are read as that journal.
     ensures again { (journal : Journal) → AreEntriesOf program.now journal.entries
         → bytes.now ≡ printed_journal program.now journal → IsOrMemory (Ok journal) result }
@@ -129,7 +131,8 @@ pub fn read_journal(alloc: Global, program: &Program, bytes: &[u8]) -> Result<Jo
 fn read_all(alloc: Global, program: &Program, bytes: &[u8]) -> Result<Journal, JournalFault>
     requires numbered { IsNumbered program.now }
     requires named { IsNamed program.now }
-    ensures { HasCause program.now bytes.now result }
+    ensures cause { HasCause program.now bytes.now result }
+    ensures head { (IsWellHeaded bytes.now → ⊥) → result ≡ Err (faults.BadLine 1) }
 {
     if !is_headed(bytes) {
         return read_entries(alloc, program, bytes, 1);

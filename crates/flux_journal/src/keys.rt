@@ -9,8 +9,8 @@ ghost use Rattle.flux_journal.specs.steps.Parts.{IsKeyText, IsModeMark, IsHoldTe
 
 use crate::cuts::{cut, read_number};
 use crate::names::find_class;
-use flux_model::{Mode, Program};
 use flow_model::Key;
+use flux_model::{Mode, Program};
 
 /// The key that the bytes are: a class's name, for a session class with `@` and the session's number.
 pub fn read_key(program: &Program, bytes: &[u8]) -> Option<Key>

@@ -20,8 +20,8 @@ use crate::faults::LineFault;
 use crate::keys::{read_hold, read_key};
 use crate::names::{find_node, names_of};
 use crate::outcomes::{read_end, read_exit};
-use flux_model::{FlowNo, Names, NodeNo, Program};
 use flow_model::{CallMade, Entry, Event, Outcome};
+use flux_model::{FlowNo, Names, NodeNo, Program};
 use flux_values::Memory;
 use std::alloc::Global;
 

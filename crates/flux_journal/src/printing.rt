@@ -10,10 +10,10 @@ ghost use Rattle.flux_journal.specs.Formats.{head_line, printed_journal_2};
 ghost use Rattle.flux_journal.specs.Logs.{printed_sent, logged_call, logged_event, logged_entry, printed_log};
 ghost use Rattle.flux_journal.specs.steps.Listed.{called};
 
-use flux_model::{CallResult, ClassNo, Item, Mode, NodeNo, Program, Put, SourceNo};
 use flow_model::{CallMade, Entry, Event, Journal, Key, Outcome};
-use flux_values::{Bytes, List, Memory, Value};
+use flux_model::{CallResult, ClassNo, Item, Mode, NodeNo, Program, Put, SourceNo};
 use flux_spelling::{append_number, append_text, append_value};
+use flux_values::{Bytes, List, Memory, Value};
 use std::alloc::Global;
 
 /// The one text of a journal in format 1.

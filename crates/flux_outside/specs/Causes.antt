@@ -4,6 +4,10 @@ use Rattle.flux_outside.specs.declared.faults.Failed.{Failed}
 use Rattle.flux_outside.specs.declared.faults.StoreFault.{StoreFault}
 use Rattle.flux_outside.specs.declared.faults.StoreFault.TheVariants as faults
 
+-- a count of faults with one fault more; it stops at its type's end
+abbrev pub one_fault_more : ℕ → ℕ
+one_fault_more faults = min (faults + 1) (2 ^ 64 - 1)
+
 -- a count of faults rose, or stands at its type's end
 abbrev pub Rose : ℕ → ℕ → Type 0
 Rose before now = min (before + 1) (2 ^ 64 - 1) ≤ now

@@ -5,5 +5,7 @@ pub mod Folders
 pub mod MemoryFolders
 pub mod Readers
 pub mod Opening
+pub mod Told
+pub mod Walking
 pub mod Calls
 pub mod Memory

@@ -1,7 +1,7 @@
 -- Files that were not opened: why, by the kind of std's error, and when that counts as a fault.
 use Rattle.std.specs.Prelude.{◌≡◌, ℕ, Result, Ok, Err}
 use Rattle.std.specs.declared.io.ErrorKind.{ErrorKind}
-use Rattle.std.specs.declared.io.ErrorKind.TheVariants.{NotFound, OutOfMemory}
+use Rattle.std.specs.declared.io.ErrorKind.TheVariants.{NotFound, NotADirectory, OutOfMemory}
 use Rattle.flux_outside.specs.Causes.{Rose}
 use Rattle.flux_outside.specs.declared.faults.StoreFault.{StoreFault}
 use Rattle.flux_outside.specs.declared.faults.StoreFault.TheVariants as faults
@@ -10,9 +10,10 @@ use Rattle.flux_outside.specs.declared.stores.File.TheVariants as files
 use Rattle.flux_outside.specs.declared.system.NotOpened.{NotOpened}
 use Rattle.flux_outside.specs.declared.system.NotOpened.TheVariants.{Missing, Memory, Failed}
 
--- there is no such file; there was no memory; every other error is a failure
+-- there is no such file, nor one below a file; there was no memory; every other error is a failure
 abbrev pub why_not : ErrorKind → NotOpened
 why_not NotFound = Missing
+why_not NotADirectory = Missing
 why_not OutOfMemory = Memory
 why_not _ = Failed
 

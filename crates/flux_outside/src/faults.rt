@@ -1,7 +1,7 @@
 //! The answers of calls that failed.
 
 ghost use Rattle.std.specs.Prelude.{◌≡◌, ◌≤◌};
-ghost use Rattle.flux_outside.specs.Causes.{Rose};
+ghost use Rattle.flux_outside.specs.Causes.{Rose, one_fault_more};
 ghost use Rattle.flux_outside.specs.declared.faults.StoreFault.TheVariants as causes;
 
 use flux_values::Memory;
@@ -36,6 +36,7 @@ impl From<Failed> for StoreFault {
 
 /// Counts a failure. The count stops at its type's end.
 pub(crate) fn count(faults: &mut u64) -> Failed
+    ensures counted { faults.new ≡ one_fault_more faults.old }
     ensures later { faults.old ≤ faults.new }
     ensures rose { Rose faults.old faults.new }
 {

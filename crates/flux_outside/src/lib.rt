@@ -17,6 +17,7 @@ mod real_folders;
 mod sinks;
 mod stores;
 mod system;
+mod told;
 
 pub use asked::AskedNames;
 pub use faults::{Failed, StoreFault};

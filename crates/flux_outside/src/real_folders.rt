@@ -1,8 +1,10 @@
 //! The folders of the system: a thin adapter, which tells nothing of what they hold.
 
-ghost use Rattle.std.specs.Prelude.{◌≡◌, [], IfOk};
+ghost use Rattle.std.specs.Prelude.{◌≡◌, ◌++◌, ◌∷◌, [], ℕ, List, true, IfOk, IfSome, OnOk};
 ghost use Rattle.flux_outside.specs.Causes.{HasCause, HasStoreCause};
 ghost use Rattle.flux_outside.specs.Folders.{DocFits};
+ghost use Rattle.flux_outside.specs.Told.{doc_of};
+ghost use Rattle.flux_outside.specs.Walking.{turn_of};
 
 use crate::asked::AskedNames;
 use crate::faults::{Failed, StoreFault};
@@ -58,6 +60,45 @@ enum Step {
     Over,
 }
 
+/// What follows a step: another one, a file that is read, or an answer.
+#[derive(Drop)]
+enum Turn {
+    On,
+    Read(Bytes),
+    Answer(NextDoc),
+}
+
+fn turn_of(step: Step) -> Turn
+    ensures { result ≡ turn_of step }
+{
+    match step {
+        Step::On => Turn::On,
+        Step::File(name) => Turn::Read(name),
+        Step::TooMany => Turn::Answer(NextDoc::Longer),
+        Step::Over => Turn::Answer(NextDoc::NoMore),
+    }
+}
+
+/// The document of a name with what was read under it; None where it isn't there any more.
+fn doc_of(name: Bytes, file: File) -> Option<NextDoc>
+    ensures { result ≡ doc_of name file }
+{
+    match file {
+        File::Found(body) => Some(NextDoc::Doc(name, body)),
+        File::Longer => Some(NextDoc::Longer),
+        File::Missing => None,
+    }
+}
+
+/// One name behind another.
+fn joined(alloc: Global, front: &[u8], back: &[u8]) -> Result<Bytes, Memory>
+    ensures { IfOk result (λ name. name ≡ front.now ++ back.now) }
+{
+    let mut name = Bytes::copy(alloc, front)?;
+    name.append(back)?;
+    Ok(name)
+}
+
 impl<R: Files + AllocGlobal + Clone + Drop> RealFolder<R> {
     /// No folder is open yet. Room for a path is reserved here, so that opening takes no memory.
     pub fn new(alloc: Global, runtime: R) -> Result<RealFolder<R>, Memory>
@@ -79,6 +120,9 @@ impl<R: Files + AllocGlobal + Clone + Drop> RealFolder<R> {
 
     /// Begins a walk through a folder.
     fn begin(&mut self, dir: &[u8]) -> Result<(), Failed>
+        ensures fresh { OnOk result (self.new.fresh ≡ true) }
+        ensures pending { OnOk result (self.new.pending ≡ []) }
+        ensures found { OnOk result (self.new.found ≡ 0) }
         ensures asked { self.new.asked ≡ self.old.asked }
         ensures cause { HasCause self.old.files.faults self.new.files.faults result }
     {
@@ -94,9 +138,10 @@ impl<R: Files + AllocGlobal + Clone + Drop> RealFolder<R> {
     }
 
     /// A path: the folder's, and a name in it.
-    fn path_of(&self, alloc: Global, name: &[u8]) -> Result<Bytes, Memory> {
-        let mut path = Bytes::copy(alloc, self.root.as_slice())?;
-        path.append(b"/")?;
+    fn path_of(&self, alloc: Global, name: &[u8]) -> Result<Bytes, Memory>
+        ensures { IfOk result (λ path. path ≡ self.now.root.items ++ 47 ∷ name.now) }
+    {
+        let mut path = joined(alloc, self.root.as_slice(), b"/")?;
         path.append(name)?;
         Ok(path)
     }
@@ -158,13 +203,18 @@ impl<R: Files + AllocGlobal + Clone + Drop> RealFolder<R> {
     }
 
     /// The name of an entry, relative to the folder.
-    fn name_of(&self, alloc: Global, entry: &DirEntry<R, Global>) -> Result<Bytes, Memory> {
-        let mut name = match &self.listing {
-            Some(listing) => Bytes::copy(alloc, listing.prefix.as_bytes())?,
-            None => Bytes::new(alloc),
-        };
-        name.append(entry.file_name().as_bytes())?;
-        Ok(name)
+    fn name_of(&self, alloc: Global, entry: &DirEntry<R, Global>) -> Result<Bytes, Memory>
+        ensures { IfSome self.now.listing (λ listing.
+            IfOk result (λ name. (rest : List ℕ) × (name ≡ listing.prefix ++ rest))) }
+    {
+        match &self.listing {
+            Some(listing) => joined(
+                alloc,
+                listing.prefix.as_bytes(),
+                entry.file_name().as_bytes(),
+            ),
+            None => Bytes::copy(alloc, entry.file_name().as_bytes()),
+        }
     }
 
     /// A document, by its name. A file that isn't there any more is a fault.
@@ -175,10 +225,10 @@ impl<R: Files + AllocGlobal + Clone + Drop> RealFolder<R> {
     {
         let path = self.path_of(alloc, name.as_bytes())?;
         let opened = self.files.open(path.as_bytes());
-        match read_opened(&mut self.files, alloc, opened, max)? {
-            File::Found(body) => Ok(NextDoc::Doc(name, body)),
-            File::Longer => Ok(NextDoc::Longer),
-            File::Missing => Err(self.files.fail().into()),
+        let file = read_opened(&mut self.files, alloc, opened, max)?;
+        match doc_of(name, file) {
+            Some(doc) => Ok(doc),
+            None => Err(self.files.fail().into()),
         }
     }
 }
@@ -206,11 +256,10 @@ impl<R: Files + AllocGlobal + Clone + Drop> Folder for RealFolder<R> {
 
     fn next_doc(&mut self, alloc: Global, max: usize) -> Result<NextDoc, StoreFault> {
         'steps: for _ in 0..u64::MAX {
-            match self.step(alloc)? {
-                Step::On => {}
-                Step::File(name) => return self.read(alloc, name, max),
-                Step::TooMany => return Ok(NextDoc::Longer),
-                Step::Over => return Ok(NextDoc::NoMore),
+            match turn_of(self.step(alloc)?) {
+                Turn::On => {}
+                Turn::Read(name) => return self.read(alloc, name, max),
+                Turn::Answer(next) => return Ok(next),
             }
         }
         Err(self.files.fail().into())

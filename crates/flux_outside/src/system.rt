@@ -1,14 +1,17 @@
 //! The files of the system: each is opened and read here alone, where names are noted and failures counted.
 
-ghost use Rattle.std.specs.Prelude.{◌≡◌, ◌≤◌, []};
+ghost use Rattle.std.specs.Prelude.{◌≡◌, ◌≤◌, [], Err};
+ghost use Rattle.std.specs.Str.{IsUtf8};
 ghost use Rattle.std.specs.Io.{ReadsAtMost};
 ghost use Rattle.std.specs.Io.KnownBytes.{ReadConsumes};
-ghost use Rattle.flux_outside.specs.Causes.{Rose, HasCause, HasStoreCause, CountsFault};
+ghost use Rattle.flux_outside.specs.Causes.{Rose, one_fault_more, HasCause, HasStoreCause, CountsFault};
 ghost use Rattle.flux_outside.specs.Stores.{AskedFor};
-ghost use Rattle.flux_outside.specs.Opening.{why_not, CountsOpening};
+ghost use Rattle.flux_outside.specs.Opening.{CountsOpening};
+ghost use Rattle.flux_outside.specs.Told.{fault_of};
 
 use crate::asked::AskedNames;
 use crate::faults::{Failed, StoreFault, count};
+use crate::told::{entry_told, fault_of, folder_told, kind_told, opened};
 use std::alloc::Global;
 use std::fs;
 use std::fs::{DirEntry, ReadDir};
@@ -26,7 +29,7 @@ pub struct SystemFiles<R> {
 /// A file that is open for reading.
 #[derive(Drop)]
 pub struct OpenFile<F> {
-    reader: F,
+    pub reader: F,
 }
 
 /// Why a file was not opened.
@@ -51,10 +54,25 @@ impl<R> SystemFiles<R> {
     /// Counts a failure.
     pub fn fail(&mut self) -> Failed
         ensures asked { self.new.asked ≡ self.old.asked }
+        ensures counted { self.new.faults ≡ one_fault_more self.old.faults }
         ensures later { self.old.faults ≤ self.new.faults }
         ensures rose { Rose self.old.faults self.new.faults }
     {
         count(&mut self.faults)
+    }
+
+    /// The fault for an error of the system, which is counted where it is a failure.
+    fn refuse(&mut self, kind: ErrorKind) -> StoreFault
+        ensures fault { result ≡ fault_of kind }
+        ensures asked { self.new.asked ≡ self.old.asked }
+        ensures later { self.old.faults ≤ self.new.faults }
+        ensures cause { CountsFault self.old.faults self.new.faults result }
+    {
+        let fault = fault_of(kind);
+        if let StoreFault::Failed = fault {
+            let _ = count(&mut self.faults);
+        }
+        fault
     }
 
     pub fn new(runtime: R) -> SystemFiles<R>
@@ -73,15 +91,15 @@ impl<R> SystemFiles<R> {
         &mut self,
         file: &mut OpenFile<F>,
         buffer: &mut [u8],
-    ) -> Result<usize, Failed>
+    ) -> Result<usize, StoreFault>
         ensures bound { ReadsAtMost result buffer.new }
         ensures bytes { ReadConsumes (F.remaining file.old.reader) (F.remaining file.new.reader) result buffer.new }
         ensures asked { self.new.asked ≡ self.old.asked }
-        ensures cause { HasCause self.old.faults self.new.faults result }
+        ensures cause { HasStoreCause self.old.faults self.new.faults result }
     {
         match file.reader.read(buffer) {
             Ok(count) => Ok(count),
-            Err(_) => Err(count(&mut self.faults)),
+            Err(e) => Err(self.refuse(e.kind())),
         }
     }
 }
@@ -92,19 +110,17 @@ impl<R: Files> SystemFiles<R> {
         ensures asked { AskedFor self.old.asked.names self.new.asked.names name.now }
         ensures later { self.old.faults ≤ self.new.faults }
         ensures cause { CountsOpening self.old.faults self.new.faults result }
+        ensures text { (IsUtf8 name.now → ⊥) → result ≡ Err NotOpened.Failed }
     {
         self.asked.add(name);
-        let reason = match str::from_utf8(name) {
-            Ok(path) => match fs::open(&self.runtime, path) {
-                Ok(reader) => return Ok(OpenFile { reader }),
-                Err(e) => why_not(e.kind()),
-            },
-            Err(_) => NotOpened::Failed,
+        let answer = match str::from_utf8(name) {
+            Ok(path) => opened(fs::open(&self.runtime, path)),
+            Err(_) => Err(NotOpened::Failed),
         };
-        if let NotOpened::Failed = reason {
+        if let Err(NotOpened::Failed) = &answer {
             let _ = count(&mut self.faults);
         }
-        Err(reason)
+        answer
     }
 }
 
@@ -117,24 +133,9 @@ impl<R: Files> SystemFiles<R> {
         let Ok(path) = str::from_utf8(name) else {
             return Err(count(&mut self.faults));
         };
-        match fs::metadata(&self.runtime, path) {
-            Ok(metadata) => Ok(metadata.is_dir()),
-            Err(e) => match e.kind() {
-                ErrorKind::NotFound | ErrorKind::NotADirectory => Ok(false),
-                _ => Err(count(&mut self.faults)),
-            },
-        }
-    }
-
-    /// A fault for an error of the system.
-    fn refuse(&mut self, kind: ErrorKind) -> StoreFault
-        ensures asked { self.new.asked ≡ self.old.asked }
-        ensures later { self.old.faults ≤ self.new.faults }
-        ensures cause { CountsFault self.old.faults self.new.faults result }
-    {
-        match kind {
-            ErrorKind::OutOfMemory => StoreFault::Memory,
-            _ => count(&mut self.faults).into(),
+        match folder_told(&fs::metadata(&self.runtime, path)) {
+            Some(is) => Ok(is),
+            None => Err(count(&mut self.faults)),
         }
     }
 }
@@ -162,10 +163,9 @@ impl<R: Files + AllocGlobal + Clone + Drop> SystemFiles<R> {
         ensures asked { self.new.asked ≡ self.old.asked }
         ensures cause { HasStoreCause self.old.faults self.new.faults result }
     {
-        match entries.next() {
-            None => Ok(None),
-            Some(Ok(entry)) => Ok(Some(entry)),
-            Some(Err(e)) => Err(self.refuse(e.kind())),
+        match entry_told(entries.next()) {
+            Ok(entry) => Ok(entry),
+            Err(kind) => Err(self.refuse(kind)),
         }
     }
 
@@ -174,21 +174,9 @@ impl<R: Files + AllocGlobal + Clone + Drop> SystemFiles<R> {
         ensures asked { self.new.asked ≡ self.old.asked }
         ensures cause { HasStoreCause self.old.faults self.new.faults result }
     {
-        match entry.file_type() {
-            Ok(kind) if kind.is_file() => Ok(EntryKind::File),
-            Ok(kind) if kind.is_dir() => Ok(EntryKind::Folder),
-            Ok(_) => Ok(EntryKind::Other),
-            Err(e) => Err(self.refuse(e.kind())),
+        match kind_told(&entry.file_type()) {
+            Ok(kind) => Ok(kind),
+            Err(kind) => Err(self.refuse(kind)),
         }
-    }
-}
-
-fn why_not(kind: ErrorKind) -> NotOpened
-    ensures { result ≡ why_not kind }
-{
-    match kind {
-        ErrorKind::NotFound => NotOpened::Missing,
-        ErrorKind::OutOfMemory => NotOpened::Memory,
-        _ => NotOpened::Failed,
     }
 }

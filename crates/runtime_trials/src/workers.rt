@@ -36,13 +36,12 @@ impl Worker for Drainer {
 }
 
 /// Two workers at one core. Whatever they do, its journal is legal behind them.
-pub fn work_together<L: Library + Send + Sync, G: Gate + Sync, W: Worker + Sync, Rt: Threads + Wait + Sync>(
-    rt: &Rt,
-    one: &W,
-    other: &W,
-    core: Core<L>,
-    gate: &G,
-) -> Core<L>
+pub fn work_together<
+    L: Library + Send + Sync,
+    G: Gate + Sync,
+    W: Worker + Sync,
+    Rt: Threads + Wait + Sync,
+>(rt: &Rt, one: &W, other: &W, core: Core<L>, gate: &G) -> Core<L>
     ensures { IsKept L.meaning result }
 {
     let shared = Mutex::new(core);

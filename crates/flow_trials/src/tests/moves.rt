@@ -11,11 +11,11 @@ use super::{
 };
 use crate::building::checked_of;
 use flow_core::{Core, Step};
+use flow_model::Journal;
 use flux_hoist::Checked;
 use flux_journal::{print_journal, read_journal};
 use flux_library::Library;
 use flux_model::FlowNo;
-use flow_model::Journal;
 use flux_values::Memory;
 use nodes_counter::Counter;
 use std::alloc::Global;

@@ -6,8 +6,8 @@ pub mod locks;
 pub mod walks;
 
 use crate::building::Given;
-use flux_model::{Class, Hold, Program};
 use flow_model::Entry;
+use flux_model::{Class, Hold, Program};
 use flux_values::Memory;
 use std::alloc::Global;
 use std::process::Abort;

@@ -19,23 +19,23 @@ use std::sync::Wait;
 use std::test::Fail;
 use std::thread::Threads;
 
-/// A reader and a writer of one key.
-const BOTH: Flows = Flows {
+/// Two readers and a writer of one key.
+const THREE: Flows = Flows {
     lines: READERS_AND_WRITERS,
-    given: &[(0, 1), (1, 2)],
+    given: &[(0, 1), (0, 2), (1, 3)],
 };
 
 /// Flow after flow, each up to its call, its wait or its end.
 const ROUND: &str =
-    "0 take k?\n0 enter Pass_r\n0 call Pass_r (1) ok (1)\n1 wait k!\n0 exit Pass_r ok\n0 drop k\n0 end done\n1 take k!\n1 enter Pass_w\n1 call Pass_w (2) ok (2)\n1 exit Pass_w ok\n1 drop k\n1 end done\n";
+    "0 take k?\n0 enter Pass_r\n0 call Pass_r (1) ok (1)\n1 take k?\n1 enter Pass_r\n1 call Pass_r (2) ok (2)\n0 exit Pass_r ok\n0 drop k\n0 end done\n1 exit Pass_r ok\n1 drop k\n1 end done\n2 take k!\n2 enter Pass_w\n2 call Pass_w (3) ok (3)\n2 exit Pass_w ok\n2 drop k\n2 end done\n";
 
-/// The writer twice, the reader, a flow that isn't there, and then the lowest.
+/// The writer twice, a reader, a flow that isn't there, and then the lowest.
 const LISTED: &str =
-    "1 take k!\n1 enter Pass_w\n0 wait k?\n1 call Pass_w (2) ok (2)\n1 exit Pass_w ok\n1 drop k\n0 take k?\n0 enter Pass_r\n0 call Pass_r (1) ok (1)\n0 exit Pass_r ok\n0 drop k\n0 end done\n1 end done\n";
+    "2 take k!\n2 enter Pass_w\n0 wait k?\n2 call Pass_w (3) ok (3)\n2 exit Pass_w ok\n2 drop k\n0 take k?\n0 enter Pass_r\n0 call Pass_r (1) ok (1)\n0 exit Pass_r ok\n0 drop k\n0 end done\n1 take k?\n1 enter Pass_r\n1 call Pass_r (2) ok (2)\n1 exit Pass_r ok\n1 drop k\n1 end done\n2 end done\n";
 
 /// The lowest that can go on.
 const LOWEST: &str =
-    "0 take k?\n0 enter Pass_r\n0 call Pass_r (1) ok (1)\n0 exit Pass_r ok\n0 drop k\n0 end done\n1 take k!\n1 enter Pass_w\n1 call Pass_w (2) ok (2)\n1 exit Pass_w ok\n1 drop k\n1 end done\n";
+    "0 take k?\n0 enter Pass_r\n0 call Pass_r (1) ok (1)\n0 exit Pass_r ok\n0 drop k\n0 end done\n1 take k?\n1 enter Pass_r\n1 call Pass_r (2) ok (2)\n1 exit Pass_r ok\n1 drop k\n1 end done\n2 take k!\n2 enter Pass_w\n2 call Pass_w (3) ok (3)\n2 exit Pass_w ok\n2 drop k\n2 end done\n";
 
 /// A core is driven to its end in this order; so is the next one.
 fn assert_order<R: Runtime, Rt: Threads + Wait + Abort + Sync>(
@@ -47,12 +47,12 @@ fn assert_order<R: Runtime, Rt: Threads + Wait + Abort + Sync>(
     requires { R.ready runtime.old }
 {
     let mut cores = Vec::new(alloc);
-    cores.push(core_in(alloc, BOTH, Counter)?)?;
-    cores.push(core_in(alloc, BOTH, Counter)?)?;
+    cores.push(core_in(alloc, THREE, Counter)?)?;
+    cores.push(core_in(alloc, THREE, Counter)?)?;
     let driven = drive_all(rt, alloc, runtime, cores, &OpenGate)?;
     assert_eq!(rt; driven.len(), 2);
     for core in &driven {
-        let printed = printed_in(alloc, BOTH, core)?;
+        let printed = printed_in(alloc, THREE, core)?;
         assert_eq!(rt; printed.as_bytes(), journal.as_bytes());
     }
     Ok(())
@@ -62,7 +62,7 @@ fn assert_order<R: Runtime, Rt: Threads + Wait + Abort + Sync>(
 fn each_runtime_has_its_order(rt: HostRuntime) -> Result<(), Fail> {
     let alloc = rt.alloc();
     let mut numbers = List::new(alloc);
-    for number in [1, 1, 0, 9] {
+    for number in [2, 2, 0, 9] {
         numbers.add(FlowNo(number))?;
     }
     assert_order(&rt, alloc, &mut EventLoop { helpers: 0 }, ROUND)?;
@@ -73,12 +73,12 @@ fn each_runtime_has_its_order(rt: HostRuntime) -> Result<(), Fail> {
 #[test]
 fn a_drained_core_is_whole_and_names_no_flow(rt: HostRuntime) -> Result<(), Fail> {
     let alloc = rt.alloc();
-    let mut core = core_in(alloc, BOTH, Counter)?;
+    let mut core = core_in(alloc, THREE, Counter)?;
     assert_eq!(rt; enabled(&core), Some(FlowNo(0)));
-    assert!(rt; core.flows() == 2 && !core.at_call(FlowNo(0)));
+    assert!(rt; core.flows() == 3 && !core.at_call(FlowNo(0)));
     drain(&mut core)?;
     assert_eq!(rt; enabled(&core), None);
-    let printed = printed_in(alloc, BOTH, &core)?;
+    let printed = printed_in(alloc, THREE, &core)?;
     assert_eq!(rt; printed.as_bytes(), LOWEST.as_bytes());
     Ok(())
 }
@@ -107,7 +107,7 @@ fn a_runtime_that_memory_failed_goes_on(rt: HostRuntime) -> Result<(), Fail> {
 #[test]
 fn two_workers_end_all_flows(rt: HostRuntime) -> Result<(), Fail> {
     let alloc = rt.alloc();
-    let core = core_in(alloc, BOTH, Counter)?;
+    let core = core_in(alloc, THREE, Counter)?;
     let core = work_together(&rt, &Drainer, &Drainer, core, &OpenGate);
     assert_eq!(rt; core.live(), 0);
     Ok(())

@@ -3,11 +3,11 @@
 use flow_core::{CallDone, Core, Job};
 use flux_library::Library;
 use nodes_counter::Counter;
-use std::marker::Send;
+use std::marker::{Send, Sync};
 
 fn is_sent<T: Send>() {}
 
-fn are_sent<L: Library>() {
+fn are_sent<L: Library + Send + Sync>() {
     is_sent::<Core<L>>();
     is_sent::<Job<L>>();
     is_sent::<CallDone<L>>();

@@ -8,4 +8,4 @@ use Rattle.flow_trials.proofs.building.items_of.Given as goal
 abbrev pub invariant-loop-one : goal.invariant-loop-one
 invariant-loop-one l =
     AllByRecursion (IsItemFor l.checked.program (kinds_at l.checked.sigs.nodes)) l.items ×
-        (length l.items ≡ l.one-index)
+    (length l.items ≡ l.one-index)

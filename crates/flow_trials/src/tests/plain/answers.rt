@@ -2,8 +2,8 @@
 
 use super::Plain;
 use super::keys::key_of;
-use flux_model::{Body, FlowNo, Node};
 use flow_model::{CallMade, Entry, Event, Key};
+use flux_model::{Body, FlowNo, Node};
 use flux_values::{Answer, CallResult, Memory, Put, Value};
 use std::alloc::Global;
 use std::process::Abort;

@@ -2,8 +2,8 @@
 //! and each flow lets all go before its end.
 
 use super::Plain;
-use flux_model::{ClassNo, FlowNo, Mode, NodeNo};
 use flow_model::{Entry, Event, Key};
+use flux_model::{ClassNo, FlowNo, Mode, NodeNo};
 use flux_values::Memory;
 use std::alloc::Global;
 use std::process::Abort;

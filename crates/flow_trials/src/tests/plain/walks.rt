@@ -2,8 +2,8 @@
 
 use super::Plain;
 use super::keys::key_of;
-use flux_model::{Body, Case, FlowNo, HandleArm, Hold, NodeNo};
 use flow_model::{Entry, Event, Outcome};
+use flux_model::{Body, Case, FlowNo, HandleArm, Hold, NodeNo};
 use flux_values::{CallResult, Memory, Value};
 use std::alloc::Global;
 use std::process::Abort;

@@ -10,4 +10,4 @@ pub returns : goal.returns
 returns g c =
     subst (HaveStood c.wait.new.self) (sym c.in_ok-push.ensures.items)
     (stood_wait c.args.table.now c.wait.new.self c.args.stood.now.items c.args.step.0 c.args.step.1 c.args.step.2
-        c.requires c.in_ok-wait.ensures.ok)
+    c.requires c.in_ok-wait.ensures.ok)

@@ -17,7 +17,7 @@ returns-in-Got g c = on_ok_weaker c.must_take.result (subst (HaveStood c.must_ta
 pub returns-in-Busy : goal.returns-in-Busy
 returns-in-Busy g c =
     on_ok_weaker c.must_take-in-Busy.result (subst (HaveStood c.must_take-in-Busy.new.table)
-        c.deref-in-Busy.ensures.value) c.must_take-in-Busy.ensures
+    c.deref-in-Busy.ensures.value) c.must_take-in-Busy.ensures
 
 pub returns-in-Release : goal.returns-in-Release
 returns-in-Release g c = λ key waiter is. c.requires key waiter
