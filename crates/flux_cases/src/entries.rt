@@ -1,0 +1,80 @@
+//! What the lines of a case file say.
+
+use crate::bodies::Documents;
+use flux_outside::FileBytes;
+use flux_values::{Bytes, List};
+
+/// The stream that is printed on, or the one for lines about what went wrong.
+#[derive(Clone, Copy, PartialEq, Eq)]
+pub enum Stream {
+    Out,
+    Err,
+}
+
+/// What has calls that may fail.
+#[derive(Clone, Copy, PartialEq, Eq)]
+pub enum Part {
+    Store,
+    Folder,
+    Stream(Stream),
+}
+
+/// What a stream has to gain: all of a text, or a front of it.
+#[derive(Drop)]
+pub struct Gain {
+    pub front: bool,
+    pub text: Bytes,
+}
+
+impl Gain {
+    pub fn is_met(&self, got: &[u8]) -> bool {
+        let text = self.text.as_bytes();
+        got == text || self.front && text.starts_with(got)
+    }
+}
+
+#[derive(Drop)]
+pub enum Entry {
+    /// What follows up to the first case holds for each case up to the next such line.
+    Shared,
+    /// A case begins, by its name.
+    Case(String),
+    /// A text by its name.
+    Text(FileBytes),
+    /// The line is none of a case file.
+    Faulty,
+    Words(List<Bytes>),
+    File(FileBytes),
+    Folder(Bytes),
+    Documents(Documents),
+    Fail(Part, List<u64>),
+    Room(Stream, usize),
+    Piece(Stream, usize),
+    Gain(Stream, Gain),
+    Status(usize),
+    /// The files that are asked for, in order.
+    Asked(List<Bytes>),
+    /// The folders that are asked for, in order.
+    Opened(List<Bytes>),
+}
+
+/// An entry, and the number of the line that it begins with.
+#[derive(Drop)]
+pub struct Line {
+    pub number: usize,
+    pub entry: Entry,
+}
+
+impl Entry {
+    pub fn is_shared(&self) -> bool {
+        matches!(self, Entry::Shared)
+    }
+
+    pub fn is_case(&self) -> bool {
+        matches!(self, Entry::Case(_))
+    }
+
+    pub fn is_gain(&self, of: Stream) -> bool {
+        matches!(self, Entry::Gain(stream, _) if *stream == of)
+    }
+}

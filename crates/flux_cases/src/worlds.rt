@@ -1,0 +1,72 @@
+//! The world in memory that a case speaks of.
+
+ghost use Rattle.std.specs.Prelude.{◌<◌};
+
+use crate::cases::{Case, Shape};
+use crate::entries::{Entry, Part, Stream};
+use crate::watched::{Names, WatchedFolder, WatchedStore};
+use flux_driver::World;
+use flux_outside::{FileBytes, MemoryFolder, MemorySink, MemoryStore};
+use flux_values::{Bytes, List, Memory};
+use std::alloc::Global;
+
+/// Files and a folder in memory, which are watched, and two streams in memory.
+pub type Memories = World<WatchedStore, WatchedFolder, MemorySink, MemorySink>;
+
+/// How many bytes a stream has room for, and takes a call, where a case says nothing of it.
+const ROOM: usize = 16_777_216;
+
+fn store(alloc: Global, case: &Case) -> Result<WatchedStore, Memory> {
+    let mut files = List::new(alloc);
+    for line in case.own.iter().chain(case.shared) {
+        if let Entry::File(file) = &line.entry {
+            files.add(FileBytes {
+                name: Bytes::copy(alloc, file.name.as_bytes())?,
+                body: Bytes::copy(alloc, file.body.as_bytes())?,
+            })?;
+        }
+    }
+    Ok(WatchedStore {
+        store: MemoryStore::new(files, case.fails(alloc, Part::Store)?),
+        names: Names::new(alloc),
+    })
+}
+
+fn folder(alloc: Global, case: &Case) -> Result<WatchedFolder, Memory> {
+    let mut docs = List::new(alloc);
+    for line in case.own.iter().chain(case.shared) {
+        if let Entry::Documents(documents) = &line.entry {
+            documents.add_to(alloc, &mut docs)?;
+        }
+    }
+    // A folder without a name is asked for by no words.
+    let dir = Bytes::copy(alloc, case.folder.unwrap_or(b""))?;
+    Ok(WatchedFolder {
+        folder: MemoryFolder::new(dir, docs, case.fails(alloc, Part::Folder)?),
+        names: Names::new(alloc),
+    })
+}
+
+fn sink(alloc: Global, shape: Shape, fails: List<u64>) -> Result<MemorySink, Memory> {
+    let room = shape.room.unwrap_or(ROOM);
+    let piece = shape.piece.unwrap_or(ROOM).max(1);
+    MemorySink::new(alloc, room, piece, fails)
+}
+
+/// The world that a case's command line meets.
+pub fn world_of(alloc: Global, case: &Case) -> Result<Memories, Memory> {
+    Ok(World {
+        store: store(alloc, case)?,
+        folder: folder(alloc, case)?,
+        out: sink(
+            alloc,
+            case.out,
+            case.fails(alloc, Part::Stream(Stream::Out))?,
+        )?,
+        err: sink(
+            alloc,
+            case.err,
+            case.fails(alloc, Part::Stream(Stream::Err))?,
+        )?,
+    })
+}
