@@ -21,9 +21,10 @@ pub enum Chosen {
 }
 
 impl Chosen {
-    /// The runtime that the words name.
+    /// The runtime that the words name, ready to drive.
     pub fn by(words: flux_words::Runtime) -> Chosen
-        ensures { result ≡ chosen_by words }
+        ensures chosen { result ≡ chosen_by words }
+        ensures ready { IsReady result }
     {
         match words {
             flux_words::Runtime::Event => Chosen::Event(EventLoop { helpers: 0 }),
