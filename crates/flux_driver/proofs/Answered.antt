@@ -10,6 +10,7 @@ use Rattle.flux_driver.specs.Worlds.{Told, Stream, Wrote, WroteOrBroke}
 use Rattle.flux_driver.specs.Causes.{write_line}
 use Rattle.flux_driver.specs.Answers.{Libraries, IsAnswer, OrMemory}
 use Rattle.flux_driver.specs.Documents.{WithDocs}
+use Rattle.flux_driver.specs.Commands.{folder_of}
 use Rattle.flux_driver.specs.Top.{AreFiles, IsStopped, AsksFor, HasAsked, HasAnswered, RoseForReading, Decides, IsComplete, HasDone}
 use Rattle.flux_driver.specs.steps.Refusals.{status_of, line_of}
 use Rattle.flux_driver.specs.steps.Preparing.{AsksAll, IsRefusedAll, AreSteady, CountsBothRefusal, AnswersDue, AnswersWords, PrintsWords}
@@ -82,7 +83,7 @@ module _ (library : Libraries) (words : List (List ℕ)) (told : Told) where
 
 -- ---- what was asked for, at another status
 
-asked_then : (library : Libraries) (words : List (List ℕ)) (told : Told) (status final : Status) (folder folder_after store store_after : List (List ℕ)) → (IsStopped status → IsStopped final) → (status ≡ statuses.Memory → final ≡ statuses.Memory)
+asked_then : (library : Libraries) (words : List (List ℕ)) (told : Told) (status final : Status) (folder folder_after store store_after : List (List ℕ)) → ((dir : Option (List ℕ)) → IsStopped dir status → IsStopped dir final) → (status ≡ statuses.Memory → final ≡ statuses.Memory)
     → HasAsked library words told status folder folder_after store store_after → HasAsked library words told final folder folder_after store store_after
 asked_then library words told status final folder folder_after store store_after stops short asked = record {
   dirs = asked.dirs;
@@ -96,10 +97,10 @@ asked_then library words told status final folder folder_after store store_after
     why (inl none) = inl none
     why (inr e) = inr (short e)
 
-    two : (command : Command) → WithDocs library command told (λ meaning. AreFiles meaning command told.files asked.names) ⊎ ((asked.names ≡ []) × IsStopped status)
-        → WithDocs library command told (λ meaning. AreFiles meaning command told.files asked.names) ⊎ ((asked.names ≡ []) × IsStopped final)
+    two : (command : Command) → WithDocs library command told (λ meaning. AreFiles meaning command told.files asked.names) ⊎ ((asked.names ≡ []) × IsStopped (folder_of command) status)
+        → WithDocs library command told (λ meaning. AreFiles meaning command told.files asked.names) ⊎ ((asked.names ≡ []) × IsStopped (folder_of command) final)
     two command (inl with_) = inl with_
-    two command (inr (none, stopped)) = inr (none, stops stopped)
+    two command (inr (none, stopped)) = inr (none, stops (folder_of command) stopped)
 
     one : ((asked.dirs ≡ []) × (asked.names ≡ []) × (SpellsNone words ⊎ (status ≡ statuses.Memory))) ⊎ ((command : Command) × Spells words command × AsksFor library command told status asked.dirs asked.names)
         → ((asked.dirs ≡ []) × (asked.names ≡ []) × (SpellsNone words ⊎ (final ≡ statuses.Memory))) ⊎ ((command : Command) × Spells words command × AsksFor library command told final asked.dirs asked.names)
@@ -121,7 +122,7 @@ module _ (library : Libraries) (words : List (List ℕ)) (told after : Told) (fo
 
   module _ (text : List ℕ) (asked : Asked statuses.Done) (prints : PrintsWords library words told text) (same : AreSteady s t f g) (due : AnswersWords library words told statuses.Done) where
     asked_put : (status : Status) → Asked status
-    asked_put status = asked_then library words told statuses.Done status folder folder_after store store_after (λ stopped. absurd stopped) (λ e. absurd cc) asked
+    asked_put status = asked_then library words told statuses.Done status folder folder_after store store_after (λ dir stopped. absurd stopped) (λ e. absurd cc) asked
 
     complete_put : (status : Status) → (status ≡ statuses.Done) ⊎ (status ≡ statuses.Write) → IsComplete library words told status
     complete_put status own command spelled tells other u m d = decide (due command spelled tells other u m d) own
@@ -171,7 +172,7 @@ module _ (library : Libraries) (words : List (List ℕ)) (told after : Told) (fo
   module _ (refusal : Refusal) (asked : Asked (status_of refusal)) (answers : IsAnswer library words told (status_of refusal) [] (line_of refusal)) (counts : CountsBothRefusal refusal s t f g) (due : AnswersWords library words told (status_of refusal)) where
     asked_told : (status : Status) → (status ≡ status_of refusal) ⊎ (status ≡ statuses.Memory) → Asked status
     asked_told status (inl e) = subst Asked (sym e) asked
-    asked_told status (inr e) = subst Asked (sym e) (asked_then library words told (status_of refusal) statuses.Memory folder folder_after store store_after (λ stopped. tt) (λ h. refl) asked)
+    asked_told status (inr e) = subst Asked (sym e) (asked_then library words told (status_of refusal) statuses.Memory folder folder_after store store_after (λ dir stopped. tt) (λ h. refl) asked)
 
     complete_told : (status : Status) → (status ≡ status_of refusal) ⊎ (status ≡ statuses.Memory) → IsComplete library words told status
     complete_told status own command spelled tells other u m d = decide (due command spelled tells other u m d) own

@@ -47,7 +47,7 @@ asks_with library command told status docs folder folder_after store store_after
 }
 
 pub asks_stopped : (library : Libraries) (command : Command) (told : Told) (status : Status) (folder folder_after store : List (List ℕ))
-    → folder_after ≡ folder ++ option_to_list (folder_of command) → IsStopped status → AsksAll library command told status folder folder_after store store
+    → folder_after ≡ folder ++ option_to_list (folder_of command) → IsStopped (folder_of command) status → AsksAll library command told status folder folder_after store store
 asks_stopped library command told status folder folder_after store first stopped = record {
   dirs = option_to_list (folder_of command);
   names = [];
@@ -57,7 +57,7 @@ asks_stopped library command told status folder folder_after store first stopped
 }
 
 -- documents that weren't read stop a command
-pub unread_stops : (folders : Folders) (dir : Option (List ℕ)) (refusal : Refusal) → AreUnread folders dir refusal → IsStopped (status_of refusal)
+pub unread_stops : (folders : Folders) (dir : Option (List ℕ)) (refusal : Refusal) → AreUnread folders dir refusal → IsStopped dir (status_of refusal)
 unread_stops folders None refusal unread = absurd unread
 unread_stops folders (Some dir) (refusals.Missing name) unread = tt
 unread_stops folders (Some dir) refusals.Read unread = tt
@@ -90,7 +90,7 @@ module _ (library : Libraries) (command : Command) (told : Told) where
   reads_program (run file items manner) unread = (file, refl)
   reads_program help unread = absurd unread
 
-  none_unread : (dir : Option (List ℕ)) (refusal : Refusal) → (IsStopped (status_of refusal) → ⊥) → AreUnread told.folders dir refusal → ⊥
+  none_unread : (dir : Option (List ℕ)) (refusal : Refusal) → (IsStopped dir (status_of refusal) → ⊥) → AreUnread told.folders dir refusal → ⊥
   none_unread dir refusal never unread = never (unread_stops told.folders dir refusal unread)
 
   pub refused_unread : (refusal : Refusal) → AreUnread told.folders (folder_of command) refusal → IsRefusedAll library command told refusal

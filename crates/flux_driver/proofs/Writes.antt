@@ -1,5 +1,5 @@
 -- Bytes written piece by piece.
-use Rattle.std.proofs.Common.{◌≡◌, ℕ, ◌⊎◌, List, [], ◌++◌, length, take, drop, Option, Some, None, refl, sym, ap, ◌∙◌, append_assoc, Result, Ok, Err, inl, inr}
+use Rattle.std.proofs.Common.{◌≡◌, ◌≢◌, ℕ, ◌⊎◌, List, [], ◌++◌, length, take, drop, Option, Some, None, refl, sym, ap, ◌∙◌, append_assoc, Result, Ok, Err, inl, inr}
 use Rattle.std.specs.Prelude.{OnOk, OnErr}
 use Rattle.std.specs.Option.{option_map}
 use Rattle.std.proofs.lemmas.List.{append-nil, take-append-drop, nil_from_length}
@@ -46,11 +46,12 @@ so_far_all before after bytes rest s none =
     rw all s.wrote
 
 -- the next write failed
-pub so_far_broke : (before mid after : Stream) (bytes rest : List ℕ) → SoFar before mid bytes rest → Gains mid after [] → Rose mid.faults after.faults → Broke before after bytes
-so_far_broke before mid after bytes rest s none rose = let wrote = s.wrote in record {
+pub so_far_broke : (before mid after : Stream) (bytes rest : List ℕ) → SoFar before mid bytes rest → rest ≢ [] → Gains mid after [] → Rose mid.faults after.faults → Broke before after bytes
+so_far_broke before mid after bytes rest s left none rose = let wrote = s.wrote in record {
   front = s.done;
   rest = rest;
   is = s.split;
+  left = left;
   gains = gains_twice before mid after s.done [] wrote.gains none ∙ ap (λ (l : List ℕ). option_map (λ (w : List ℕ). w ++ l) before.written) (append-nil s.done);
   rose = rw (sym wrote.steady) rose;
 }

@@ -1,5 +1,5 @@
 -- What a call of the program has done, by what is seen of the world before and after.
-use Rattle.std.specs.Prelude.{◌≡◌, ◌≢◌, ◌≤◌, ℕ, ◌⊎◌, List, [], ◌∷◌, ◌++◌, option_to_list, ⊤}
+use Rattle.std.specs.Prelude.{◌≡◌, ◌≢◌, ◌≤◌, ℕ, ◌⊎◌, List, [], ◌∷◌, ◌++◌, Option, IsSome, option_to_list, ⊤}
 use Rattle.flux_values.specs.Meanings.{LibraryMeaning}
 use Rattle.flux_outside.specs.Causes.{Rose}
 use Rattle.flux_syntax.specs.declared.declarations.Decl.{Decl}
@@ -24,12 +24,12 @@ AreFiles meaning (run file items manner) told names = (names ≡ file ∷ [])
     ⊎ ((names ≡ file ∷ items ∷ []) × (decls : List Decl) × HasProgram meaning told file decls)
 AreFiles meaning help told names = names ≡ []
 
--- the statuses that come where the documents weren't read
-abbrev pub IsStopped : Status → Type 0
-IsStopped statuses.Read = ⊤
-IsStopped statuses.Missing = ⊤
-IsStopped statuses.Memory = ⊤
-IsStopped other = ⊥
+-- the statuses that come where the documents weren't read; where no folder is named, memory was short
+abbrev pub IsStopped : Option (List ℕ) → Status → Type 0
+IsStopped dir statuses.Read = IsSome dir
+IsStopped dir statuses.Missing = IsSome dir
+IsStopped dir statuses.Memory = ⊤
+IsStopped dir other = ⊥
 
 -- a command asks first for its folder of documents, where one is named, and for files only behind the
 -- documents
@@ -37,7 +37,7 @@ pub record AsksFor (library : Libraries) (command : Command) (told : Told) (stat
     (dirs names : List (List ℕ)) : Type 0 where
   pub folder : dirs ≡ option_to_list (folder_of command)
   pub files : WithDocs library command told (λ meaning. AreFiles meaning command told.files names)
-      ⊎ ((names ≡ []) × IsStopped status)
+      ⊎ ((names ≡ []) × IsStopped (folder_of command) status)
 
 -- words that are no command ask for nothing, nor do those that there was no memory to read
 abbrev pub AsksNothing : List (List ℕ) → Status → List (List ℕ) → List (List ℕ) → Type 0

@@ -1,5 +1,5 @@
 -- What is seen of the outside world: before a call of the program, and after it.
-use Rattle.std.specs.Prelude.{◌≡◌, ℕ, ◌⊎◌, List, ◌++◌, Option, IfSome}
+use Rattle.std.specs.Prelude.{◌≡◌, ◌≢◌, ℕ, ◌⊎◌, List, [], ◌++◌, Option, IfSome}
 use Rattle.std.specs.Option.{option_map}
 use Rattle.flux_outside.specs.Causes.{Rose}
 use Rattle.flux_outside.specs.Stores.{file_of, FitsIn}
@@ -60,11 +60,12 @@ pub record Wrote (before after : Stream) (bytes : List ℕ) : Type 0 where
   pub gains : Gains before after bytes
   pub steady : after.faults ≡ before.faults
 
--- a stream has gained a front of the bytes, and failed
+-- a stream has gained a front of the bytes but not all, and failed
 pub record Broke (before after : Stream) (bytes : List ℕ) : Type 0 where
   pub front : List ℕ
   pub rest : List ℕ
   pub is : bytes ≡ front ++ rest
+  pub left : rest ≢ []
   pub gains : Gains before after front
   pub rose : Rose before.faults after.faults
 

@@ -20,5 +20,5 @@ mod writing;
 
 pub use flow_core::{Gate, OpenGate};
 pub use flux_words::needs_threads;
-pub use outermost::{World, top, top_alone};
+pub use outermost::{World, answer, top, top_alone};
 pub use statuses::Status;

@@ -1,7 +1,9 @@
 //! All that the program does, as one call.
 
+ghost use Rattle.std.specs.Prelude.{◌≡◌, IfOk, IsErr};
 ghost use Rattle.flux_words.specs.Commands.{Command, Spells, NeedsThreads};
 ghost use Rattle.flux_driver.specs.BuiltIn.{built_in};
+ghost use Rattle.flux_driver.specs.Worlds.{Seen};
 ghost use Rattle.flux_driver.specs.Top.{HasDone};
 
 use crate::asking::prepare_words;
@@ -9,7 +11,7 @@ use crate::statuses::Status;
 use crate::telling::{print, refuse};
 use flux_outside::{Folder, Sink, Store};
 use flow_core::Gate;
-use flux_values::Bytes;
+use flux_values::{Bytes, List, Memory};
 use flux_words::needs_threads;
 use std::alloc::Global;
 use std::marker::Sync;
@@ -109,4 +111,44 @@ pub fn top<S: Store, F: Folder, O: Sink, E: Sink, G: Gate, Rt: Threads + Wait + 
         unreachable!()
     }
     top_alone(alloc, words, world, gate)
+}
+
+/// Does what the words say in the world, and answers how it ended: that there was no memory where there was none for the
+/// words or for the world.
+pub fn answer<
+    S: Store + Drop,
+    F: Folder + Drop,
+    O: Sink + Drop,
+    E: Sink + Drop,
+    G: Gate,
+    Rt: Threads + Wait + Sync,
+>(
+    rt: &Rt,
+    alloc: Global,
+    words: Result<List<Bytes>, Memory>,
+    world: Result<World<S, F, O, E>, Memory>,
+    gate: &G,
+) -> Status
+    ensures words { IsErr words → result ≡ Status.Memory }
+    ensures world { IsErr world → result ≡ Status.Memory }
+    ensures done { IfOk words (λ given. IfOk world (λ before. (after : Seen) × HasDone built_in given
+        (record {
+          told = record {
+            files = S.files before.store;
+            folders = F.folders before.folder;
+          };
+          store = record { asked = S.asked before.store; faults = S.faults before.store };
+          folder = record { asked = F.asked before.folder; faults = F.faults before.folder };
+          out = record { written = O.written before.out; faults = O.faults before.out };
+          err = record { written = E.written before.err; faults = E.faults before.err };
+        })
+        result after)) }
+{
+    let Ok(words) = words else {
+        return Status::Memory;
+    };
+    let Ok(mut world) = world else {
+        return Status::Memory;
+    };
+    top(rt, alloc, words.as_slice(), &mut world, gate)
 }

@@ -1,22 +1,17 @@
 //! The program `flux`: the real files, folders and streams, the words of the command line, and one call of `top`.
 #![tactic(auto)]
 
-ghost use Rattle.std.specs.Prelude.{◌≡◌, ◌≢◌, [], drop, map, string_bytes, IfOk, IfErr, IsErr};
+ghost use Rattle.std.specs.Prelude.{◌≡◌, ◌≢◌, [], drop, map, string_bytes, IfOk, IfErr, IsErr, Ok};
 ghost use Rattle.std.specs.IoError.{error_kind};
 ghost use Rattle.std.specs.Process.{exit_status};
 ghost use Rattle.flux_driver.specs.Statuses.{code_of};
-ghost use Rattle.flux_driver.specs.BuiltIn.{built_in};
-ghost use Rattle.flux_driver.specs.Top.{HasDone};
 
-use flux_driver::{Gate, OpenGate, Status, World, top};
-use flux_outside::{Folder, RealFolder, RealSink, RealStore, Sink, Store};
+use flux_driver::{OpenGate, Status, World, answer};
+use flux_outside::{RealFolder, RealSink, RealStore};
 use flux_values::{Bytes, List, Memory};
 use std::alloc::Global;
 use std::io::{ErrorKind, Stderr, Stdout};
-use std::marker::Sync;
 use std::process::ExitCode;
-use std::sync::Wait;
-use std::thread::Threads;
 use std::{env, io};
 
 /// The files, the folders and the two streams of the system, which differ in type.
@@ -56,55 +51,16 @@ fn words_of(alloc: Global, arguments: &[String]) -> Result<List<Bytes>, Memory>
     Ok(words)
 }
 
-/// The words; where one is no UTF-8 there are none, which is no command.
+/// The words; none where one isn't UTF-8, and that is no command.
 fn read_words(alloc: Global, arguments: &io::Result<Vec<String>>) -> Result<List<Bytes>, Memory>
     ensures words { IfOk arguments.now (λ all. IfOk result (λ words. words ≡ map string_bytes (drop 1 all.items))) }
     ensures memory { IfErr arguments.now (λ e. error_kind e ≡ ErrorKind.OutOfMemory → IsErr result) }
-    ensures unreadable { IfErr arguments.now (λ e. error_kind e ≢ ErrorKind.OutOfMemory → IfOk result (λ words. words ≡ [])) }
+    ensures unreadable { IfErr arguments.now (λ e. error_kind e ≢ ErrorKind.OutOfMemory → result ≡ Ok []) }
 {
     match arguments {
         Ok(arguments) => words_of(alloc, arguments.as_slice()),
         Err(e) if e.kind() == ErrorKind::OutOfMemory => Err(Memory),
         Err(_) => Ok(List::new(alloc)),
-    }
-}
-
-/// Does what the words say; where there was no memory for them, nothing.
-fn answer<S: Store, F: Folder, O: Sink, E: Sink, G: Gate, Rt: Threads + Wait + Sync>(
-    rt: &Rt,
-    alloc: Global,
-    words: Result<List<Bytes>, Memory>,
-    world: &mut World<S, F, O, E>,
-    gate: &G,
-) -> Status
-    ensures words { IfOk words (λ given. HasDone built_in given
-        (record {
-          told = record {
-            files = S.files world.old.store;
-            folders = F.folders world.old.folder;
-          };
-          store = record { asked = S.asked world.old.store; faults = S.faults world.old.store };
-          folder = record { asked = F.asked world.old.folder; faults = F.faults world.old.folder };
-          out = record { written = O.written world.old.out; faults = O.faults world.old.out };
-          err = record { written = E.written world.old.err; faults = E.faults world.old.err };
-        })
-        result
-        (record {
-          told = record {
-            files = S.files world.new.store;
-            folders = F.folders world.new.folder;
-          };
-          store = record { asked = S.asked world.new.store; faults = S.faults world.new.store };
-          folder = record { asked = F.asked world.new.folder; faults = F.faults world.new.folder };
-          out = record { written = O.written world.new.out; faults = O.faults world.new.out };
-          err = record { written = E.written world.new.err; faults = E.faults world.new.err };
-        })) }
-    ensures memory { IsErr words → result ≡ Status.Memory }
-    ensures nothing { IsErr words → world.new ≡ world.old }
-{
-    match words {
-        Ok(words) => top(rt, alloc, words.as_slice(), world, gate),
-        Err(Memory) => Status::Memory,
     }
 }
 
@@ -115,9 +71,6 @@ fn exit_code(status: Status) -> ExitCode
 }
 
 fn main(rt: HostRuntime) -> ExitCode {
-    let Ok(mut world) = outside(&rt) else {
-        return exit_code(Status::Memory);
-    };
     let words = read_words(rt.alloc(), &arguments(&rt));
-    exit_code(answer(&rt, rt.alloc(), words, &mut world, &OpenGate))
+    exit_code(answer(&rt, rt.alloc(), words, outside(&rt), &OpenGate))
 }

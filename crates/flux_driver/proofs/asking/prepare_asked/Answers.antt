@@ -20,7 +20,7 @@ returns-in_err-docs-clause-asked g c =
     let unread = rw c.dir_of.ensures at c.in_err-docs.ensures.unread in
     let first = rw c.dir_of.ensures at c.in_err-docs.ensures.asked in
     asks_stopped built_in (asked c.args.wanted) told (prepared_status c.from_residual.result) _ _ _ first
-    (passed_status IsStopped c.in_err-docs.field-0.0 c.from_residual.result c.from_residual.ensures.1 (unread_stops (g.F.Folder.folders c.args.folder.now) (folder_of (asked c.args.wanted)) c.in_err-docs.field-0.0 unread))
+    (passed_status (IsStopped (folder_of (asked c.args.wanted))) c.in_err-docs.field-0.0 c.from_residual.result c.from_residual.ensures.1 (unread_stops (g.F.Folder.folders c.args.folder.now) (folder_of (asked c.args.wanted)) c.in_err-docs.field-0.0 unread))
 
 pub returns-in_err-docs-clause-refused : goal.returns-in_err-docs-clause-refused
 returns-in_err-docs-clause-refused g c =
@@ -41,7 +41,7 @@ returns-in_err-library-clause-asked g c =
     let told : Told = record { files = g.S.Store.files c.args.store.now; folders = g.F.Folder.folders c.args.folder.now } in
     let first = rw c.dir_of.ensures at c.in_ok-docs.ensures.asked in
     asks_stopped built_in (asked c.args.wanted) told (prepared_status c.from_residual-in_err-library.result) _ _ _ first
-    (passed_status IsStopped refusals.Memory c.from_residual-in_err-library.result c.from_residual-in_err-library.ensures.1 tt)
+    (passed_status (IsStopped (folder_of (asked c.args.wanted))) refusals.Memory c.from_residual-in_err-library.result c.from_residual-in_err-library.ensures.1 tt)
 
 -- ---- behind the documents
 

@@ -50,12 +50,12 @@ returns-in_err-items_text-clause-firm g c =
 -- ---- the items are run
 
 pub run_text-requires-clause-sound : goal.run_text-requires-clause-sound
-run_text-requires-clause-sound g c κs within =
+run_text-requires-clause-sound g c =
     let checked = rw c.deref.ensures at (rw c.as_bytes.ensures at c.in_ok-checked.ensures.checked) in
     for_library (g.L.Meaning.meaning (arc_value c.args.library)) c.in_ok-text.text c.in_ok-checked.checked.program c.in_ok-checked.checked.sigs.nodes c.in_ok-checked.checked.order.nodes c.in_ok-checked.checked.sets.nodes c.in_ok-checked.checked.sizes checked
 
 pub run_text-requires-clause-sources : goal.run_text-requires-clause-sources
-run_text-requires-clause-sources g c κs within =
+run_text-requires-clause-sources g c =
     let checked = rw c.deref.ensures at (rw c.as_bytes.ensures at c.in_ok-checked.ensures.checked) in
     has_sources (g.L.Meaning.meaning (arc_value c.args.library)) c.in_ok-text.text c.in_ok-checked.checked.program c.in_ok-checked.checked.sigs.nodes c.in_ok-checked.checked.order.nodes c.in_ok-checked.checked.sets.nodes c.in_ok-checked.checked.sizes checked
 

@@ -20,8 +20,8 @@ returns-in_err-items-clause-refused g c =
     let cause = rw c.in_ok-rules.ensures at c.in_err-items.ensures.cause in
     cause_refused rules c.args.text.now c.in_err-items.field-0.0 c.from_residual-in_err-items.result c.from_residual-in_err-items.ensures.1 cause
 
-pub run_items-requires-after_bounds : goal.run_items-requires-after_bounds
-run_items-requires-after_bounds g c κs within =
+pub run_items-requires : goal.run_items-requires
+run_items-requires g c =
     let checked = c.args.checked in
     let cause = rw c.in_ok-rules.ensures at c.in_ok-items.ensures.cause in
     can_run (g.L.Meaning.meaning (arc_value c.args.library)) checked.program (kinds_at checked.sigs.nodes) (held_by checked.sets.nodes) c.in_ok-items.items c.args.text.now c.requires.sound cause
