@@ -59,8 +59,8 @@ asks_stopped library command told status folder folder_after store first stopped
 -- documents that weren't read stop a command
 pub unread_stops : (folders : Folders) (dir : Option (List ℕ)) (refusal : Refusal) → AreUnread folders dir refusal → IsStopped dir (status_of refusal)
 unread_stops folders None refusal unread = absurd unread
-unread_stops folders (Some dir) (refusals.Missing name) unread = tt
-unread_stops folders (Some dir) refusals.Read unread = tt
+unread_stops folders (Some dir) (refusals.Missing name) unread = refl
+unread_stops folders (Some dir) refusals.Read unread = refl
 unread_stops folders (Some dir) refusals.Memory unread = tt
 unread_stops folders (Some dir) refusals.Usage unread = absurd unread
 unread_stops folders (Some dir) (refusals.Static line) unread = absurd unread
