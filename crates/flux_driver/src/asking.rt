@@ -13,9 +13,9 @@ ghost use Rattle.flux_driver.specs.steps.Preparing.{AsksAll, IsRefusedAll, Count
 use crate::commands::prepare;
 use crate::documents::load_docs;
 use crate::refusals::Refusal;
+use flow_core::Gate;
 use flux_library::Docs;
 use flux_outside::{Folder, Store};
-use flow_core::Gate;
 use flux_values::{Bytes, Memory};
 use flux_words::{Asked, read_words};
 use nodes_all::All;

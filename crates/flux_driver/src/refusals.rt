@@ -8,8 +8,8 @@ ghost use Rattle.flux_items.specs.Faults.{line_of as number_of};
 
 use crate::statuses::Status;
 use flux_items::ItemFault;
-use flux_values::{Bytes, Memory};
 use flux_spelling::append_number;
+use flux_values::{Bytes, Memory};
 use std::alloc::Global;
 
 /// Why a command was not carried out.

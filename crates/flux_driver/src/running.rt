@@ -18,7 +18,8 @@ ghost use Rattle.flux_driver.specs.steps.Running.{HasSources, CanRun, IsDriven, 
 
 use crate::refusals::Refusal;
 use crate::rules::rules_for;
-use flow_core::{Core, Setup};
+use flow_core::{Core, Gate, Setup};
+use flow_model::Journal;
 use flux_cells::Cells;
 use flux_compile::compile;
 use flux_hoist::Checked;
@@ -26,8 +27,6 @@ use flux_items::read_items;
 use flux_journal::{print_journal, print_journal_2};
 use flux_library::Library;
 use flux_model::{Item, Program};
-use flow_model::Journal;
-use flow_core::Gate;
 use flux_plan::VerifiedPlan;
 use flux_values::{Bytes, List, Memory};
 use flux_words::{JournalFormat, Runtime};
