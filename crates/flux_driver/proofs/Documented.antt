@@ -24,12 +24,12 @@ use Rattle.flux_driver.proofs.Once.{View, same_view}
 
 -- ---- the documents are one, or lost
 
-docs_once : (folders : Folders) (dir : Option (List ℕ)) (a b : DocMap) → TellsDocs folders dir → AreDocs folders dir a → AreDocs folders dir b → a ≡ b
+pub docs_once : (folders : Folders) (dir : Option (List ℕ)) (a b : DocMap) → TellsDocs folders dir → AreDocs folders dir a → AreDocs folders dir b → a ≡ b
 docs_once folders None a b tells x y = same_docs a b (x ∙ sym y)
 docs_once None (Some dir) a b tells x y = absurd cc
 docs_once (Some held) (Some dir) a b tells x y = one_docs held dir a b x y
 
-not_both : (folders : Folders) (dir : Option (List ℕ)) (docs : DocMap) (name : List ℕ) → TellsDocs folders dir → AreDocs folders dir docs → IsDirLost folders dir name → ⊥
+pub not_both : (folders : Folders) (dir : Option (List ℕ)) (docs : DocMap) (name : List ℕ) → TellsDocs folders dir → AreDocs folders dir docs → IsDirLost folders dir name → ⊥
 not_both folders None docs name tells are lost = lost
 not_both None (Some dir) docs name tells are lost = absurd cc
 not_both (Some held) (Some dir) docs name tells are lost = not_lost held dir docs are lost.1

@@ -10,3 +10,4 @@ pub mod Documented
 pub mod Answered
 pub mod Told
 pub mod Passed
+mod Headline

@@ -42,14 +42,14 @@ decls_is files file a b x y = one_list x.text a b x.declared (subst (Declares b)
 
 module _ (meaning : LibraryMeaning) (files : Held) where
   -- the text that has a fault is the one that stands under the command's name
-  gives_here : (file other text : List ℕ) → other ≡ file → Gives (Some files) other PROGRAM_FILE_LIMIT (Found text) → Gives (Some files) file PROGRAM_FILE_LIMIT (Found text)
+  pub gives_here : (file other text : List ℕ) → other ≡ file → Gives (Some files) other PROGRAM_FILE_LIMIT (Found text) → Gives (Some files) file PROGRAM_FILE_LIMIT (Found text)
   gives_here file other text same gives = subst (λ (name : List ℕ). Gives (Some files) name PROGRAM_FILE_LIMIT (Found text)) same gives
 
   declared_here : (file text : List ℕ) (decls : List Decl) → HasDecls (Some files) file decls → Gives (Some files) file PROGRAM_FILE_LIMIT (Found text) → Declares decls text
   declared_here file text decls h gives = subst (Declares decls) (text_is files file PROGRAM_FILE_LIMIT h.text text h.gives gives) h.declared
 
   -- a sound program has no fault
-  not_faulty : (file text : List ℕ) (fault : StaticFault) (decls : List Decl) → HasProgram meaning (Some files) file decls → Gives (Some files) file PROGRAM_FILE_LIMIT (Found text) → IsTextFault meaning text fault → ⊥
+  pub not_faulty : (file text : List ℕ) (fault : StaticFault) (decls : List Decl) → HasProgram meaning (Some files) file decls → Gives (Some files) file PROGRAM_FILE_LIMIT (Found text) → IsTextFault meaning text fault → ⊥
   not_faulty file text fault decls h gives stands =
       not_both meaning text fault (record { decls = decls; declared = declared_here file text decls h.has gives; sound = h.sound }) stands
 
@@ -72,7 +72,7 @@ module _ (meaning : LibraryMeaning) (files : Held) where
   file_there : (file name text : List ℕ) → Gives (Some files) file PROGRAM_FILE_LIMIT (Found text) → name ≡ file → IsLost (Some files) name PROGRAM_FILE_LIMIT → ⊥
   file_there file name text gives same lost = not_lost files file PROGRAM_FILE_LIMIT text gives (subst (λ (n : List ℕ). IsLost (Some files) n PROGRAM_FILE_LIMIT) same lost)
 
-  items_there : (file items line : List ℕ) (manner : Manner) → HasItems meaning (Some files) file items → IsMissing meaning (run file items manner) (Some files) line → ⊥
+  pub items_there : (file items line : List ℕ) (manner : Manner) → HasItems meaning (Some files) file items → IsMissing meaning (run file items manner) (Some files) line → ⊥
   items_there file items line manner h m = one m.lost
     where
       one : ((m.name ≡ file) × IsLost (Some files) m.name PROGRAM_FILE_LIMIT) ⊎ AreItemsLost meaning (run file items manner) (Some files) m.name → ⊥

@@ -40,7 +40,7 @@ use Rattle.flux_driver.specs.Worlds.{Files, Gives, IsLost}
 use Rattle.flux_driver.specs.Commands.{ReadsProgram}
 use Rattle.flux_driver.specs.Inputs.{HasProgram, HasItems}
 use Rattle.flux_driver.specs.Items.{rules_of, rules_in, kinds_in}
-use Rattle.flux_driver.specs.Headline.{IsTrueRun, printed_in}
+use Rattle.flux_driver.specs.TrueRuns.{IsTrueRun, printed_in}
 use Rattle.flux_driver.specs.Printed.{IsPrinted}
 use Rattle.flux_driver.specs.Causes.{IsStaticOf}
 use Rattle.flux_driver.specs.steps.Running.{HasSources, IsWritten, AreRefused}

@@ -17,7 +17,7 @@ use Rattle.flux_items.specs.Faults.{IsFaultOf, IsOrMemory}
 use Rattle.flux_laws.specs.Hoisted.{locks_of}
 use Rattle.flux_words.specs.declared.values.Runtime.{Runtime}
 use Rattle.flux_driver.specs.declared.running.Wanted.{Wanted}
-use Rattle.flux_driver.specs.Headline.{setup_of, IsTrueRun, printed_in}
+use Rattle.flux_driver.specs.TrueRuns.{setup_of, IsTrueRun, printed_in}
 use Rattle.flux_driver.specs.Items.{rules_of}
 use Rattle.flux_driver.specs.steps.Running.{CanRun, IsDriven, IsJournalOf, AreRefused}
 use Rattle.flux_driver.specs.declared.refusals.Refusal.{Refusal}

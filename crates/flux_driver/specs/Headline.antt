@@ -1,63 +1,101 @@
--- The headline: what `run` prints is the journal of a run that really follows the program.
-use Rattle.std.specs.Prelude.{◌≡◌, ℕ, List, [], length}
+-- The headline: what `run` has done where the program answered 0, and that it does so where nothing is in the way.
+use Rattle.std.specs.Prelude.{◌≡◌, List, [], ℕ, length}
 use Rattle.flux_values.specs.Meanings.{LibraryMeaning}
-use Rattle.flux_values.specs.Cells.{no_cell}
-use Rattle.flux_model.specs.declared.programs.Program.{Program}
-use Rattle.flow_model.specs.declared.journals.Entry.{Entry}
+use Rattle.flux_library.specs.Documents.{DocMap}
 use Rattle.flux_model.specs.declared.items.Item.{Item}
-use Rattle.flow_model.specs.declared.journals.Journal.{Journal}
 use Rattle.flux_model.specs.Locks.{Holds}
+use Rattle.flow_model.specs.declared.journals.Journal.{Journal}
 use Rattle.flow_model.specs.Setup.{Setup}
 use Rattle.flow_model.specs.Legal.{IsLegal, IsWhole}
-use Rattle.flow_model.specs.Texts.{printed_journal}
-use Rattle.flux_journal.specs.Formats.{printed_journal_2}
+use Rattle.flux_items.specs.declared.rules.ItemFault.{ItemFault}
 use Rattle.flux_items.specs.Items.{AreItemsOf}
+use Rattle.flux_items.specs.Faults.{IsFaultOf}
+use Rattle.flux_outside.specs.Causes.{Rose}
+use Rattle.flux_outside.specs.declared.stores.File.TheVariants.{Found}
+use Rattle.flux_syntax.specs.declared.declarations.Decl.{Decl}
+use Rattle.flux_syntax.specs.Declares.{Declares}
 use Rattle.flux_syntax.specs.ProgramOfText.{program_of}
+use Rattle.flux_check.specs.Judgement.{AreSound}
+use Rattle.flux_words.specs.Commands.{Manner, run, Spells}
 use Rattle.rt_all.specs.Orders.{IsOrderOf}
-use Rattle.flux_words.specs.declared.values.Runtime.{Runtime}
-use Rattle.flux_words.specs.declared.values.JournalFormat.{JournalFormat}
-use Rattle.flux_words.specs.declared.values.JournalFormat.TheVariants.{One, Two}
-use Rattle.flux_driver.specs.Worlds.{Files}
-use Rattle.flux_driver.specs.Inputs.{HasItems}
+use Rattle.flux_driver.specs.declared.files.TheConstants.{PROGRAM_FILE_LIMIT, ITEMS_FILE_LIMIT}
+use Rattle.flux_driver.specs.declared.statuses.Status.{Status}
+use Rattle.flux_driver.specs.declared.statuses.Status.TheVariants as statuses
+use Rattle.flux_driver.specs.Worlds.{Told, Seen, Gives, Gains}
+use Rattle.flux_driver.specs.Documents.{AreDocs, TellsAll}
 use Rattle.flux_driver.specs.Items.{rules_in}
+use Rattle.flux_driver.specs.TrueRuns.{setup_of, printed_in}
+use Rattle.flux_driver.specs.Answers.{Libraries, OrMemory}
+use Rattle.flux_driver.specs.Top.{HasDone}
 
--- a program with its locks, items, a library, and cells that are all empty at the start
-abbrev pub setup_of : Program → Holds → List Item → LibraryMeaning → Setup
-setup_of program locks items meaning = record {
-  program = program;
-  locks = locks;
-  items = items;
-  opening = λ key. no_cell;
-  meaning = meaning;
-}
+-- what a run reads, as the world tells it:
+--   docs, are_docs           the documents of the folder that the words name;
+--   text, in_file            the text of the program's file;
+--   decls, declared, sound   what that text declares, which is sound for the library with these documents;
+--   items_text, in_items     the text of the items' file.
+pub record IsThere (library : Libraries) (told : Told) (file items : List ℕ) (manner : Manner)
+    : Type 0 where
+  pub docs : DocMap
+  pub are_docs : AreDocs told.folders manner.docs docs
+  pub text : List ℕ
+  pub in_file : Gives told.files file PROGRAM_FILE_LIMIT (Found text)
+  pub decls : List Decl
+  pub declared : Declares decls text
+  pub sound : AreSound (library docs) decls
+  pub items_text : List ℕ
+  pub in_items : Gives told.files items ITEMS_FILE_LIMIT (Found items_text)
 
--- The entries are a true run of the items by a runtime:
---   whole           each item's flow is one whole path of its walk, on its own calls' answers;
---   legal.answers   each call has its library node's answer, on the cells as earlier calls left them;
---   legal.excludes  no take and no section overlaps one of another flow in conflict with it;
---   legal.waits     each wait stands where a take is blocked, and nobody overtakes it;
---   legal.free      at no moment do flows wait for each other in a circle;
---   order           the flows went on in the runtime's order.
--- `legal` says too that the locks are the program's.
-pub record IsTrueRun (program : Program) (items : List Item) (meaning : LibraryMeaning)
-    (runtime : Runtime) (entries : List Entry) : Type 0 where
-  pub locks : Holds
-  pub legal : IsLegal (setup_of program locks items meaning) entries
-  pub whole : IsWhole (setup_of program locks items meaning) entries
-  pub order : IsOrderOf runtime (setup_of program locks items meaning) [] entries
-
--- a journal of so many flows in a format
-abbrev pub printed_in : JournalFormat → Program → ℕ → Journal → List ℕ
-printed_in One program flows journal = printed_journal program journal
-printed_in Two program flows journal = printed_journal_2 program flows journal
-
--- the text is the printed journal of a true run: of the items of the one file, through the program of
--- the other, by a runtime and in a format
-pub record IsJournalText (meaning : LibraryMeaning) (told : Files) (file items : List ℕ)
-    (runtime : Runtime) (format : JournalFormat) (text : List ℕ) : Type 0 where
-  pub has : HasItems meaning told file items
+-- what `run` has done:
+--   its, are_items   the items of the items' text;
+--   legal, whole     a journal of their flows through the program of the text, with its locks, empty cells
+--                    and the library, is legal, and each flow in it is one whole path;
+--   order            the flows went on in the order of the runtime that the words name;
+--   printed          `out` has gained this journal's printed text in the format that they name, and no more;
+--   silent           `err` has gained nothing.
+pub record HasRun (library : Libraries) (before after : Seen) (file items : List ℕ) (manner : Manner)
+    : Type 0 where
+  pub there : IsThere library before.told file items manner
   pub its : List Item
-  pub are_items : let own = has.program_ in AreItemsOf (rules_in meaning has.decls own.sound) its has.text
+  pub are_items : let own = there in
+      AreItemsOf (rules_in (library own.docs) own.decls own.sound) its own.items_text
   pub journal : Journal
-  pub true_run : IsTrueRun (program_of has.decls) its meaning runtime journal.entries
-  pub printed : text ≡ printed_in format (program_of has.decls) (length its) journal
+  pub locks : Holds
+  pub legal : let own = there in
+      IsLegal (setup_of (program_of own.decls) locks its (library own.docs)) journal.entries
+  pub whole : let own = there in
+      IsWhole (setup_of (program_of own.decls) locks its (library own.docs)) journal.entries
+  pub order : let own = there in
+      IsOrderOf manner.runtime (setup_of (program_of own.decls) locks its (library own.docs)) []
+      journal.entries
+  pub printed : let own = there in Gains before.out after.out
+      (printed_in manner.journal (program_of own.decls) (length its) journal)
+  pub silent : Gains before.err after.err []
+
+-- where the words spell `run` and the program has answered 0, it has run
+abbrev pub RunsAreTrue : Type 0
+RunsAreTrue = (library : Libraries) (words : List (List ℕ)) (before after : Seen)
+    (file items : List ℕ) (manner : Manner)
+    → Spells words (run file items manner) → HasDone library words before statuses.Done after
+    → HasRun library before after file items manner
+
+-- no count of failures rose, but perhaps that of `err`
+pub record NoneRose (before after : Seen) : Type 0 where
+  pub store : let own = before.store in let later = after.store in Rose own.faults later.faults → ⊥
+  pub folder : let own = before.folder in let later = after.folder in Rose own.faults later.faults → ⊥
+  pub out : let own = before.out in let later = after.out in Rose own.faults later.faults → ⊥
+
+-- no line of the items' text has a fault
+abbrev pub AreFaultless : (library : Libraries) (told : Told) (file items : List ℕ) (manner : Manner)
+    → IsThere library told file items manner → Type 0
+AreFaultless library told file items manner there = (fault : ItemFault)
+    → IsFaultOf (rules_in (library there.docs) there.decls there.sound) fault there.items_text → ⊥
+
+-- where the words spell `run`, all that it reads is told and there, the items' text has no fault, and no
+-- count rose, the program has answered 0, unless memory was short
+abbrev pub RunsAreAnswered : Type 0
+RunsAreAnswered = (library : Libraries) (words : List (List ℕ)) (before after : Seen) (status : Status)
+    (file items : List ℕ) (manner : Manner)
+    → Spells words (run file items manner) → TellsAll before.told (run file items manner)
+    → (there : IsThere library before.told file items manner)
+    → AreFaultless library before.told file items manner there → NoneRose before after
+    → HasDone library words before status after → OrMemory status (status ≡ statuses.Done)

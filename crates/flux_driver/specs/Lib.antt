@@ -5,9 +5,10 @@ pub mod Documents
 pub mod Commands
 pub mod Inputs
 pub mod Items
-pub mod Headline
+pub mod TrueRuns
 pub mod Printed
 pub mod Causes
 pub mod Answers
 pub mod Top
 pub mod BuiltIn
+pub mod Headline

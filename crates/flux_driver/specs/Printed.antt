@@ -11,7 +11,7 @@ use Rattle.flux_hoist.specs.Plans.{printed_plan}
 use Rattle.flux_words.specs.Commands.{Command, check, plan, format, run, help}
 use Rattle.flux_driver.specs.Worlds.{Files}
 use Rattle.flux_driver.specs.Inputs.{HasDecls, HasProgram}
-use Rattle.flux_driver.specs.Headline.{IsJournalText}
+use Rattle.flux_driver.specs.TrueRuns.{IsJournalText}
 
 -- a line for each command that is built
 abbrev pub help_text : List ℕ

@@ -9,6 +9,7 @@ mod asking;
 mod commands;
 mod documents;
 mod files;
+mod laws;
 mod outermost;
 mod refusals;
 mod rules;
@@ -20,5 +21,6 @@ mod writing;
 
 pub use flow_core::{Gate, OpenGate};
 pub use flux_words::needs_threads;
+pub use laws::{runs_are_answered, runs_are_true};
 pub use outermost::{World, answer, top, top_alone};
 pub use statuses::Status;

@@ -12,7 +12,7 @@ ghost use Rattle.flux_items.specs.Items.{AreItemsOf};
 ghost use Rattle.flux_items.specs.Faults.{IsFaultOf};
 ghost use Rattle.flow_core.specs.States.{setup_in, opened};
 ghost use Rattle.flux_driver.specs.declared.refusals.Refusal.TheVariants as refusals;
-ghost use Rattle.flux_driver.specs.Headline.{printed_in};
+ghost use Rattle.flux_driver.specs.TrueRuns.{printed_in};
 ghost use Rattle.flux_driver.specs.Items.{rules_of};
 ghost use Rattle.flux_driver.specs.steps.Running.{HasSources, CanRun, IsDriven, IsJournalOf, IsWritten, AreRefused};
 

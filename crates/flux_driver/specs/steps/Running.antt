@@ -29,7 +29,7 @@ use Rattle.rt_all.specs.Orders.{IsOrderOf}
 use Rattle.flux_driver.specs.declared.refusals.Refusal.{Refusal}
 use Rattle.flux_driver.specs.declared.refusals.Refusal.TheVariants.{Usage, Static, Items, Read, Missing, Memory}
 use Rattle.flux_driver.specs.declared.running.Wanted.{Wanted}
-use Rattle.flux_driver.specs.Headline.{IsTrueRun, printed_in}
+use Rattle.flux_driver.specs.TrueRuns.{IsTrueRun, printed_in}
 
 -- the kinds of what a node gives
 abbrev pub outs_at : List NodeSig → NodeNo → List Kind
