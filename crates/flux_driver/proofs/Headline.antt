@@ -74,19 +74,20 @@ module _ (library : Libraries) (words : List (List ℕ)) (before after : Seen) (
         silent = silent before.err after.err line none err;
       }
 
+  -- why a command ends with status 0
+  abbrev Causes : List ℕ → List ℕ → Command → Type 0
+  Causes text line command = Decided library command before.told statuses.Done text line ⊎ Happened library command before.told statuses.Done text line
+
   -- words that are no command, and want of memory, are other answers
   true_by : (text line : List ℕ) → IsAnswer library words before.told statuses.Done text line
       → Gains before.out after.out text → WroteOrBroke before.err after.err line → HasRun library before after file items manner
   true_by text line (inl usage) out err = absurd (usage.0 (run file items manner) spelled)
-  true_by text line (inr (inl commands)) out err = by_cause (this_run Causes commands.command commands.spelled commands.cause)
+  true_by text line (inr (inl commands)) out err = by_cause (this_run (Causes text line) commands.command commands.spelled commands.cause)
     where
-      abbrev Causes : Command → Type 0
-      Causes command = Decided library command before.told statuses.Done text line ⊎ Happened library command before.told statuses.Done text line
-
-      by_cause : Causes (run file items manner) → HasRun library before after file items manner
+      by_cause : Causes text line (run file items manner) → HasRun library before after file items manner
       by_cause (inl decided) = has_run text line decided out err
       by_cause (inr happened) = absurd happened
-  true_by text line (inr (inr (memory, rest))) out err = absurd cc
+  true_by text line (inr (inr (memory, no_text, no_line))) out err = absurd cc
 
 -- all of the text was written, where the status says so
 gained : (before after : Stream) (text : List ℕ) → Wrote before after text ⊎ ((statuses.Done ≡ statuses.Write) × Broke before after text) → Gains before after text
@@ -97,7 +98,7 @@ pub runs_true : RunsAreTrue
 runs_true library words before after file items manner spelled done =
     let answered = done.answered in
     true_by library words before after file items manner spelled answered.text answered.line answered.cause
-        (gained before.out after.out answered.text answered.out) answered.err
+    (gained before.out after.out answered.text answered.out) answered.err
 
 -- ---- why it answers 0
 
@@ -107,7 +108,7 @@ same_rules : (meaning : LibraryMeaning) (one other : List Decl) (first : AreSoun
 same_rules meaning one other first second same =
     ap (λ (decls : List Decl). rules_of (program_of decls) (kinds_in meaning decls) first.locks) same
     ∙ ap (λ (locks : Holds). rules_of (program_of other) (kinds_in meaning other) locks)
-        (locks_once (program_of other) first.locks second.locks (subst (λ (decls : List Decl). AreLocks (program_of decls) first.locks) same first.are_locks) second.are_locks)
+    (locks_once (program_of other) first.locks second.locks (subst (λ (decls : List Decl). AreLocks (program_of decls) first.locks) same first.are_locks) second.are_locks)
 
 module _ (library : Libraries) (told : Told) (file items : List ℕ) (manner : Manner)
     (tells : TellsAll told (run file items manner)) (there : IsThere library told file items manner) where
@@ -119,13 +120,13 @@ module _ (library : Libraries) (told : Told) (file items : List ℕ) (manner : M
   abbrev meaning : LibraryMeaning
   meaning = library there.docs
 
-  decls_there : HasDecls told.files file there.decls
+  abbrev decls_there : HasDecls told.files file there.decls
   decls_there = record { text = there.text; gives = there.in_file; declared = there.declared }
 
-  program_there : HasProgram meaning told.files file there.decls
+  abbrev program_there : HasProgram meaning told.files file there.decls
   program_there = record { has = decls_there; sound = there.sound }
 
-  items_here : HasItems meaning told.files file items
+  abbrev items_here : HasItems meaning told.files file items
   items_here = record { decls = there.decls; program_ = program_there; text = there.items_text; gives = there.in_items }
 
   not_static : (line : List ℕ) → IsStatic meaning (run file items manner) told.files line → ⊥
@@ -159,7 +160,7 @@ module _ (library : Libraries) (told : Told) (file items : List ℕ) (manner : M
           let text : other.text ≡ has.text = text_is held items ITEMS_FILE_LIMIT other.text has.text other.gives has.gives in
           let rules = same_rules meaning other.decls has.decls others.sound program.sound decls in
           none s.fault (subst (λ (t : List ℕ). IsFaultOf (rules_in meaning has.decls program.sound) s.fault t) text
-              (subst (λ (r : ItemRules). IsFaultOf r s.fault other.text) rules s.stands))
+          (subst (λ (r : ItemRules). IsFaultOf r s.fault other.text) rules s.stands))
 
   done_or_memory : AreFaultless library told file items manner there → (status : Status) (text line : List ℕ)
       → (status ≡ statuses.Read → ⊥) → (status ≡ statuses.Write → ⊥)
@@ -211,6 +212,6 @@ runs_answered library words before after status file items manner spelled tells 
     by text line (inr (inl commands)) =
         done_or_memory library before.told file items manner tells there none status text line not_read not_write
         (this_run library words before after file items manner spelled
-            (λ command. Decided library command before.told status text line ⊎ Happened library command before.told status text line)
-            commands.command commands.spelled commands.cause)
-    by text line (inr (inr (memory, rest))) = inr memory
+        (λ command. Decided library command before.told status text line ⊎ Happened library command before.told status text line)
+        commands.command commands.spelled commands.cause)
+    by text line (inr (inr (memory, no_text, no_line))) = inr memory
