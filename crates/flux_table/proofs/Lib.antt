@@ -4,4 +4,3 @@ pub mod Orderly
 pub mod Sets
 pub mod Blocking
 pub mod Keys
-pub mod Trials

@@ -3,4 +3,3 @@ pub mod Tables
 pub mod Blockers
 pub mod Changes
 pub mod Lines
-pub mod steps
