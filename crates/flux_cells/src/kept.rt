@@ -6,8 +6,8 @@ ghost use Rattle.flux_cells.specs.Kept.{cells_of};
 ghost use Rattle.flux_cells.specs.Applied.{applied};
 
 use crate::touched::{copies_under, put_all, settle};
-use flux_model::Program;
 use flow_model::Key;
+use flux_model::Program;
 use flux_values::{Cell, List, Memory, Put};
 use std::alloc::Global;
 use std::collections::BTreeMap;

@@ -8,8 +8,8 @@ ghost use Rattle.flux_cells.specs.Kept.{NoneIsEmpty, kept_at, cells_of};
 ghost use Rattle.flux_cells.specs.Applied.{class_of};
 ghost use Rattle.flux_cells.specs.steps.Settling.{Touched, overlay, with_put, with_puts, keys_in, AreKept, EmptyOnlyAt};
 
-use flux_model::Program;
 use flow_model::Key;
+use flux_model::Program;
 use flux_values::{Cell, Memory, Put, Value};
 use std::alloc::Global;
 use std::collections::BTreeMap;

@@ -6,8 +6,8 @@ ghost use Rattle.flux_table.specs.Blockers.{Blocks, IsLowestOf, MayTake, MayWait
 ghost use Rattle.flux_table.specs.Changes.{Takes, Waits, Releases, blocker_in, Follows};
 
 use crate::locks::{Lock, Waiter};
-use flux_model::{FlowNo, Mode};
 use flow_model::Key;
+use flux_model::{FlowNo, Mode};
 use flux_values::Memory;
 use std::alloc::Global;
 use std::collections::BTreeMap;
