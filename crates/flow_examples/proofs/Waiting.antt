@@ -3,12 +3,38 @@ use Rattle.std.proofs.Common.{◌≡◌, ◌⊎◌, inl, inr, ℕ, true, ap, dro
 use Rattle.flux_values.specs.declared.answers.Mode.{Mode}
 use Rattle.flux_values.specs.declared.answers.Mode.TheVariants.{Writer}
 use Rattle.flow_model.specs.declared.journals.Entry.{Entry}
+use Rattle.flow_model.specs.declared.journals.Key.{Key}
 use Rattle.flow_model.specs.declared.journals.Event.TheVariants.{Take, Wait}
 use Rattle.flow_model.specs.Exclusion.{holds_against}
 use Rattle.flow_model.specs.Waits.{StandsAt, StandsBefore, WaitsFor, MayPass}
 use Rattle.flow_examples.proofs.Ends.{nothing_past}
 use Rattle.flow_examples.specs.Small.{a, b, crossed, by}
-use Rattle.flow_examples.specs.Waiting.{WaitsForItsOwnTake, WaitsOnlyWhereBlocked, WaitsOnce, IsNotPassedBy, CyclesAreFound, holding_both}
+use Rattle.flow_examples.specs.Waiting.{MayWaitWhereHeld, WaitsForItsOwnTake, WaitsOnlyWhereBlocked, WaitsOnce, IsNotPassedBy, CyclesAreFound, holding_both}
+
+-- the flows of the first two entries
+abbrev first_flow : List Entry → ℕ
+first_flow [] = 0
+first_flow (x ∷ entries) = let flow = x.flow in flow.0
+
+abbrev second_flow : List Entry → ℕ
+second_flow [] = 0
+second_flow (x ∷ entries) = first_flow entries
+
+pub may_wait : MayWaitWhereHeld
+may_wait = record {
+  next = record { rest = _; next = refl };
+  blocker = 0;
+  blocked = record { free = λ holds. holds refl; apart = λ same. omega (arith, same); cause = inl refl };
+  once = λ key mode place last. not_last last.before last.after key mode last.stands;
+  kept = λ between rest other their stands apart none against.
+      absurd (nothing_past between (record { flow = other; event = Take a their }) rest stands);
+}
+  where
+    not_last : (before after : List Entry) (key : Key) (mode : Mode)
+        → by 0 (Take a Writer) ∷ [] ≡ before ++ by 1 (Wait key mode) ∷ after → ⊥
+    not_last [] after key mode e =
+        let first : 0 ≡ 1 = ap (λ (entries : List Entry). first_flow entries) e in omega (arith, first)
+    not_last (x ∷ before) after key mode e = nothing_past before (by 1 (Wait key mode)) after (ap (drop 1) e)
 
 pub own_take : WaitsForItsOwnTake
 own_take wait = let next = wait.next in let e = next.next in absurd cc
@@ -32,15 +58,6 @@ once wait = wait.once a Writer 1 (record {
   last = refl;
   at = refl;
 })
-
--- the flows of the first two entries
-abbrev first_flow : List Entry → ℕ
-first_flow [] = 0
-first_flow (x ∷ entries) = let flow = x.flow in flow.0
-
-abbrev second_flow : List Entry → ℕ
-second_flow [] = 0
-second_flow (x ∷ entries) = first_flow entries
 
 pub not_passed : IsNotPassedBy
 not_passed wait = by_pass (wait.kept [] [] (record { 0 = 2 }) Writer refl (λ same. omega (arith, same)) refl refl)

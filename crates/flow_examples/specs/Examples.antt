@@ -1,7 +1,7 @@
 -- All examples: those that fit a definition, and those that it refuses.
 use Rattle.flow_examples.specs.Walks.{HandlerFollowsDrops, FirstCaseIsTaken, HandlersGoByCode, StopsBeforeCall, FailuresPassOutward}
 use Rattle.flow_examples.specs.Held.{ReadersShare, CellsFollowPuts, KeysGoBySession, TakesAreKeptApart, SectionsAreKeptApart, TakesMayFollow}
-use Rattle.flow_examples.specs.Waiting.{WaitsForItsOwnTake, WaitsOnlyWhereBlocked, WaitsOnce, IsNotPassedBy, CyclesAreFound}
+use Rattle.flow_examples.specs.Waiting.{MayWaitWhereHeld, WaitsForItsOwnTake, WaitsOnlyWhereBlocked, WaitsOnce, IsNotPassedBy, CyclesAreFound}
 use Rattle.flow_examples.specs.Legality.{FailedIsWhole, OthersAnswersAreRefused, BegunIsNotWhole}
 
 pub record Examples : Type 0 where
@@ -14,6 +14,7 @@ pub record Examples : Type 0 where
   pub cells_follow_puts : CellsFollowPuts
   pub keys_go_by_session : KeysGoBySession
   pub takes_may_follow : TakesMayFollow
+  pub may_wait : MayWaitWhereHeld
   pub failed_is_whole : FailedIsWhole
 
 pub record Refused : Type 0 where

@@ -49,7 +49,7 @@ answer result = record { result = result; puts = []; emits = [] }
 abbrev pub called : ℕ → List Value → CallResult → Event
 called node args result = Call (record { node = no node; args = args; answer = answer result })
 
--- a predicate `zero`, and a session by number
+-- a predicate `zero`, and a session number that is always 4
 abbrev pub is_zero : Value → Bool
 is_zero (values.Int (pos zero)) = true
 is_zero other = false

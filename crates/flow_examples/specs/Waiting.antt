@@ -6,12 +6,17 @@ use Rattle.flow_model.specs.declared.journals.Event.TheVariants.{Take, Wait}
 use Rattle.flow_model.specs.Waits.{MayWait, IsFreeOfCycles}
 use Rattle.flow_examples.specs.Small.{concrete, none_held, two, both_write, crossed, a, b, by}
 
+-- ---- a flow may wait for a key that another holds
+
+abbrev pub MayWaitWhereHeld : Type 0
+MayWaitWhereHeld = MayWait both_write (by 0 (Take a Writer) ∷ []) (record { 0 = 1 }) a Writer []
+
 -- ---- each of the four conditions on a wait refuses one
 
--- the flow's next event isn't that take: its node has no locks
+-- the flow's next event isn't that take, though another flow holds the key: its node has no locks
 abbrev pub WaitsForItsOwnTake : Type 0
 WaitsForItsOwnTake = MayWait (two (concrete (codes "A") [] [] ∷ concrete (codes "B") [] [] ∷ []) none_held)
-    [] (record { 0 = 1 }) a Writer [] → ⊥
+    (by 0 (Take a Writer) ∷ []) (record { 0 = 1 }) a Writer [] → ⊥
 
 -- nobody blocks it
 abbrev pub WaitsOnlyWhereBlocked : Type 0

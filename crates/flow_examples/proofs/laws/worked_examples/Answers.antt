@@ -1,5 +1,6 @@
 use Rattle.std.proofs.Common.{refl}
 use Rattle.flow_examples.proofs.Held.{may_follow, keys_differ}
+use Rattle.flow_examples.proofs.Waiting.{may_wait}
 use Rattle.flow_examples.proofs.Legality.{failed_whole}
 use Rattle.std.specs.FinMap.{gets}
 use Rattle.flow_examples.proofs.laws.worked_examples.Goals as goal
@@ -15,5 +16,6 @@ returns c = record {
   failures_pass_outward = refl;
   keys_go_by_session = ((λ same. keys_differ same), refl);
   takes_may_follow = may_follow;
+  may_wait = may_wait;
   failed_is_whole = failed_whole;
 }
