@@ -6,8 +6,6 @@
 
 mod building;
 mod journals;
-#[cfg(test)]
-mod tests;
 mod troubles;
 mod turns;
 
