@@ -1,6 +1,6 @@
 use Rattle.std.proofs.lemmas.List.{take_rest}
-use Rattle.flux_driver.proofs.Writes.{so_far_more}
-use Rattle.flux_driver.proofs.writing.write_all.Goals as goal
+use Rattle.flux_outside.proofs.Writes.{so_far_more}
+use Rattle.flux_outside.proofs.writing.write_all.Goals as goal
 
 pub loop-rest-preserved : goal.loop-rest-preserved
 loop-rest-preserved g c =

@@ -1,6 +1,6 @@
 use Rattle.std.proofs.Common.{length}
-use Rattle.flux_driver.proofs.Writes.{SoFar}
-use Rattle.flux_driver.proofs.writing.write_all.Given as goal
+use Rattle.flux_outside.proofs.Writes.{SoFar}
+use Rattle.flux_outside.proofs.writing.write_all.Given as goal
 
 abbrev pub invariant-loop-rest : goal.invariant-loop-rest
 invariant-loop-rest g l =

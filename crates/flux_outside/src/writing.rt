@@ -1,9 +1,10 @@
 //! Writing all of some bytes to a sink.
 
 ghost use Rattle.std.specs.Prelude.{◌≤◌, OnOk, OnErr};
-ghost use Rattle.flux_driver.specs.Worlds.{Wrote, Broke};
+ghost use Rattle.flux_outside.specs.Streams.{Wrote, Broke};
 
-use flux_outside::{Failed, Sink};
+use crate::faults::Failed;
+use crate::sinks::Sink;
 
 /// Writes all of the bytes, in as many calls as the sink needs.
 pub fn write_all<O: Sink>(out: &mut O, bytes: &[u8]) -> Result<(), Failed>

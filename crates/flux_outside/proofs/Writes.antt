@@ -1,10 +1,9 @@
 -- Bytes written piece by piece.
-use Rattle.std.proofs.Common.{◌≡◌, ◌≢◌, ℕ, ◌⊎◌, List, [], ◌++◌, length, take, drop, Option, Some, None, refl, sym, ap, ◌∙◌, append_assoc, Result, Ok, Err, inl, inr}
-use Rattle.std.specs.Prelude.{OnOk, OnErr}
+use Rattle.std.proofs.Common.{◌≡◌, ◌≢◌, ℕ, List, [], ◌++◌, length, take, drop, Option, Some, None, refl, sym, ap, ◌∙◌, append_assoc}
 use Rattle.std.specs.Option.{option_map}
 use Rattle.std.proofs.lemmas.List.{append-nil, take-append-drop, nil_from_length}
 use Rattle.flux_outside.specs.Causes.{Rose}
-use Rattle.flux_driver.specs.Worlds.{Stream, Gains, Wrote, Broke}
+use Rattle.flux_outside.specs.Streams.{Stream, Gains, Wrote, Broke}
 
 -- a front of the bytes has been written, and the rest is left
 pub record SoFar (before after : Stream) (bytes rest : List ℕ) : Type 0 where
@@ -55,9 +54,3 @@ so_far_broke before mid after bytes rest s left none rose = let wrote = s.wrote 
   gains = gains_twice before mid after s.done [] wrote.gains none ∙ ap (λ (l : List ℕ). option_map (λ (w : List ℕ). w ++ l) before.written) (append-nil s.done);
   rose = rw (sym wrote.steady) rose;
 }
-
--- all of the bytes were written, or a front of them and the stream failed
-pub all_or_part : {X Y : Type 0} (before after : Stream) (bytes : List ℕ) (result : Result X Y)
-    → OnOk result (Wrote before after bytes) → OnErr result (Broke before after bytes) → Wrote before after bytes ⊎ Broke before after bytes
-all_or_part before after bytes (Ok x) all part = inl all
-all_or_part before after bytes (Err y) all part = inr part
