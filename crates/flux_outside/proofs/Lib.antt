@@ -1,2 +1,2 @@
-mod Consumed
+pub mod Consumed
 pub mod Writes

@@ -11,7 +11,7 @@ pub record SoFar (before after : Stream) (bytes rest : List ℕ) : Type 0 where
   pub split : bytes ≡ done ++ rest
   pub wrote : Wrote before after done
 
-gains_none : (before : Stream) → Gains before before []
+pub gains_none : (before : Stream) → Gains before before []
 gains_none before = one before.written
   where
     one : (written : Option (List ℕ)) → written ≡ option_map (λ w. w ++ []) written
@@ -25,7 +25,7 @@ wrote_none before = record { gains = gains_none before; steady = refl }
 pub so_far_none : (before : Stream) (bytes : List ℕ) → SoFar before before bytes bytes
 so_far_none before bytes = record { done = []; split = refl; wrote = wrote_none before }
 
-gains_twice : (before mid after : Stream) (a b : List ℕ) → Gains before mid a → Gains mid after b → Gains before after (a ++ b)
+pub gains_twice : (before mid after : Stream) (a b : List ℕ) → Gains before mid a → Gains mid after b → Gains before after (a ++ b)
 gains_twice before mid after a b first second = one before.written mid.written after.written first second
   where
     one : (x y z : Option (List ℕ)) → y ≡ option_map (λ w. w ++ a) x → z ≡ option_map (λ w. w ++ b) y → z ≡ option_map (λ w. w ++ (a ++ b)) x
