@@ -1,6 +1,6 @@
 -- Flows that are set aside for a look: what is covered with them, and who is found.
 use Rattle.std.proofs.Common.{◌≡◌, ◌≢◌, ◌<◌, ◌⊎◌, inl, inr, ℕ, Bool, true, false, not, ◌||◌, ◌&&◌, eqb, List, [], ◌∷◌, ◌++◌, length, Option, Some, None, refl, sym, ap, subst, ◌∙◌, append_assoc, length-append, arith}
-use Rattle.std.specs.Prelude.{IsSome}
+use Rattle.std.specs.Prelude.{IsSome, IsTrue, ◌↔◌, MatchOption}
 use Rattle.std.specs.List.{list_any, AllByRecursion}
 use Rattle.std.specs.Option.{is_some}
 use Rattle.std.proofs.lemmas.Bool.{cases_eq, eqb-true, false≢true}
@@ -104,8 +104,11 @@ module _ (setup : Setup) (entries : List Entry) (old new : Pools) (from : ℕ) (
 room-beside : (old new : Pools) (aside : List ℕ) (flow : ℕ) (key : Key) (mode : Mode) (stands : Bool)
     → HasRoom old new flow key mode stands → HasRoom (beside old aside) (beside new aside) flow key mode stands
 room-beside old new aside flow key mode true room = room
-room-beside old new aside flow key mode false (more, others) = (by mode more, λ other apart. both other
-    (others other apart))
+room-beside old new aside flow key mode false (more, others) = (
+  by mode more,
+  λ other apart. both other
+      (others other apart),
+)
   where
     by : (m : Mode) → IsMoreAt (rooms_for old m) (rooms_for new m) key flow
         → IsMoreAt (rooms_for (beside old aside) m) (rooms_for (beside new aside) m) key flow
@@ -134,6 +137,11 @@ parks-beside old new aside flow stop parks away = record {
         omega (arith, fewer, a, b)
 
 -- ---- a look
+
+-- a flow of which that is denied has no begun call
+pub idle-of : {X : Type 0} (o : Option X) (b : Bool) → IsTrue b ↔ IsSome o → b ≡ false → o ≡ None
+idle-of None b both is_not = refl
+idle-of (Some x) b both is_not = absurd (false≢true (sym is_not ∙ both.1 refl))
 
 module _ {L : Type 0} (meaning : L → LibraryMeaning) (core : CoreState L) (kept : IsKept meaning core) (from : ℕ) where
   abbrev setup : Setup
@@ -176,6 +184,9 @@ module _ {L : Type 0} (meaning : L → LibraryMeaning) (core : CoreState L) (kep
         → IsReady new other → ⊥
     fewer-apart new flow less other there ready = are.apart other there
         (less_there old.ready new.ready flow less other ready)
+
+    pub aside-exist : (flow : ℕ) → IsReady old flow → flow < length setup.items
+    aside-exist flow ready = let covers = are.covers in covers.exist flow (right aside old.ready flow ready)
 
     -- one that has ended is no longer looked at
     pub aside-ended : (new : Pools) (flow : ℕ) → IsReady old flow → IsLess old.ready new.ready flow
@@ -313,19 +324,26 @@ module _ {L : Type 0} (meaning : L → LibraryMeaning) (core : CoreState L) (kep
     apart = λ flow there ready. none_has aside flow empty there;
   }
 
-  -- and all are looked at again
-  module _ (old new : Pools) (aside : List ℕ) (are : AreAside meaning core old aside from)
-      (same : HasSame (beside old aside) new) where
-    pub again-covers : Covers setup core.entries new from
-    again-covers = covers-same setup core.entries (beside old aside) new from same are.covers
+-- ---- and all are looked at again
 
-    pub again-chosen : (flow : FlowNo) → IsIdleChosen meaning core (beside old aside) from flow
-        → IsIdleChosen meaning core new from flow
-    again-chosen flow chosen = record {
-      first = chosen.first;
-      ready = same.ready_ flow.0 ∙ chosen.ready;
-      earliest = λ other ready. chosen.earliest other (sym (same.ready_ other) ∙ ready);
-    }
+module _ {L : Type 0} (meaning : L → LibraryMeaning) (core : CoreState L) (from : ℕ) (old new : Pools)
+    (aside : List ℕ) (are : AreAside meaning core old aside from) (same : HasSame (beside old aside) new) where
+  pub again-covers : Covers (setup_in meaning core) core.entries new from
+  again-covers = covers-same (setup_in meaning core) core.entries (beside old aside) new from same are.covers
+
+  pub again-chosen : (flow : FlowNo) → IsIdleChosen meaning core (beside old aside) from flow
+      → IsIdleChosen meaning core new from flow
+  again-chosen flow chosen = record {
+    first = chosen.first;
+    ready = same.ready_ flow.0 ∙ chosen.ready;
+    earliest = λ other ready. chosen.earliest other (sym (same.ready_ other) ∙ ready);
+  }
+
+  pub again-found : (found : Option FlowNo) → MatchOption found (NoneIsIdle meaning core)
+      (IsIdleChosen meaning core (beside old aside) from) → MatchOption found (NoneIsIdle meaning core)
+      (IsIdleChosen meaning core new from)
+  again-found None none = none
+  again-found (Some flow) chosen = again-chosen flow chosen
 
 -- ---- one flow more is looked at again
 
@@ -358,6 +376,12 @@ pub same-itself : (pools : Pools) → HasSame pools pools
 same-itself pools = record { ready_ = λ flow. refl; readers_ = refl; writers_ = refl }
 
 -- ---- calls that others finish
+
+call-no_take : (made : CallMade) (key : Key) (mode : Mode) → Call made ≡ Take key mode → ⊥
+call-no_take made key mode e = cc
+
+call-no_drop : (made : CallMade) (key : Key) → Call made ≡ Drop key → ⊥
+call-no_drop made key e = cc
 
 module _ (setup : Setup) (entries : List Entry) (flow : FlowNo) (made : CallMade) (pools : Pools) (from : ℕ)
     (covers : Covers setup entries pools from)
@@ -402,8 +426,9 @@ module _ (setup : Setup) (entries : List Entry) (flow : FlowNo) (made : CallMade
   }
 
   call-keeps : Covers setup (entries ++ record { flow = flow; event = Call made } ∷ []) pools from
+  unfolding call-lags
   call-keeps = told-other setup (entries ++ record { flow = flow; event = Call made } ∷ []) legal pools from call-lags
-      (λ key mode e. cc) (λ key e. cc)
+      (λ key mode e. call-no_take made key mode e) (λ key e. call-no_drop made key e)
 
 pub calls_keep_covers : CallsKeepCovers
 calls_keep_covers setup entries [] pools from covers legal calls =
