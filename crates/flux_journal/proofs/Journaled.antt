@@ -72,7 +72,7 @@ counted_all text rest count so over = omega (arith, so.counted, ap length (no_li
 
 -- ---- entries
 
-lines_more : (p : Program) (lines more : List (List ℕ)) (entries others : List Entry) → AreEntryLines p lines entries → AreEntryLines p more others → AreEntryLines p (lines ++ more) (entries ++ others)
+pub lines_more : (p : Program) (lines more : List (List ℕ)) (entries others : List Entry) → AreEntryLines p lines entries → AreEntryLines p more others → AreEntryLines p (lines ++ more) (entries ++ others)
 lines_more p [] more [] others one two = two
 lines_more p [] more (e ∷ entries) others one two = absurd one
 lines_more p (l ∷ lines) more [] others one two = absurd one
@@ -265,7 +265,7 @@ headed_some (b ∷ text) is = omega arith
 
 -- ---- one answer
 
-entries_once : (p : Program) → IsNamed p → (lines : List (List ℕ)) (xs ys : List Entry) → AreEntryLines p lines xs → AreEntryLines p lines ys → xs ≡ ys
+pub entries_once : (p : Program) → IsNamed p → (lines : List (List ℕ)) (xs ys : List Entry) → AreEntryLines p lines xs → AreEntryLines p lines ys → xs ≡ ys
 entries_once p named [] [] [] one two = refl
 entries_once p named [] [] (y ∷ ys) one two = absurd two
 entries_once p named [] (x ∷ xs) ys one two = absurd one
