@@ -52,7 +52,7 @@ next_once setup entries flow a b one other =
 -- ---- from rules to moves
 
 -- a flow whose next event is this one isn't blocked, where it keeps the rules of takes
-free_by : (setup : Setup) (before : List Entry) (flow : FlowNo) (event : Event) → IsNext setup before flow.0 event
+pub free_by : (setup : Setup) (before : List Entry) (flow : FlowNo) (event : Event) → IsNext setup before flow.0 event
     → (IsHeld before flow event → ⊥) → (IsOutOfTurn before flow event → ⊥) → IsBlocked setup before flow.0 → ⊥
 free_by setup before flow event next unheld turn (other, waits) = by blocked.cause
   where

@@ -1,3 +1,6 @@
 pub mod Keeping
 pub mod Passing
 pub mod Judging
+pub mod Opening
+pub mod Checking
+pub mod Passed

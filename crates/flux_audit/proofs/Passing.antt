@@ -67,25 +67,28 @@ module _ (setup : Setup) (named : IsNamed setup.program) where
   abbrev KeepsAll : List Entry → Entry → Type 0
   KeepsAll before entry = (rule : Rule) → Keeps setup before entry.flow entry.event rule
 
-  -- a line whose entry keeps the rules breaks none
-  module _ (before : List Entry) (line : List ℕ) (entry : Entry) (spells : IsEntryLine setup.program line entry)
-      (keeps : KeepsAll before entry) where
-    spelled_keeps : (rule : Rule) → SpellsBroken setup before line rule → ⊥
-    spelled_keeps rule broken =
+  -- a line whose entry keeps a rule doesn't break it
+  module _ (before : List Entry) (line : List ℕ) (entry : Entry) (spells : IsEntryLine setup.program line entry) where
+    spelled_keeps : (rule : Rule) → Keeps setup before entry.flow entry.event rule → SpellsBroken setup before line rule → ⊥
+    spelled_keeps rule keeps broken =
         let same : broken.entry ≡ entry = entry_once setup.program named line broken.entry entry broken.spells spells in
-        not_both setup before entry.flow entry.event rule (keeps rule)
+        not_both setup before entry.flow entry.event rule keeps
         (subst (λ (e : Entry). Breaks setup before e.flow e.event rule) same broken.breaks)
 
-    pub line_keeps : (rule : Rule) → LineBreaks setup before line rule → ⊥
-    line_keeps rules.Head breaks = breaks
-    line_keeps rules.Text breaks = breaks entry spells
-    line_keeps rules.Flow breaks = spelled_keeps rules.Flow breaks
-    line_keeps rules.Path breaks = spelled_keeps rules.Path breaks
-    line_keeps rules.Answer breaks = spelled_keeps rules.Answer breaks
-    line_keeps rules.Hold breaks = spelled_keeps rules.Hold breaks
-    line_keeps rules.Turn breaks = spelled_keeps rules.Turn breaks
-    line_keeps rules.Wait breaks = spelled_keeps rules.Wait breaks
-    line_keeps rules.Short breaks = breaks
+    pub line_keeps_one : (rule : Rule) → Keeps setup before entry.flow entry.event rule
+        → LineBreaks setup before line rule → ⊥
+    line_keeps_one rules.Head keeps breaks = breaks
+    line_keeps_one rules.Text keeps breaks = breaks entry spells
+    line_keeps_one rules.Flow keeps breaks = spelled_keeps rules.Flow keeps breaks
+    line_keeps_one rules.Path keeps breaks = spelled_keeps rules.Path keeps breaks
+    line_keeps_one rules.Answer keeps breaks = spelled_keeps rules.Answer keeps breaks
+    line_keeps_one rules.Hold keeps breaks = spelled_keeps rules.Hold keeps breaks
+    line_keeps_one rules.Turn keeps breaks = spelled_keeps rules.Turn keeps breaks
+    line_keeps_one rules.Wait keeps breaks = spelled_keeps rules.Wait keeps breaks
+    line_keeps_one rules.Short keeps breaks = breaks
+
+    pub line_keeps : KeepsAll before entry → (rule : Rule) → LineBreaks setup before line rule → ⊥
+    line_keeps keeps rule breaks = line_keeps_one rule (keeps rule) breaks
 
   module _ (text line : List ℕ) (left : List (List ℕ)) (entries : List Entry) (number : ℕ)
       (passed : IsPassedTo setup text (line ∷ left) entries number) where

@@ -6,8 +6,15 @@
 //! rule come first. It goes through the lines once and keeps nothing that grows with them but where each flow stands.
 #![tactic(auto)]
 
+mod audits;
+mod calls;
+mod entries;
+mod heads;
 mod laws;
+mod printing;
 mod verdicts;
 
+pub use audits::audit;
 pub use laws::{rules_are_legal, verdicts_are_one};
+pub use printing::print_verdict;
 pub use verdicts::{Rule, Verdict};

@@ -6,6 +6,7 @@ use Rattle.flux_model.specs.declared.programs.Program.{Program}
 use Rattle.flux_journal.specs.Spelled.{IsEntryLine}
 use Rattle.flux_journal.specs.Journals.{is_headed, head_count, event_lines, AreEntryLines}
 use Rattle.flux_audit.specs.declared.verdicts.Rule.{Rule}
+use Rattle.flux_audit.specs.declared.heads.Opened.{Opened}
 use Rattle.flux_audit.specs.Verdicts.{HasHeadFor, LineBreaks, BreaksAt, rank}
 
 -- the lines before those that are left spell these entries, and no line before the next breaks a rule
@@ -31,3 +32,9 @@ pub record IsAmong (p : Program) (before : List (List ℕ)) (line : List ℕ) (e
   pub are : entries ≡ front ++ entry ∷ back
   pub spelled : AreEntryLines p before front
   pub spells : IsEntryLine p line entry
+
+-- the lines of events of a text that has its head line, and the number of the first of them
+pub record IsOpened (flows : ℕ) (text : List ℕ) (opened : Opened) : Type 0 where
+  pub head : HasHeadFor flows text
+  pub lines_ : opened.lines ≡ event_lines text
+  pub first_ : opened.first ≡ head_count (is_headed text) + 1

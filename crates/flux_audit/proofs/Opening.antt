@@ -1,0 +1,26 @@
+-- Head lines that fit, and those that don't.
+use Rattle.std.proofs.Common.{◌≡◌, ◌<◌, ◌^◌, ℕ, Bool, true, false, List, [], ◌∷◌, length, drop, Some, refl, sym, ap, subst, ◌∙◌, arith}
+use Rattle.std.specs.List.{slice_get}
+use Rattle.flux_journal.specs.Formats.{head_line, IsHeadLine}
+use Rattle.flux_journal.specs.Journals.{lines_of, is_headed}
+use Rattle.flux_audit.specs.Verdicts.{FitsHead, HasHeadFor}
+
+module _ (text first : List ℕ) (rest : List (List ℕ)) (flows : ℕ) (headed : is_headed text ≡ true)
+    (lines : lines_of text ≡ first ∷ rest) (small : flows < 2 ^ 32) (few : length rest < 2 ^ 64) where
+  -- a fitting head is a head line with these numbers
+  pub head_is : HasHeadFor flows text → IsHeadLine first flows (length rest)
+  head_is fits = record { small = small; fits = few; is = same there }
+    where
+      there : slice_get (first ∷ rest) 0 ≡ Some (head_line flows (length (drop 1 (first ∷ rest))))
+      there = subst (λ (ls : List (List ℕ)). FitsHead true flows ls) lines
+          (subst (λ (t : Bool). FitsHead t flows (lines_of text)) headed fits)
+
+      same : Some first ≡ Some (head_line flows (length rest)) → first ≡ head_line flows (length rest)
+      same e = cc
+
+  pub no_head : ((f e : ℕ) → IsHeadLine first f e → ⊥) → HasHeadFor flows text → ⊥
+  no_head none fits = none flows (length rest) (head_is fits)
+
+  pub fits_head : IsHeadLine first flows (length rest) → HasHeadFor flows text
+  fits_head h = subst (λ (t : Bool). FitsHead t flows (lines_of text)) (sym headed)
+      (subst (λ (ls : List (List ℕ)). FitsHead true flows ls) (sym lines) (ap Some h.is))
