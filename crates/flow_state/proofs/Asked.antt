@@ -1,6 +1,7 @@
 -- What comes next at a flow's place, as its calls tell it.
 use Rattle.std.proofs.Common.{◌≡◌, ◌<◌, ◌⊎◌, inl, inr, ℕ, true, false, List, length, Option, Some, refl, sym, ap, subst, ◌∙◌}
 use Rattle.flux_values.specs.declared.answers.Mode.{Mode}
+use Rattle.flux_values.specs.declared.values.Value.{Value}
 use Rattle.flux_values.specs.Meanings.{LibraryMeaning}
 use Rattle.flux_model.specs.declared.programs.ClassNo.{ClassNo}
 use Rattle.flux_model.specs.declared.programs.NodeNo.{NodeNo}
@@ -26,12 +27,17 @@ use Rattle.flux_laws.proofs.Standing.{next-unique}
 use Rattle.flux_cells.specs.Kept.{cells_of}
 use Rattle.flow_state.specs.declared.places.Place.{Place}
 use Rattle.flow_state.specs.declared.fields.Fields.{Fields}
+use Rattle.flow_state.specs.declared.coming.Coming.{Coming}
+use Rattle.flow_state.specs.declared.coming.Coming.TheVariants as comings
 use Rattle.flow_state.specs.States.{setup_at}
+use Rattle.flow_state.specs.Coming.{event_of, IsComing, Comes}
 use Rattle.flow_state.specs.Blockers.{IsBlockedAt}
-use Rattle.flow_state.specs.steps.Places.{key_in, IsPlaceOf, IsComing, event_for, IsEventComing}
+use Rattle.flow_state.specs.steps.Places.{key_in, IsPlaceOf, event_for, IsEventComing}
+use Rattle.flow_state.specs.steps.Places as places
 use Rattle.flow_state.specs.steps.Fields.{state_of, plans_of, AreFields}
 use Rattle.flow_state.proofs.Tables.{not-both, lowest-blocks, may-take}
 use Rattle.flow_state.proofs.Ended.{next-goes_on, call-goes_on, not-true}
+use Rattle.flow_state.proofs.Agreeing.{calls-unique}
 use Rattle.flow_state.proofs.AtPlaces.{place-key_for, place-ended}
 use Rattle.flow_state.proofs.Moved.{here, coming-there, event-next, call-next, not-blocked}
 
@@ -77,7 +83,7 @@ module _ {L : Type 0} (meaning : L → LibraryMeaning) (r : Fields L) (is : AreF
   legal : IsLegal setup entries
   legal = let after = is.after in after.legal
 
-  module _ (next : Next) (coming : IsComing setup (plans_of r) items flow.0 next) where
+  module _ (next : Next) (coming : places.IsComing setup (plans_of r) items flow.0 next) where
     abbrev place : Place
     place = coming.place
 
@@ -101,7 +107,7 @@ module _ {L : Type 0} (meaning : L → LibraryMeaning) (r : Fields L) (is : AreF
       coming = coming.coming ∙ ap Some e;
     })
       where
-        call-at : (c : IsComing setup (plans_of r) items flow.0 (nexts.Call node))
+        call-at : (c : places.IsComing setup (plans_of r) items flow.0 (nexts.Call node))
             → let p = c.place in CallIsNext setup entries flow.0 node (values_at p.local)
         call-at c = call-next setup (plans_of r) is.given entries items r.table (cells_of r.cells) is.after flow node c
 
@@ -142,6 +148,13 @@ module _ {L : Type 0} (meaning : L → LibraryMeaning) (r : Fields L) (is : AreF
         by (inr (inr e)) = next-goes_on setup entries legal flow.0 within (Take waits.key waits.mode) waits.next
             (ended-is e)
 
+    -- where an event is next, neither a call nor nothing comes
+    pub never-made : (event : Event) → IsNext setup entries flow.0 event
+        → ((node : NodeNo) × (next ≡ nexts.Call node)) ⊎ (next ≡ nexts.Ended) → ⊥
+    never-made event there (inl (node, e)) =
+        not-both setup entries flow.0 event node (values_at place.local) there (call-is_next node e)
+    never-made event there (inr e) = next-goes_on setup entries legal flow.0 within event there (ended-is e)
+
     -- ---- a take
 
     module _ (class : ClassNo) (mode : Mode) (takes : next ≡ nexts.Take class mode) (key : Key)
@@ -177,6 +190,10 @@ module _ {L : Type 0} (meaning : L → LibraryMeaning) (r : Fields L) (is : AreF
           free other (subst (λ (k : Key). Blocks entries other flow.0 k mode) ks
           (subst (λ (m : Mode). Blocks entries other flow.0 waits.key m) ms waits.blocked))
 
+      pub free-take : (IsBlocked setup entries flow.0 → ⊥) → (other : ℕ) → Blocks entries other flow.0 key mode → ⊥
+      free-take free other blocks =
+          free (other, record { key = key; mode = mode; next = take-is_next; blocked = blocks })
+
       pub some-blocked : (other : ℕ) → Blocks entries other flow.0 key mode → IsBlockedAt setup entries flow.0 key
       some-blocked other blocks = record {
         mode = mode;
@@ -186,15 +203,58 @@ module _ {L : Type 0} (meaning : L → LibraryMeaning) (r : Fields L) (is : AreF
 
     -- ---- a drop
 
+    pub drop-event : (class : ClassNo) → next ≡ nexts.Drop class → (key : Key)
+        → key_for setup (item_of setup flow.0) class ≡ Some key → event_for keys next ≡ Some (Drop key)
+    drop-event class drops key is_key =
+        let same : keys class ≡ key = let e = sym (place-key_for setup (plans_of r) entries legal flow.0 place own
+        class) ∙ is_key in cc in
+        ap (event_for keys) drops ∙ ap (λ (k : Key). Some (Drop k)) same
+
     pub drop-coming : (class : ClassNo) → next ≡ nexts.Drop class → (key : Key)
         → key_for setup (item_of setup flow.0) class ≡ Some key
         → IsEventComing setup (plans_of r) items flow.0 (Drop key)
     drop-coming class drops key is_key =
-        let same : keys class ≡ key = let e = sym (place-key_for setup (plans_of r) entries legal flow.0 place own
-        class) ∙ is_key in cc in
-        record {
-          next = next;
-          coming = coming;
-          event_ =
-              ap (event_for keys) drops ∙ ap (λ (k : Key). Some (Drop k)) same;
-        }
+        record { next = next; coming = coming; event_ = drop-event class drops key is_key }
+
+    -- ---- and nothing else
+
+    -- what comes, where the keys are those of the flow
+    pub comes : (told : Coming) → IsComing setup entries flow.0 told
+        → ((event : Event) → event_for keys next ≡ Some event → event_of told ≡ Some event)
+        → ((node : NodeNo) → next ≡ nexts.Call node → told ≡ comings.Call node)
+        → (next ≡ nexts.Ended → told ≡ comings.Ended) → Comes setup entries flow.0 told
+    comes told is_coming event_is call_is ended_is = record {
+      is = is_coming;
+      event = λ event there. by_event event there (sort-of keys next);
+      call = λ node args there. by_call node args there (sort-of keys next);
+      ended = λ ended. by_ended ended (sort-of keys next);
+    }
+      where
+        by_event : (event : Event) → IsNext setup entries flow.0 event → IsSort keys next
+            → event_of told ≡ Some event
+        by_event event there (inl (own, e)) =
+            let same = next-unique setup entries flow.0 own event (event-is_next own e) there in
+            event_is own e ∙ ap Some same
+        by_event event there (inr (inl (node, e))) = absurd (not-both setup entries flow.0 event node
+            (values_at place.local) there (call-is_next node e))
+        by_event event there (inr (inr e)) =
+            absurd (next-goes_on setup entries legal flow.0 within event there (ended-is e))
+
+        by_call : (node : NodeNo) (args : List Value) → CallIsNext setup entries flow.0 node args → IsSort keys next
+            → told ≡ comings.Call node
+        by_call node args there (inl (own, e)) =
+            absurd (not-both setup entries flow.0 own node args (event-is_next own e) there)
+        by_call node args there (inr (inl (other, e))) =
+            let same = calls-unique setup entries flow.0 other node (values_at place.local) args (call-is_next other e)
+            there in
+            call_is other e ∙ ap comings.Call same.0
+        by_call node args there (inr (inr e)) =
+            absurd (call-goes_on setup entries legal flow.0 within node args there (ended-is e))
+
+        by_ended : has_ended entries flow.0 ≡ true → IsSort keys next → told ≡ comings.Ended
+        by_ended ended (inl (own, e)) =
+            absurd (next-goes_on setup entries legal flow.0 within own (event-is_next own e) ended)
+        by_ended ended (inr (inl (node, e))) =
+            absurd (call-goes_on setup entries legal flow.0 within node (values_at place.local) (call-is_next node e)
+            ended)
+        by_ended ended (inr (inr e)) = ended_is e

@@ -10,7 +10,7 @@ use Rattle.flux_model.specs.declared.items.FlowNo.{FlowNo}
 use Rattle.flow_model.specs.declared.journals.Outcome.{Outcome}
 use Rattle.flow_model.specs.declared.journals.Entry.{Entry}
 use Rattle.flow_model.specs.declared.journals.Event.{Event}
-use Rattle.flow_model.specs.declared.journals.Event.TheVariants.{Take, Wait, Enter, Choose, Call, Exit, Drop, End}
+use Rattle.flow_model.specs.declared.journals.Event.TheVariants.{End}
 use Rattle.flow_model.specs.Setup.{Setup}
 use Rattle.flow_model.specs.Walk.{Stop, finished, before_call, nowhere, Walked}
 use Rattle.flow_model.specs.Flows.{flow_walk, ending, HasEnded}

@@ -76,7 +76,7 @@ any-in (held ∷ modes) own mode (inr is) against = by (conflict held mode) (any
     by true e = refl
     by false e = e
 
-some-in : (modes : List Mode) (mode : Mode) → list_any (λ held. conflict held mode) modes ≡ true
+pub some-in : (modes : List Mode) (mode : Mode) → list_any (λ held. conflict held mode) modes ≡ true
     → (own : Mode) × In own modes × (conflict own mode ≡ true)
 some-in [] mode is = absurd (cc)
 some-in (held ∷ modes) mode is = by (conflict held mode) refl is (some-in modes mode)

@@ -1,9 +1,8 @@
 -- What holds of a state's fields keeps holding with each move.
-use Rattle.std.proofs.Common.{◌≡◌, ℕ, true, false, List, [], ◌∷◌, ◌++◌, Some, None, refl, sym, ap, subst, ◌∙◌}
+use Rattle.std.proofs.Common.{◌≡◌, ℕ, true, false, List, [], ◌∷◌, ◌++◌, Some, refl, sym, ap, subst, ◌∙◌}
 use Rattle.std.specs.List.{slice_get, slice_set}
 use Rattle.flux_values.specs.declared.values.Value.{Value}
 use Rattle.flux_values.specs.declared.answers.Mode.{Mode}
-use Rattle.flux_values.specs.declared.answers.Answer.{Answer}
 use Rattle.flux_model.specs.declared.programs.NodeNo.{NodeNo}
 use Rattle.flux_model.specs.declared.items.FlowNo.{FlowNo}
 use Rattle.flow_model.specs.declared.journals.Key.{Key}
@@ -236,7 +235,7 @@ module _ (setup : Setup) (plans : List Plan) (given : IsGiven setup plans) (entr
             (stands ∙ sym (ap (ends_waiting false) (events-own entries flow.0 (Wait key mode)) ∙ waiting-last false
             (events_by flow.0 entries) (Wait key mode))));
         table = table-waited setup entries legal locks after.table flow key mode new_locks
-            (once-nowhere entries flow may.once) waits;
+            may.once waits;
         cells_ = after.cells_ ∙ sym (cells-more setup entries flow (Wait key mode));
       }
 

@@ -1,27 +1,27 @@
--- What moves leave in a core's fields.
-use Rattle.std.proofs.Common.{◌≡◌, ◌<◌, ◌≤◌, ◌-◌, inl, inr, ℕ, true, false, get_or, List, [], ◌∷◌, ◌++◌, length, map, Option, Some, None, refl, sym, ap, subst, ◌∙◌, arith}
+-- What moves leave in a state's fields.
+use Rattle.std.proofs.Common.{◌≡◌, ◌<◌, ◌≤◌, ◌-◌, inl, inr, ℕ, true, false, get_or, List, [], ◌∷◌, ◌++◌, length, Some, refl, sym, ap, subst, ◌∙◌, arith}
 use Rattle.std.specs.Prelude.{IsSome}
 use Rattle.std.specs.List.{slice_get, slice_set}
-use Rattle.std.specs.Option.{option_map, option_flatten}
 use Rattle.std.specs.Vec.{with_item}
-use Rattle.std.proofs.lemmas.Option.{slice_get_within, slice_get_read, slice_get-map}
-use Rattle.std.proofs.lemmas.List.{length-map}
+use Rattle.std.proofs.lemmas.Option.{slice_get_within, slice_get_read}
 use Rattle.flux_values.specs.declared.answers.Mode.{Mode}
 use Rattle.flux_values.specs.Meanings.{LibraryMeaning}
 use Rattle.flux_model.specs.declared.programs.ClassNo.{ClassNo}
 use Rattle.flux_model.specs.declared.items.FlowNo.{FlowNo}
 use Rattle.flow_model.specs.declared.journals.Key.{Key}
 use Rattle.flow_model.specs.declared.journals.Entry.{Entry}
-use Rattle.flow_model.specs.declared.journals.Journal.{Journal}
 use Rattle.flow_model.specs.declared.journals.CallMade.{CallMade}
 use Rattle.flow_model.specs.declared.journals.Event.{Event}
 use Rattle.flow_model.specs.declared.journals.Event.TheVariants.{Take, Wait, Call, Drop}
 use Rattle.flow_model.specs.Setup.{Setup, item_of}
 use Rattle.flow_model.specs.CellsAfter.{key_for}
 use Rattle.flow_model.specs.Events.{IsNext}
-use Rattle.flow_model.specs.Waits.{Blocks, StandsAt}
+use Rattle.flow_model.specs.Waits.{Blocks}
 use Rattle.flow_model.specs.Legal.{IsLegal}
 use Rattle.flux_laws.specs.Growth.{is_end, has_ended}
+use Rattle.flux_laws.specs.Moves.{MayStand}
+use Rattle.flux_laws.proofs.NextEvents.{next-item}
+use Rattle.flux_laws.proofs.Standing.{next-unique}
 use Rattle.flux_plan.specs.declared.locals.Next.{Next}
 use Rattle.flux_plan.specs.declared.locals.Next.TheVariants as nexts
 use Rattle.flux_plan.specs.Moves.{next_in, IsReached, Advances}
@@ -30,20 +30,19 @@ use Rattle.flux_table.specs.Blockers as table
 use Rattle.flux_table.specs.Blockers.{MayTake, MayWait, IsLowestOf}
 use Rattle.flux_table.specs.Changes.{Takes, Waits, Releases}
 use Rattle.flux_cells.specs.Kept.{cells_of}
-use Rattle.flow_state.specs.declared.inputs.Inputs.{Inputs}
 use Rattle.flow_state.specs.declared.places.Place.{Place}
 use Rattle.flow_state.specs.declared.fields.Fields.{Fields}
-use Rattle.flow_state.specs.States.{setup_at}
-use Rattle.flow_state.specs.Moves.{MakesEvent, HasWaited}
+use Rattle.flow_state.specs.States.{setup_at, IsLegalState}
+use Rattle.flow_state.specs.Moves.{AddsEvent, AddsWait}
 use Rattle.flow_state.specs.steps.Places.{matches_in, HasPlan, MayAdvance, key_in, IsPlaceOf, event_for, IsQuiet, IsEventComing}
 use Rattle.flow_state.specs.steps.Table.{IsUndone}
 use Rattle.flow_state.specs.steps.Fields.{state_of, plans_of, IsAfter, AreFields}
-use Rattle.flow_state.proofs.Entries.{waiting-stands, not_waiting-nowhere, StandsAnywhere}
-use Rattle.flow_state.proofs.Tables.{stands-next, table-back, blocks-to, may-take, may-wait, may-release}
-use Rattle.flow_state.proofs.Sets.{replaced-same, map-replaced_same}
+use Rattle.flow_state.proofs.Entries.{not_waiting-nowhere}
+use Rattle.flow_state.proofs.Tables.{table-back, blocks-to, may-take, may-wait, may-release}
+use Rattle.flow_state.proofs.Sets.{replaced-same}
 use Rattle.flow_state.proofs.Ended.{live_in, live-still, live-less, next-goes_on, not-true, live-some}
 use Rattle.flow_state.proofs.AtPlaces.{place-key_for, place-reached, place-may_advance}
-use Rattle.flow_state.proofs.Moved.{here, coming-there, event-next, IsMadeAt, HasMoved, HasStood, moved-quiet, moved-drop, moved-take, moved-wait}
+use Rattle.flow_state.proofs.Moved.{here, coming-there, event-next, IsMadeAt, HasMoved, moved-quiet, moved-drop, moved-take, moved-wait}
 
 not-call-event : (key : ClassNo → Key) (next : Next) (made : CallMade) → event_for key next ≡ Some (Call made) → ⊥
 not-call-event key (nexts.Take class mode) made h = cc
@@ -80,21 +79,9 @@ module _ {L : Type 0} (meaning : L → LibraryMeaning) (r : Fields L) (is : AreF
 
   -- ---- what is kept
 
-  begun-calls : (flow : ℕ) (inputs : Inputs) (found : Option Place) → slice_get items flow ≡ found
-      → option_flatten (option_map (λ (place : Place). place.begun) found) ≡ Some inputs
-      → IsBegun setup entries flow inputs
-  begun-calls flow inputs None at begun = absurd cc
-  begun-calls flow inputs (Some place) at begun =
-      let after = is.after in
-      let places = after.places_ in
-      let own = places.each flow place at in
-      own.call inputs begun
-
-  pub kept-of : IsKept meaning (state_of r)
+  pub kept-of : IsLegalState meaning (state_of r)
   kept-of =
       let given = is.given in
-      let after = is.after in
-      let places = after.places_ in
       record {
         lawful = given.lawful;
         kinds = given.kinds;
@@ -102,10 +89,7 @@ module _ {L : Type 0} (meaning : L → LibraryMeaning) (r : Fields L) (is : AreF
         fit = given.fit;
         few = given.few;
         plans_ = given.plans_;
-        legal = after.legal;
-        each = length-map items (λ (place : Place). place.begun) ∙ places.count;
-        calls = λ flow inputs begun. begun-calls flow inputs (slice_get items flow) refl
-            (ap option_flatten (sym (slice_get-map (λ (place : Place). place.begun) items flow)) ∙ begun);
+        legal = legal;
       }
 
   -- ---- reading
@@ -115,6 +99,29 @@ module _ {L : Type 0} (meaning : L → LibraryMeaning) (r : Fields L) (is : AreF
       places.count in omega (arith, lt, count)
 
   module _ (flow : FlowNo) where
+    -- the fields behind a move
+    abbrev Moved : Place → Locks → List Entry → ℕ → Fields L
+    Moved new locks made live = record {
+      alloc = r.alloc;
+      setup = r.setup;
+      places = with_item r.places flow.0 new;
+      table = locks;
+      cells = r.cells;
+      live = live;
+      made = made;
+    }
+
+    still : (place : Place) → slice_get items flow.0 ≡ Some place → (locks : Locks) → locks ≡ r.table
+        → AreFields meaning (Moved place locks r.made r.live)
+    still place at locks same_locks = record {
+      given = is.given;
+      after = subst (λ (l : Locks). IsAfter setup (plans_of r) entries (slice_set items flow.0 place) l
+          (cells_of r.cells)) (sym same_locks)
+          (subst (λ (ps : List Place). IsAfter setup (plans_of r) entries ps r.table (cells_of r.cells))
+          (sym (replaced-same items flow.0 place at)) is.after);
+      live = is.live;
+    }
+
     pub place-of : (place : Place) → flow.0 < length setup.items → place ≡ get_or items flow.0 place
         → IsPlaceOf setup (plans_of r) entries flow.0 place
     place-of place lt read = let after = is.after in let places =
@@ -157,9 +164,8 @@ module _ {L : Type 0} (meaning : L → LibraryMeaning) (r : Fields L) (is : AreF
       }
 
       next-is : IsNext setup entries flow.0 event
-      next-is = let journal = r.journal in let places =
-          r.places in event-next setup (plans_of r) is.given entries items r.table (cells_of r.cells) is.after flow
-          event there
+      next-is = event-next setup (plans_of r) is.given entries items r.table (cells_of r.cells) is.after flow event
+          there
 
       abbrev own-place : IsPlaceOf setup (plans_of r) entries flow.0 place
       own-place = here setup (plans_of r) is.given entries items r.table (cells_of r.cells) is.after flow place at-place
@@ -169,29 +175,12 @@ module _ {L : Type 0} (meaning : L → LibraryMeaning) (r : Fields L) (is : AreF
           (coming-there setup (plans_of r) is.given entries items r.table (cells_of r.cells) is.after flow there.next
           there.coming) event there.event_
 
-      -- the fields behind a move
-      abbrev Moved : Place → Locks → Journal → ℕ → Fields L
-      Moved new locks journal live = record {
-        alloc = r.alloc;
-        setup = r.setup;
-        places = with_item r.places flow.0 new;
-        table = locks;
-        cells = r.cells;
-        journal = journal;
-        live = live;
-        halted = r.halted;
-      }
-
-      same-begun : (new : Place) → new.begun ≡ place.begun
-          → map (λ (p : Place). p.begun) (slice_set items flow.0 new) ≡ map (λ (p : Place). p.begun) items
-      same-begun new begun = map-replaced_same (λ (p : Place). p.begun) items flow.0 new place at-place begun
-
-      module _ (new : Place) (locks : Locks) (journal : Journal) (live : ℕ)
-          (added : journal.entries ≡ entries ++ record { flow = flow; event = event } ∷ [])
-          (begun : new.begun ≡ place.begun) (moved : HasMoved setup (plans_of r) is.given entries items r.table
-          (cells_of r.cells) is.after flow event new locks (cells_of r.cells)) where
+      module _ (new : Place) (locks : Locks) (made : List Entry) (live : ℕ)
+          (added : made ≡ entries ++ record { flow = flow; event = event } ∷ [])
+          (moved : HasMoved setup (plans_of r) is.given entries items r.table (cells_of r.cells) is.after flow event new
+          locks (cells_of r.cells)) where
         moved-running : live ≡ live_in (entries ++ record { flow = flow; event = event } ∷ []) (length setup.items)
-            → AreFields meaning (Moved new locks journal live)
+            → AreFields meaning (Moved new locks made live)
         moved-running counted = record {
           given = is.given;
           after = subst (λ (es : List Entry). IsAfter setup (plans_of r) es (slice_set items flow.0 new) locks
@@ -199,14 +188,11 @@ module _ {L : Type 0} (meaning : L → LibraryMeaning) (r : Fields L) (is : AreF
           live = counted ∙ ap (λ (es : List Entry). live_in es (length setup.items)) (sym added);
         }
 
-        pub moved-makes : MakesEvent meaning (state_of r) (state_of (Moved new locks journal live)) flow event
-        moved-makes = record {
-          may = moved.may;
-          new_ = λ i. record (state_of r) { entries = added i; begun = same-begun new begun i };
-        }
+        pub moved-makes : AddsEvent meaning (state_of r) (state_of (Moved new locks made live)) flow event
+        moved-makes = record { may = moved.may; new_ = λ i. record (state_of r) { entries = added i } }
 
         -- an event that is no end
-        pub moved-goes_on : is_end event ≡ false → live ≡ r.live → AreFields meaning (Moved new locks journal live)
+        pub moved-goes_on : is_end event ≡ false → live ≡ r.live → AreFields meaning (Moved new locks made live)
         moved-goes_on no_end same = moved-running (same ∙ is.live ∙ sym
             (live-still entries flow event (length setup.items) no_end))
 
@@ -214,19 +200,18 @@ module _ {L : Type 0} (meaning : L → LibraryMeaning) (r : Fields L) (is : AreF
 
       made-at : (new : Place) → HasPlan (plans_of r) setup.items flow.0
           (λ plan. Advances plan (matches_in setup) place.local new.local) → new.session ≡ place.session
-          → new.begun ≡ place.begun
           → IsMadeAt setup (plans_of r) is.given entries items r.table (cells_of r.cells) is.after flow place new
-      made-at new made session begun = record { made = made; session = session; begun = begun }
+      made-at new made session = record { made = made; session = session }
 
       pub quiet-moved : (new : Place) → HasPlan (plans_of r) setup.items flow.0
           (λ plan. Advances plan (matches_in setup) place.local new.local)
-          → new.session ≡ place.session → new.begun ≡ place.begun → new.stands ≡ place.stands → IsQuiet event
+          → new.session ≡ place.session → new.stands ≡ place.stands → IsQuiet event
           → ((made : CallMade) → event ≡ Call made → ⊥)
           → HasMoved setup (plans_of r) is.given entries items r.table (cells_of r.cells) is.after flow event new
           r.table (cells_of r.cells)
-      quiet-moved new made session begun stands quiet no_call =
+      quiet-moved new made session stands quiet no_call =
           moved-quiet setup (plans_of r) is.given entries items r.table (cells_of r.cells) is.after flow event there new
-          (made-at new made session begun) quiet no_call stands
+          (made-at new made session) quiet no_call stands
 
       -- an event that comes next is no call
       pub no-call : (made : CallMade) → event ≡ Call made → ⊥
@@ -251,15 +236,15 @@ module _ {L : Type 0} (meaning : L → LibraryMeaning) (r : Fields L) (is : AreF
       some-live = let counted = is.live in let some = live-some entries flow.0 (length setup.items) within-items goes-on
           in omega (arith, counted, some)
 
-      pub end-running : (new : Place) (journal : Journal)
-          → journal.entries ≡ entries ++ record { flow = flow; event = event } ∷ [] → new.begun ≡ place.begun
+      pub end-running : (new : Place) (made : List Entry)
+          → made ≡ entries ++ record { flow = flow; event = event } ∷ []
           → HasMoved setup (plans_of r) is.given entries items r.table (cells_of r.cells) is.after flow event new
           r.table (cells_of r.cells)
-          → is_end event ≡ true → AreFields meaning (Moved new r.table journal (r.live - 1))
-      end-running new journal added begun moved is_end_ =
+          → is_end event ≡ true → AreFields meaning (Moved new r.table made (r.live - 1))
+      end-running new made added moved is_end_ =
           let counted = is.live in
           let less = live-less entries flow event (length setup.items) is_end_ within-items goes-on in
-          moved-running new r.table journal (r.live - 1) added begun moved (omega (arith, counted, less))
+          moved-running new r.table made (r.live - 1) added moved (omega (arith, counted, less))
 
     -- ---- takes, waits and drops
 
@@ -279,37 +264,25 @@ module _ {L : Type 0} (meaning : L → LibraryMeaning) (r : Fields L) (is : AreF
 
       pub take-moved : (new : Place) → HasPlan (plans_of r) setup.items flow.0
           (λ plan. Advances plan (matches_in setup) place.local new.local)
-          → new.session ≡ place.session → new.begun ≡ place.begun → new.stands ≡ false
+          → new.session ≡ place.session → new.stands ≡ false
           → ((other : ℕ) → Blocks entries other flow.0 key mode → ⊥)
           → (locks : Locks) → Takes r.table locks flow.0 key mode
           → HasMoved setup (plans_of r) is.given entries items r.table (cells_of r.cells) is.after flow (Take key mode)
           new locks (cells_of r.cells)
-      take-moved new made session begun stands free locks takes =
+      take-moved new made session stands free locks takes =
           moved-take setup (plans_of r) is.given entries items r.table (cells_of r.cells) is.after flow key mode
           (there (Take key mode) coming place read) new
-          (made-at (Take key mode) coming place read new made session begun) stands free locks takes
+          (made-at (Take key mode) coming place read new made session) stands free locks takes
 
       -- nothing changes where a move is refused
-      pub still-running : (locks : Locks) (journal : Journal) → locks ≡ r.table → journal.entries ≡ entries
-          → AreFields meaning (Moved (Take key mode) coming place read place locks journal r.live)
-      still-running locks journal same_locks same_entries = record {
-        given = is.given;
-        after = subst (λ (es : List Entry). IsAfter setup (plans_of r) es (slice_set items flow.0 place) locks
-            (cells_of r.cells)) (sym same_entries)
-            (subst (λ (l : Locks). IsAfter setup (plans_of r) entries (slice_set items flow.0 place) l
-            (cells_of r.cells)) (sym same_locks)
-            (subst (λ (ps : List Place). IsAfter setup (plans_of r) entries ps r.table (cells_of r.cells))
-            (sym (replaced-same items flow.0 place (at-place (Take key mode) coming place read))) is.after));
-        live = is.live ∙ ap (λ (es : List Entry). live_in es (length setup.items)) (sym same_entries);
-      }
+      pub still-running : (locks : Locks) → locks ≡ r.table → AreFields meaning (Moved place locks r.made r.live)
+      still-running = still place (at-place (Take key mode) coming place read)
 
       -- nor where it was undone
-      pub undone-running : place.stands ≡ false → (locks : Locks) (journal : Journal)
-          → IsUndone r.table locks flow.0 key mode → journal.entries ≡ entries
-          → AreFields meaning (Moved (Take key mode) coming place read place locks journal r.live)
-      undone-running idle locks journal (inl same_locks) same_entries =
-          still-running locks journal same_locks same_entries
-      undone-running idle locks journal (inr back) same_entries =
+      pub undone-running : place.stands ≡ false → (locks : Locks) → IsUndone r.table locks flow.0 key mode
+          → AreFields meaning (Moved place locks r.made r.live)
+      undone-running idle locks (inl same_locks) = still-running locks same_locks
+      undone-running idle locks (inr back) =
           let after = is.after in
           let own = own-place (Take key mode) coming place read in
           let nowhere = not_waiting-nowhere entries flow.0 (sym own.stands ∙ idle) in
@@ -317,84 +290,55 @@ module _ {L : Type 0} (meaning : L → LibraryMeaning) (r : Fields L) (is : AreF
           back.gives (nowhere key) in
           record {
             given = is.given;
-            after = subst (λ (es : List Entry). IsAfter setup (plans_of r) es (slice_set items flow.0 place) locks
-                (cells_of r.cells)) (sym same_entries)
-                (subst (λ (ps : List Place). IsAfter setup (plans_of r) entries ps locks (cells_of r.cells))
+            after = subst (λ (ps : List Place). IsAfter setup (plans_of r) entries ps locks (cells_of r.cells))
                 (sym (replaced-same items flow.0 place (at-place (Take key mode) coming place read)))
-                (record { legal = after.legal; places_ = after.places_; table = table; cells_ = after.cells_ }));
-            live = is.live ∙ ap (λ (es : List Entry). live_in es (length setup.items)) (sym same_entries);
+                (record { legal = after.legal; places_ = after.places_; table = table; cells_ = after.cells_ });
+            live = is.live;
           }
 
-      module _ (holder : FlowNo) (lowest : IsLowestOf (λ other. Blocks entries other flow.0 key mode) (Some holder))
-        where
-          pub may-stand : place.stands ≡ false → MayWait (holders_of r.table) (lines_of r.table) flow.0 key
-          may-stand idle =
-              let after = is.after in
-              let own = own-place (Take key mode) coming place read in
-              may-wait setup entries legal r.table after.table flow.0 holder.0 key mode lowest.0 take-next
-              (not_waiting-nowhere entries flow.0 (sym own.stands ∙ idle))
+    module _ (key : Key) (mode : Mode) (may : MayStand setup entries flow key mode) where
+      waits-blocked : (other : ℕ) × Blocks entries other flow.0 key mode
+      waits-blocked =
+          let (other, waits) = may.blocked in
+          let same : Take key mode ≡ Take waits.key waits.mode =
+          next-unique setup entries flow.0 (Take key mode) (Take waits.key waits.mode) may.next waits.next in
+          let ks : waits.key ≡ key = cc in
+          let ms : waits.mode ≡ mode = cc in (
+            other,
+            subst (λ (k : Key). Blocks entries other flow.0 k mode) ks
+                (subst (λ (m : Mode). Blocks entries other flow.0 waits.key m) ms waits.blocked),
+          )
 
-          -- the flow stands there already
-          pub stood-already : place.stands ≡ true → HasWaited meaning (state_of r)
-              (state_of (Moved (Take key mode) coming place read place r.table r.journal r.live)) flow key holder
-          stood-already stands = record {
-            mode = mode;
-            next = take-next;
-            blocked = lowest.0;
-            lowest = lowest.1;
-            noted = inr (by (let own = own-place (Take key mode) coming place read in waiting-stands entries flow.0
-                (sym own.stands ∙ stands)));
-          }
-            where
-              by : StandsAnywhere entries flow.0 → (at : ℕ) × StandsAt entries flow.0 key mode at ×
-                  (state_of (Moved (Take key mode) coming place read place r.table r.journal r.live) ≡ state_of r)
-              by (k, m, at, there_) =
-                  let e : Take key mode ≡ Take k m = stands-next setup entries legal flow.0 (Take key mode) take-next k m
-                  at there_ in
-                  let keys : k ≡ key = cc in
-                  let modes : m ≡ mode = cc in (
-                    at,
-                    subst (λ (x : Mode). StandsAt entries flow.0 key x at) modes
-                        (subst (λ (x : Key). StandsAt entries flow.0 x m at) keys there_),
-                    λ i. record (state_of r) { begun = same-begun (Take key mode) coming place read place refl i },
-                  )
+      pub wait-within : flow.0 < length setup.items
+      wait-within = next-item setup entries flow.0 (Take key mode) may.next
 
-          -- or it stands there now
-          module _ (idle : place.stands ≡ false) (new : Place) (local : new.local ≡ place.local)
-              (session : new.session ≡ place.session) (begun : new.begun ≡ place.begun) (stands : new.stands ≡ true)
-              (locks : Locks) (waits : Waits r.table locks flow key mode) (journal : Journal)
-              (added : journal.entries ≡ entries ++ record { flow = flow; event = Wait key mode } ∷ []) where
-            stood : HasStood setup (plans_of r) is.given entries items r.table (cells_of r.cells) is.after flow key mode
-                new locks
-            stood = moved-wait setup (plans_of r) is.given entries items r.table (cells_of r.cells) is.after flow key mode
-                (there (Take key mode) coming place read) holder.0 lowest.0 new (idle, local, session, begun) stands locks
-                waits
+      pub may-wait-it : MayWait (holders_of r.table) (lines_of r.table) flow.0 key
+      may-wait-it =
+          let after = is.after in
+          let (other, blocks) = waits-blocked in
+          may-wait setup entries legal r.table after.table flow.0 other key mode blocks may.next may.once
 
-            pub stands-running : AreFields meaning (Moved (Take key mode) coming place read new locks journal r.live)
-            stands-running = record {
-              given = is.given;
-              after = subst (λ (es : List Entry). IsAfter setup (plans_of r) es (slice_set items flow.0 new) locks
-                  (cells_of r.cells)) (sym added) stood.holds;
-              live = is.live ∙ sym (live-still entries flow (Wait key mode) (length setup.items) refl) ∙ ap
-                  (λ (es : List Entry). live_in es (length setup.items)) (sym added);
-            }
+      pub wait-refused : (place : Place) → place ≡ get_or items flow.0 place → (locks : Locks) → locks ≡ r.table
+          → AreFields meaning (Moved place locks r.made r.live)
+      wait-refused place read = still place (read-there place wait-within read)
 
-            pub stands-waited : HasWaited meaning (state_of r)
-                (state_of (Moved (Take key mode) coming place read new locks journal r.live)) flow key holder
-            stands-waited = record {
-              mode = mode;
-              next = take-next;
-              blocked = lowest.0;
-              lowest = lowest.1;
-              noted = inl (record {
-                may = stood.may;
-                new_ =
-                    λ i. record (state_of r) {
-                      entries = added i;
-                      begun = same-begun (Take key mode) coming place read new begun i;
-                    };
-              });
-            }
+      module _ (place : Place) (read : place ≡ get_or items flow.0 place) (new : Place) (local : new.local ≡ place.local)
+          (session : new.session ≡ place.session) (stands : new.stands ≡ true) (locks : Locks)
+          (waits : Waits r.table locks flow key mode) (made : List Entry)
+          (added : made ≡ entries ++ record { flow = flow; event = Wait key mode } ∷ []) where
+        pub waits-running : AreFields meaning (Moved new locks made r.live)
+        waits-running = record {
+          given = is.given;
+          after = subst (λ (es : List Entry). IsAfter setup (plans_of r) es (slice_set items flow.0 new) locks
+              (cells_of r.cells)) (sym added)
+              (moved-wait setup (plans_of r) is.given entries items r.table (cells_of r.cells) is.after flow key mode may
+              place (read-there place wait-within read) new local session stands locks waits);
+          live = is.live ∙ sym (live-still entries flow (Wait key mode) (length setup.items) refl) ∙ ap
+              (λ (es : List Entry). live_in es (length setup.items)) (sym added);
+        }
+
+        pub waits-added : AddsWait meaning (state_of r) (state_of (Moved new locks made r.live)) flow key mode
+        waits-added = record { may = may; new_ = λ i. record (state_of r) { entries = added i } }
 
     module _ (key : Key) (coming : IsEventComing setup (plans_of r) items flow.0 (Drop key)) (place : Place)
         (read : place ≡ get_or items flow.0 place) where
@@ -405,11 +349,11 @@ module _ {L : Type 0} (meaning : L → LibraryMeaning) (r : Fields L) (is : AreF
 
       pub drop-moved : (new : Place) → HasPlan (plans_of r) setup.items flow.0
           (λ plan. Advances plan (matches_in setup) place.local new.local)
-          → new.session ≡ place.session → new.begun ≡ place.begun → new.stands ≡ place.stands → (locks : Locks)
+          → new.session ≡ place.session → new.stands ≡ place.stands → (locks : Locks)
           → Releases r.table locks flow.0 key
           → HasMoved setup (plans_of r) is.given entries items r.table (cells_of r.cells) is.after flow (Drop key) new
           locks (cells_of r.cells)
-      drop-moved new made session begun stands locks releases =
+      drop-moved new made session stands locks releases =
           moved-drop setup (plans_of r) is.given entries items r.table (cells_of r.cells) is.after flow key
           (there (Drop key) coming place read) new
-          (made-at (Drop key) coming place read new made session begun) stands locks releases
+          (made-at (Drop key) coming place read new made session) stands locks releases

@@ -1,5 +1,5 @@
--- A core whose flows have done nothing.
-use Rattle.std.proofs.Common.{◌≡◌, ◌<◌, ℕ, zero, suc, List, [], ◌∷◌, ◌++◌, length, map, take, get_or, ◌+◌, Option, Some, None, refl, sym, ap, subst, ◌∙◌, arith}
+-- Flows that have made nothing.
+use Rattle.std.proofs.Common.{◌≡◌, ◌<◌, ℕ, zero, suc, List, [], ◌∷◌, ◌++◌, length, take, get_or, ◌+◌, Option, Some, None, refl, sym, ap, subst, ◌∙◌, arith}
 use Rattle.std.specs.List.{slice_get}
 use Rattle.flux_values.specs.Meanings.{LibraryMeaning}
 use Rattle.flux_library.specs.Libraries.{IsLawful}
@@ -73,14 +73,6 @@ fresh-count meaning p [] (q ∷ places) are = absurd are
 fresh-count meaning p (i ∷ items) [] are = absurd are
 fresh-count meaning p (i ∷ items) (q ∷ places) (own, are) = ap suc (fresh-count meaning p items places are)
 
-pub fresh-begun : (meaning : LibraryMeaning) (p : Program) (items : List Item) (places : List Place)
-    → AreFreshPlaces meaning p items places
-    → map (λ (place : Place). place.begun) places ≡ map (λ (item : Item). None) items
-fresh-begun meaning p [] [] are = refl
-fresh-begun meaning p [] (q ∷ places) are = absurd are
-fresh-begun meaning p (i ∷ items) [] are = absurd are
-fresh-begun meaning p (i ∷ items) (q ∷ places) (own, are) = λ k. own.begun k ∷ fresh-begun meaning p items places are k
-
 fresh-at : (meaning : LibraryMeaning) (p : Program) (items : List Item) (places : List Place)
     → AreFreshPlaces meaning p items places → (flow : ℕ) (place : Place) → slice_get places flow ≡ Some place
     → (item : Item) × (slice_get items flow ≡ Some item) × IsFreshPlace meaning p item place
@@ -120,7 +112,6 @@ module _ (setup : Setup) (plans : List Plan) (given : IsGiven setup plans) where
         is_plan = line-plan setup plans flow has;
         at = subst (λ (p : Position). IsAt setup has.plan [] flow p) (sym own.local) at;
         session = own.session;
-        call = λ inputs begun. absurd (let e : None ≡ Some inputs = sym own.begun ∙ begun in cc);
         stands = own.stands;
       }
 
@@ -161,7 +152,7 @@ opened-given meaning setup plans same lawful may = record {
 }
 
 pub opened-running : {L : Type 0} (meaning : L → LibraryMeaning) (r : Fields L)
-    → IsGiven (setup_at meaning (state_of r)) (plans_of r) → (r.made ≡ [])
+    → IsGiven (setup_at meaning (state_of r)) (plans_of r) → r.made ≡ []
     → (let setup = setup_at meaning (state_of r) in let places =
     r.places in AreFreshPlaces setup.meaning setup.program setup.items places.items) → r.table ≡ []
     → (let setup = r.setup in cells_of r.cells ≡ cells_of setup.opening)

@@ -1,32 +1,31 @@
--- Where a flow is blocked, and who stands at a key, as the fields of a core tell it.
-use Rattle.std.proofs.Common.{◌≡◌, ◌<◌, ℕ, Bool, true, false, List, [], ◌∷◌, length, Option, Some, None, refl, sym, ap, subst, ◌∙◌}
-use Rattle.std.specs.List.{slice_get, Contains}
+-- Where a flow is blocked, and who stands at a key, as the fields of a state tell it.
+use Rattle.std.proofs.Common.{◌≡◌, ◌<◌, ℕ, Bool, true, false, List, [], ◌∷◌, length, Some, refl, sym, subst, ◌∙◌}
+use Rattle.std.specs.List.{slice_get}
+use Rattle.std.specs.Prelude.{MatchBool}
+use Rattle.flux_plan.specs.declared.plans.Plan.{Plan}
 use Rattle.flux_values.specs.declared.answers.Mode.{Mode}
 use Rattle.flux_values.specs.Meanings.{LibraryMeaning}
 use Rattle.flux_model.specs.declared.programs.ClassNo.{ClassNo}
 use Rattle.flux_model.specs.declared.items.FlowNo.{FlowNo}
 use Rattle.flow_model.specs.declared.journals.Key.{Key}
 use Rattle.flow_model.specs.declared.journals.Entry.{Entry}
-use Rattle.flow_model.specs.declared.journals.Event.{Event}
 use Rattle.flow_model.specs.declared.journals.Event.TheVariants.{Take}
 use Rattle.flow_model.specs.Setup.{Setup, item_of}
 use Rattle.flow_model.specs.CellsAfter.{key_for}
-use Rattle.flow_model.specs.Events.{events_by, IsNext}
+use Rattle.flow_model.specs.Events.{IsNext}
 use Rattle.flux_cells.specs.Kept.{cells_of}
-use Rattle.flow_model.specs.Waits.{Blocks, StandsAt}
+use Rattle.flow_model.specs.Waits.{Blocks, StandsAt, IsNoWaitLast}
 use Rattle.flow_model.specs.Legal.{IsLegal}
 use Rattle.flux_plan.specs.declared.locals.Next.{Next}
 use Rattle.flux_plan.specs.declared.locals.Next.TheVariants as nexts
 use Rattle.flux_table.specs.declared.locks.Waiter.{Waiter}
 use Rattle.flux_table.specs.Tables.{lines_of}
 use Rattle.flow_state.specs.declared.places.Place.{Place}
-use Rattle.flow_state.specs.declared.stops.Stop.{Stop}
 use Rattle.flow_state.specs.declared.fields.Fields.{Fields}
 use Rattle.flow_state.specs.States.{setup_at}
-use Rattle.flow_state.specs.Blockers.{IsBlockedAt}
-use Rattle.flow_state.specs.Lines.{IsStop, StandBehind, StandInOrder, IsLineAt}
-use Rattle.flow_state.specs.steps.Places.{ends_waiting, IsPlaceOf, IsComing}
-use Rattle.flow_state.specs.steps.Table.{AreInOrder, IsLine}
+use Rattle.flow_state.specs.Lines.{IsStanding, IsStop, StandInOrder, IsLineAt}
+use Rattle.flow_state.specs.steps.Places.{IsPlaceOf, IsComing}
+use Rattle.flow_state.specs.steps.Table.{AreInOrder}
 use Rattle.flow_state.specs.steps.Fields.{state_of, plans_of, AreFields}
 use Rattle.flow_state.proofs.Asked.{take-is_next}
 use Rattle.flow_state.proofs.Entries.{StandsAnywhere, waiting-stands, not_waiting-last}
@@ -81,7 +80,7 @@ module _ {L : Type 0} (meaning : L → LibraryMeaning) (r : Fields L) (is : AreF
 -- a line of the table is the line at its key
 in-order : (entries : List Entry) (key : Key) (line : List Waiter) → AreInOrder entries key line
     → StandInOrder entries key line
-in-order entries key [] order = tt
+in-order _ key [] order = tt
 in-order entries key (waiter ∷ line) (first, order) = (
   (first.place, first.stands, first.behind),
   in-order entries key
@@ -89,10 +88,22 @@ in-order entries key (waiter ∷ line) (first, order) = (
 )
 
 pub line-is : {L : Type 0} (meaning : L → LibraryMeaning) (r : Fields L) → AreFields meaning r → (key : Key)
-    → (let journal = r.journal in IsLineAt journal.entries key (lines_of r.table key))
+    → IsLineAt r.made key (lines_of r.table key)
 line-is meaning r is key =
     let after = is.after in
     let table = after.table in
     let line = table.lines key in
-    let journal = r.journal in
-    record { all = line.all; order = in-order journal.entries key (lines_of r.table key) line.order }
+    record { all = line.all; order = in-order r.made key (lines_of r.table key) line.order }
+
+-- a place tells whether its flow stands in a line
+pub stands-is : (setup : Setup) (plans : List Plan) (entries : List Entry) (flow : FlowNo) (place : Place)
+    → IsPlaceOf setup plans entries flow.0 place
+    → MatchBool place.stands (IsStanding entries flow.0) (IsNoWaitLast entries flow)
+stands-is _ _ entries flow place own = by place.stands refl
+  where
+    standing : StandsAnywhere entries flow.0 → IsStanding entries flow.0
+    standing (key, mode, at, stands) = record { key = key; mode = mode; place = at; stands = stands }
+
+    by : (b : Bool) → place.stands ≡ b → MatchBool b (IsStanding entries flow.0) (IsNoWaitLast entries flow)
+    by true e = standing (waiting-stands entries flow.0 (sym own.stands ∙ e))
+    by false e = not_waiting-last entries flow (sym own.stands ∙ e)

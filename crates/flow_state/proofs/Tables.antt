@@ -17,7 +17,7 @@ use Rattle.flow_model.specs.Setup.{Setup}
 use Rattle.flux_model.specs.Modes.{conflict, at_least}
 use Rattle.flow_model.specs.Keys.{same_key}
 use Rattle.flow_model.specs.Events.{own_events, IsNext, CallIsNext}
-use Rattle.flow_model.specs.Exclusion.{modes_held, held_after, without_first, holds_against}
+use Rattle.flow_model.specs.Exclusion.{HoldsKey, modes_held, held_after, without_first, holds_against}
 use Rattle.flow_model.specs.Waits.{StandsAt, StandsBefore, Blocks}
 use Rattle.flow_model.specs.Legal.{IsLegal}
 use Rattle.flow_model.proofs.Keys.{key_cases, same_key_itself}
@@ -89,10 +89,26 @@ module _ (setup : Setup) (entries : List Entry) (legal : IsLegal setup entries) 
   module _ (locks : Locks) (is : IsTable entries locks) where
     -- ---- blocking
 
+    pub holds-to : (other : ℕ) (key : Key) (mode : Mode) → HoldsAgainst (holders_of locks key) other mode
+        → holds_against entries other key mode ≡ true
+    holds-to other key mode holds = held-against (modes_held entries other key) holds.their mode
+        (sym (is.holders key other) ∙ holds.holds) holds.against
+
+    pub stands-to : (other flow : ℕ) (key : Key) (mode : Mode)
+        → StandsAgainst (line_before (lines_of locks key) flow) other mode
+        → StandsBefore entries other flow key mode
+    stands-to other flow key mode stands =
+        let (place, there, first) = before-stands entries key (lines_of locks key) (is.lines key) flow
+        (record { flow = record { 0 = other }; mode = stands.their }) stands.stands in
+        record { their = stands.their; place = place; stands = there; against = stands.against; first = first }
+
+    pub free-to : (flow : ℕ) (key : Key) → holders_of locks key flow ≡ None → HoldsKey entries flow key → ⊥
+    free-to flow key free holds = holds (held-none (modes_held entries flow key) (sym (is.holders key flow) ∙ free))
+
     pub blocks-to : (other flow : ℕ) (key : Key) (mode : Mode)
         → table.Blocks (holders_of locks key) (lines_of locks key) other flow mode → Blocks entries other flow key mode
     blocks-to other flow key mode blocks = record {
-      free = λ holds. holds (held-none (modes_held entries flow key) (sym (is.holders key flow) ∙ blocks.free));
+      free = free-to flow key blocks.free;
       apart = blocks.apart;
       cause = by blocks.cause;
     }
@@ -100,39 +116,21 @@ module _ (setup : Setup) (entries : List Entry) (legal : IsLegal setup entries) 
         by : HoldsAgainst (holders_of locks key) other mode ⊎ StandsAgainst (line_before (lines_of locks key) flow)
             other mode
             → (holds_against entries other key mode ≡ true) ⊎ StandsBefore entries other flow key mode
-        by (inl holds) = inl (held-against (modes_held entries other key) holds.their mode
-            (sym (is.holders key other) ∙ holds.holds) holds.against)
-        by (inr stands) =
-            let (place, there, first) = before-stands entries key (lines_of locks key) (is.lines key) flow
-            (record { flow = record { 0 = other }; mode = stands.their }) stands.stands in
-            inr (record {
-              their = stands.their;
-              place = place;
-              stands = there;
-              against = stands.against;
-              first = first;
-            })
+        by (inl holds) = inl (holds-to other key mode holds)
+        by (inr stands) = inr (stands-to other flow key mode stands)
 
-    blocks-from : (other flow : ℕ) (key : Key) (mode : Mode) → IsNext setup entries flow (Take key mode)
-        → Blocks entries other flow key mode
-        → table.Blocks (holders_of locks key) (lines_of locks key) other flow mode
-    blocks-from other flow key mode next blocks = record {
-      free = free;
-      apart = blocks.apart;
-      cause = by blocks.cause;
-    }
+    pub free-from : (flow : ℕ) (key : Key) → (HoldsKey entries flow key → ⊥) → holders_of locks key flow ≡ None
+    free-from flow key free = is.holders key flow ∙ no_modes (modes_held entries flow key) free
       where
         no_modes : (modes : List Mode) → (modes ≢ [] → ⊥) → held_in modes ≡ None
         no_modes [] none = refl
         no_modes (m ∷ modes) none = absurd (none (λ e. cc))
 
-        free : holders_of locks key flow ≡ None
-        free = is.holders key flow ∙ no_modes (modes_held entries flow key) blocks.free
-
-        within : other < length setup.items
-        within = let live = blockers_are_live setup entries legal flow other
-            (record { key = key; mode = mode; next = next; blocked = blocks }) in live.item
-
+    pub holds-from : (other : ℕ) (key : Key) (mode : Mode) → other < length setup.items
+        → holds_against entries other key mode ≡ true → HoldsAgainst (holders_of locks key) other mode
+    holds-from other key mode within = held (modes_held entries other key) (greatest other within key)
+        (is.holders key other)
+      where
         held : (modes : List Mode) → FirstIsGreatest modes → holders_of locks key other ≡ held_in modes
             → list_any (λ m. conflict m mode) modes ≡ true → HoldsAgainst (holders_of locks key) other mode
         held [] most same against = absurd (cc)
@@ -143,17 +141,35 @@ module _ (setup : Setup) (entries : List Entry) (legal : IsLegal setup entries) 
               against = against-held (m ∷ modes) (one_more (held_in modes) m) mode most refl against;
             }
 
+    pub stands-from : (other flow : ℕ) (key : Key) (mode : Mode) → other ≢ flow
+        → StandsBefore entries other flow key mode → StandsAgainst (line_before (lines_of locks key) flow) other mode
+    stands-from other flow key mode apart before = record {
+      their = before.their;
+      stands = stands-before entries key (lines_of locks key) (is.lines key) flow (record { 0 = other })
+          before.their before.place apart before.stands before.first;
+      against = before.against;
+    }
+
+    -- who blocks is a flow
+    pub blocker-within : (other flow : ℕ) (key : Key) (mode : Mode) → IsNext setup entries flow (Take key mode)
+        → Blocks entries other flow key mode → other < length setup.items
+    blocker-within other flow key mode next blocks = let live = blockers_are_live setup entries legal flow other
+        (record { key = key; mode = mode; next = next; blocked = blocks }) in live.item
+
+    blocks-from : (other flow : ℕ) (key : Key) (mode : Mode) → IsNext setup entries flow (Take key mode)
+        → Blocks entries other flow key mode
+        → table.Blocks (holders_of locks key) (lines_of locks key) other flow mode
+    blocks-from other flow key mode next blocks = record {
+      free = free-from flow key blocks.free;
+      apart = blocks.apart;
+      cause = by blocks.cause;
+    }
+      where
         by : (holds_against entries other key mode ≡ true) ⊎ StandsBefore entries other flow key mode
             → HoldsAgainst (holders_of locks key) other mode ⊎ StandsAgainst (line_before (lines_of locks key) flow)
             other mode
-        by (inl against) = inl (held (modes_held entries other key) (greatest other within key) (is.holders key other)
-            against)
-        by (inr before) = inr (record {
-          their = before.their;
-          stands = stands-before entries key (lines_of locks key) (is.lines key) flow (record { 0 = other })
-              before.their before.place blocks.apart before.stands before.first;
-          against = before.against;
-        })
+        by (inl against) = inl (holds-from other key mode (blocker-within other flow key mode next blocks) against)
+        by (inr before) = inr (stands-from other flow key mode blocks.apart before)
 
     -- the lowest flow that blocks is the lowest
     pub lowest-blocks : (flow : ℕ) (key : Key) (mode : Mode) → IsNext setup entries flow (Take key mode)

@@ -1,6 +1,6 @@
 //! Calls that are made, with their answers.
 
-ghost use Rattle.std.specs.Prelude.{◌≡◌, [], OnOk, OnErr};
+ghost use Rattle.std.specs.Prelude.{◌≡◌, ◌<◌, [], length, OnOk, OnErr};
 ghost use Rattle.std.specs.Arc.{arc_value};
 ghost use Rattle.flux_plan.specs.declared.locals.Next.TheVariants as nexts;
 ghost use Rattle.flow_state.specs.States.{setup_at};
@@ -20,6 +20,7 @@ impl<L: Library> Fields<L> {
     /// Makes the call that comes next for a flow.
     pub fn answer(&mut self, flow: FlowNo, inputs: &Inputs, answer: &Answer) -> Result<(), Memory>
         requires fields { AreFields L.meaning self.old }
+        requires flow { flow.0 < length self.old.setup.items }
         requires next { IsNextCall (setup_at L.meaning (state_of self.old)) self.old.made flow.0
             inputs.now }
         requires right { IsAnswerOf (L.meaning (arc_value self.old.setup.library))
@@ -42,6 +43,7 @@ impl<L: Library> Fields<L> {
     /// The same for an answer without puts.
     fn answer_alone(&mut self, flow: FlowNo, inputs: &Inputs, answer: &Answer) -> Result<(), Memory>
         requires fields { AreFields L.meaning self.old }
+        requires flow { flow.0 < length self.old.setup.items }
         requires next { IsNextCall (setup_at L.meaning (state_of self.old)) self.old.made flow.0
             inputs.now }
         requires coming { IsComing (setup_at L.meaning (state_of self.old)) (plans_of self.old)
@@ -68,6 +70,7 @@ impl<L: Library> Fields<L> {
         answer: &Answer,
     ) -> Result<(), Memory>
         requires fields { AreFields L.meaning self.old }
+        requires flow { flow.0 < length self.old.setup.items }
         requires next { IsNextCall (setup_at L.meaning (state_of self.old)) self.old.made flow.0
             inputs.now }
         requires coming { IsComing (setup_at L.meaning (state_of self.old)) (plans_of self.old)

@@ -22,6 +22,7 @@ mod starts;
 mod states;
 mod stops;
 mod takes;
+mod tales;
 mod turns;
 
 pub use coming::Coming;

@@ -3,49 +3,15 @@
 ghost use Rattle.std.specs.Prelude.{◌≡◌, [], ◌∷◌, ◌++◌};
 ghost use Rattle.flow_model.specs.declared.journals.Event.TheVariants as events;
 ghost use Rattle.flow_state.specs.Calls.{made_of};
-ghost use Rattle.flow_state.specs.steps.Made.{told};
+ghost use Rattle.flow_state.specs.steps.Tales.{told};
 
 use crate::inputs::Inputs;
+use crate::tales::{Last, Tale};
 use flow_model::Entry;
-use flux_model::{FlowNo, NodeNo};
-use flux_values::{Answer, List, Value};
+use flux_model::FlowNo;
+use flux_values::Answer;
 use std::marker::Model;
 use std::snapshot::Snapshot;
-
-/// The last of some entries, with those before it.
-#[cycle(tale)]
-#[derive(Drop)]
-enum Last {
-    Nothing,
-    Entry(Snapshot<Tale>, Snapshot<Entry>),
-    Call(Snapshot<Tale>, FlowNo, NodeNo, Snapshot<List<Value>>, Snapshot<Answer>),
-}
-
-/// Some entries, by their last one.
-#[cycle(tale)]
-#[derive(Drop)]
-struct Tale {
-    last: Last,
-}
-
-impl Model for Tale {
-    ghost use Rattle.std.specs.Prelude.{List, length};
-    ghost use Rattle.std.proofs.Common.{arith, length-append};
-    ghost use Rattle.flow_model.specs.declared.journals.Entry.{Entry};
-    ghost use Rattle.flow_model.specs.contracts.journals.Entry as entry;
-    ghost use Rattle.std.specs.Coded.{coded_list};
-    ghost use Rattle.flow_state.specs.steps.Made.{told};
-
-    ghost Value = { List Entry };
-
-    ghost coded = { coded_list entry.the_row.coded };
-
-    ghost view = { λ t. told t.last };
-
-    ghost size = { length };
-
-    ghost size_decreases = { λ a h. Prim.grind (arith, length-append) };
-}
 
 /// The entries that were made, seen as their list.
 #[derive(Drop)]

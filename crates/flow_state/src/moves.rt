@@ -1,6 +1,6 @@
 //! The moves of flows, on the fields of a state.
 
-ghost use Rattle.std.specs.Prelude.{◌≡◌, ℕ, false, OnOk, OnErr, Some, slice_get};
+ghost use Rattle.std.specs.Prelude.{◌≡◌, ◌<◌, ℕ, false, length, OnOk, OnErr, Some, slice_get};
 ghost use Rattle.flow_model.specs.declared.journals.Event.TheVariants as events;
 ghost use Rattle.flow_model.specs.Waits.{Blocks};
 ghost use Rattle.flow_state.specs.declared.places.Place.{Place};
@@ -151,6 +151,7 @@ impl<L: Library> Fields<L> {
     /// Lets a flow stand at the key of its next take.
     pub fn wait(&mut self, flow: FlowNo, key: Key, mode: Mode) -> Result<(), Memory>
         requires fields { AreFields L.meaning self.old }
+        requires flow { flow.0 < length self.old.setup.items }
         requires may { MayStand (setup_at L.meaning (state_of self.old)) self.old.made flow key mode }
         ensures fields { AreFields L.meaning self.new }
         ensures ok { OnOk result

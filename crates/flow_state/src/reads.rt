@@ -7,7 +7,7 @@ ghost use Rattle.flux_plan.specs.declared.locals.Next.TheVariants as nexts;
 ghost use Rattle.flux_laws.specs.Going.{IsAtCall};
 ghost use Rattle.flux_cells.specs.Kept.{cells_of};
 ghost use Rattle.flow_state.specs.States.{setup_at};
-ghost use Rattle.flow_state.specs.Calls.{IsNextCall};
+ghost use Rattle.flow_state.specs.Calls.{IsReady, IsNextCall};
 ghost use Rattle.flow_state.specs.steps.Places.{IsComing};
 ghost use Rattle.flow_state.specs.steps.Reads.{IsKnown, IsGuarded, IsSigOf, AreRead, AreKeys};
 ghost use Rattle.flow_state.specs.steps.Fields.{state_of, plans_of, AreFields};
@@ -81,8 +81,12 @@ impl<L: Library> Fields<L> {
     /// What the call that comes next for a flow is given.
     pub fn inputs(&self, flow: FlowNo) -> Result<Inputs, Memory>
         requires fields { AreFields L.meaning self.now }
+        requires flow { flow.0 < length self.now.setup.items }
         requires at { IsAtCall (setup_at L.meaning (state_of self.now)) self.now.made flow.0 }
-        ensures { IfOk result (IsNextCall (setup_at L.meaning (state_of self.now)) self.now.made flow.0) }
+        ensures next { IfOk result
+            (IsNextCall (setup_at L.meaning (state_of self.now)) self.now.made flow.0) }
+        ensures ready { IfOk result (IsReady (L.meaning (arc_value self.now.setup.library))
+            (arc_value self.now.setup.program)) }
     {
         let Next::Call(node) = self.next(flow) else {
             unreachable!()

@@ -12,7 +12,7 @@ ghost use Rattle.flux_laws.specs.Moves.{MayStand};
 ghost use Rattle.flux_table.specs.Blockers.{IsLowestOf};
 ghost use Rattle.flux_cells.specs.Kept.{cells_of};
 ghost use Rattle.flow_state.specs.States.{setup_of, setup_at, live_at, MayRun, IsLegalState};
-ghost use Rattle.flow_state.specs.Calls.{IsNextCall, IsAnswerOf, made_of};
+ghost use Rattle.flow_state.specs.Calls.{IsReady, IsNextCall, IsAnswerOf, made_of};
 ghost use Rattle.flow_state.specs.Coming.{Comes};
 ghost use Rattle.flow_state.specs.Blockers.{IsHeldBy, IsAhead, IsBlockedAt};
 ghost use Rattle.flow_state.specs.Lines.{IsStop, IsStanding, IsLineAt};
@@ -68,7 +68,9 @@ impl<L: Library> State<L> {
     /// What a state keeps at every moment.
     pub fn keep(&self)
         ensures { IsLegalState L.meaning self.now }
-    {}
+    {
+        let _ = &self.fields;
+    }
 
     /// What it was made of.
     pub fn setup(&self) -> &Setup<L>
@@ -220,7 +222,8 @@ impl<L: Library> State<L> {
     /// What the call that comes next for a flow is given.
     pub fn inputs(&self, flow: FlowNo) -> Result<Inputs, Memory>
         requires { IsAtCall (setup_at L.meaning self.now) self.now.entries flow.0 }
-        ensures { IfOk result (IsNextCall (setup_at L.meaning self.now) self.now.entries flow.0) }
+        ensures next { IfOk result (IsNextCall (setup_at L.meaning self.now) self.now.entries flow.0) }
+        ensures ready { IfOk result (IsReady (L.meaning self.now.setup.library) self.now.setup.program) }
     {
         self.fields.inputs(flow)
     }

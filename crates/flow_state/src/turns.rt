@@ -1,6 +1,6 @@
 //! A flow's next event, whichever it is.
 
-ghost use Rattle.std.specs.Prelude.{◌≡◌, OnOk, OnErr};
+ghost use Rattle.std.specs.Prelude.{◌≡◌, ◌<◌, length, OnOk, OnErr};
 ghost use Rattle.flow_state.specs.States.{setup_at};
 ghost use Rattle.flow_state.specs.Moves.{MayMake, Makes};
 ghost use Rattle.flow_state.specs.steps.Fields.{state_of, AreFields};
@@ -16,6 +16,7 @@ impl<L: Library> Fields<L> {
     /// Makes a flow's next event.
     pub fn make(&mut self, flow: FlowNo) -> Result<(), Memory>
         requires fields { AreFields L.meaning self.old }
+        requires flow { flow.0 < length self.old.setup.items }
         requires may { MayMake (setup_at L.meaning (state_of self.old)) self.old.made flow }
         ensures fields { AreFields L.meaning self.new }
         ensures ok { OnOk result (Makes L.meaning (state_of self.old) (state_of self.new) flow) }

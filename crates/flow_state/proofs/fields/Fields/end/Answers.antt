@@ -4,8 +4,8 @@ use Rattle.flow_state.specs.declared.places.Place.{Place}
 use Rattle.flow_state.proofs.OnFields.{may-advance, quiet-moved, no-call, moved-makes, end-running, some-live}
 use Rattle.flow_state.proofs.fields.Fields.end.Goals as goal
 
-pub make-requires : goal.make-requires
-make-requires g c =
+pub advance-requires : goal.advance-requires
+advance-requires g c =
     may-advance g.L.Meaning.meaning c.args.self.now c.requires.fields c.args.flow (events.End c.args.outcome)
     c.requires.coming c.index_mut-place.result.now c.index_mut-place.ensures.value
 
@@ -19,16 +19,11 @@ returns-clause-fields g c =
     let r = c.args.self.now in
     let place = c.index_mut-place.result.now in
     let read = c.index_mut-place.ensures.value in
-    let new : Place = record {
-      local = c.make.new.local;
-      session = place.session;
-      begun = place.begun;
-      stands = place.stands;
-    } in
+    let new : Place = record { local = c.advance.new.local; session = place.session; stands = place.stands } in
     end-running g.L.Meaning.meaning r c.requires.fields c.args.flow (events.End c.args.outcome) c.requires.coming place
-    read new c.make.new.journal c.in_ok-make.ensures.added refl
+    read new c.add.new.self c.add.ensures
     (quiet-moved g.L.Meaning.meaning r c.requires.fields c.args.flow (events.End c.args.outcome) c.requires.coming place
-    read new c.in_ok-make.ensures.made refl refl refl tt
+    read new c.in_ok-advance.ensures.ok refl refl tt
     (no-call g.L.Meaning.meaning r c.requires.fields c.args.flow (events.End c.args.outcome) c.requires.coming place
     read))
     refl
@@ -38,15 +33,10 @@ returns-clause-ok g c =
     let r = c.args.self.now in
     let place = c.index_mut-place.result.now in
     let read = c.index_mut-place.ensures.value in
-    let new : Place = record {
-      local = c.make.new.local;
-      session = place.session;
-      begun = place.begun;
-      stands = place.stands;
-    } in
+    let new : Place = record { local = c.advance.new.local; session = place.session; stands = place.stands } in
     moved-makes g.L.Meaning.meaning r c.requires.fields c.args.flow (events.End c.args.outcome) c.requires.coming place
-    read new r.table c.make.new.journal (r.live - 1) c.in_ok-make.ensures.added refl
+    read new r.table c.add.new.self (r.live - 1) c.add.ensures
     (quiet-moved g.L.Meaning.meaning r c.requires.fields c.args.flow (events.End c.args.outcome) c.requires.coming place
-    read new c.in_ok-make.ensures.made refl refl refl tt
+    read new c.in_ok-advance.ensures.ok refl refl tt
     (no-call g.L.Meaning.meaning r c.requires.fields c.args.flow (events.End c.args.outcome) c.requires.coming place
     read))

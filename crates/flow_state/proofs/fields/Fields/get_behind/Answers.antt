@@ -24,23 +24,18 @@ pub returns-in_err-take-clause-fields : goal.returns-in_err-take-clause-fields
 returns-in_err-take-clause-fields g c =
     still-running g.L.Meaning.meaning c.args.self.now c.requires.fields c.args.flow c.args.key c.args.mode
     c.requires.coming c.index_mut-place.result.now c.index_mut-place.ensures.value
-    c.take.new.table c.take.new.journal c.in_err-take.ensures.still c.in_err-take.ensures.same
+    c.take.new.table c.in_err-take.ensures.still
 
 pub returns-clause-fields : goal.returns-clause-fields
 returns-clause-fields g c =
     let r = c.args.self.now in
     let place = c.index_mut-place.result.now in
     let read = c.index_mut-place.ensures.value in
-    let new : Place = record {
-      local = c.advance.new.local;
-      session = place.session;
-      begun = place.begun;
-      stands = false;
-    } in
+    let new : Place = record { local = c.advance.new.local; session = place.session; stands = false } in
     moved-goes_on g.L.Meaning.meaning r c.requires.fields c.args.flow (events.Take c.args.key c.args.mode)
-    c.requires.coming place read new c.take.new.table c.take.new.journal r.live c.in_ok-take.ensures.added refl
+    c.requires.coming place read new c.take.new.table c.add.new.self r.live c.add.ensures
     (take-moved g.L.Meaning.meaning r c.requires.fields c.args.flow c.args.key c.args.mode c.requires.coming place read
-    new (rw c.in_ok-ahead.ensures at c.in_ok-advance.ensures.ok) refl refl refl
+    new (rw c.in_ok-ahead.ensures at c.in_ok-advance.ensures.ok) refl refl
     c.requires.free c.take.new.table c.in_ok-take.ensures.takes)
     refl refl
 
@@ -49,14 +44,9 @@ returns-clause-ok g c =
     let r = c.args.self.now in
     let place = c.index_mut-place.result.now in
     let read = c.index_mut-place.ensures.value in
-    let new : Place = record {
-      local = c.advance.new.local;
-      session = place.session;
-      begun = place.begun;
-      stands = false;
-    } in
+    let new : Place = record { local = c.advance.new.local; session = place.session; stands = false } in
     moved-makes g.L.Meaning.meaning r c.requires.fields c.args.flow (events.Take c.args.key c.args.mode)
-    c.requires.coming place read new c.take.new.table c.take.new.journal r.live c.in_ok-take.ensures.added refl
+    c.requires.coming place read new c.take.new.table c.add.new.self r.live c.add.ensures
     (take-moved g.L.Meaning.meaning r c.requires.fields c.args.flow c.args.key c.args.mode c.requires.coming place read
-    new (rw c.in_ok-ahead.ensures at c.in_ok-advance.ensures.ok) refl refl refl
+    new (rw c.in_ok-ahead.ensures at c.in_ok-advance.ensures.ok) refl refl
     c.requires.free c.take.new.table c.in_ok-take.ensures.takes)

@@ -29,7 +29,7 @@ returns-in_err-take_on-clause-fields g c =
     rw c.in_err-take_on.ensures.still
     (undone-running g.L.Meaning.meaning r c.requires.fields c.args.flow c.args.key c.args.mode c.requires.coming place
     read idle
-    c.take_on.new.table c.take_on.new.journal c.in_err-take_on.ensures.undone c.in_err-take_on.ensures.same)
+    c.take_on.new.table c.in_err-take_on.ensures.undone)
 
 pub returns-clause-fields : goal.returns-clause-fields
 returns-clause-fields g c =
@@ -38,17 +38,11 @@ returns-clause-fields g c =
     let read = c.index_mut-place.ensures.value in
     let idle = c.requires.idle place (at-place g.L.Meaning.meaning r c.requires.fields c.args.flow
     (events.Take c.args.key c.args.mode) c.requires.coming place read) in
-    let new : Place = record {
-      local = c.take_on.new.local;
-      session = place.session;
-      begun = place.begun;
-      stands = place.stands;
-    } in
+    let new : Place = record { local = c.take_on.new.local; session = place.session; stands = place.stands } in
     moved-goes_on g.L.Meaning.meaning r c.requires.fields c.args.flow (events.Take c.args.key c.args.mode)
-    c.requires.coming place read new c.take_on.new.table c.take_on.new.journal r.live c.in_ok-take_on.ensures.added
-    refl
+    c.requires.coming place read new c.take_on.new.table c.add.new.self r.live c.add.ensures
     (take-moved g.L.Meaning.meaning r c.requires.fields c.args.flow c.args.key c.args.mode c.requires.coming place read
-    new c.in_ok-take_on.ensures.made refl refl idle
+    new c.in_ok-take_on.ensures.made refl idle
     c.requires.free c.take_on.new.table c.in_ok-take_on.ensures.takes)
     refl refl
 
@@ -59,15 +53,9 @@ returns-clause-ok g c =
     let read = c.index_mut-place.ensures.value in
     let idle = c.requires.idle place (at-place g.L.Meaning.meaning r c.requires.fields c.args.flow
     (events.Take c.args.key c.args.mode) c.requires.coming place read) in
-    let new : Place = record {
-      local = c.take_on.new.local;
-      session = place.session;
-      begun = place.begun;
-      stands = place.stands;
-    } in
+    let new : Place = record { local = c.take_on.new.local; session = place.session; stands = place.stands } in
     moved-makes g.L.Meaning.meaning r c.requires.fields c.args.flow (events.Take c.args.key c.args.mode)
-    c.requires.coming place read new c.take_on.new.table c.take_on.new.journal r.live c.in_ok-take_on.ensures.added
-    refl
+    c.requires.coming place read new c.take_on.new.table c.add.new.self r.live c.add.ensures
     (take-moved g.L.Meaning.meaning r c.requires.fields c.args.flow c.args.key c.args.mode c.requires.coming place read
-    new c.in_ok-take_on.ensures.made refl refl idle
+    new c.in_ok-take_on.ensures.made refl idle
     c.requires.free c.take_on.new.table c.in_ok-take_on.ensures.takes)

@@ -3,8 +3,8 @@ use Rattle.flow_state.specs.declared.places.Place.{Place}
 use Rattle.flow_state.proofs.OnFields.{may-advance, quiet-moved, no-call, moved-makes, moved-goes_on}
 use Rattle.flow_state.proofs.fields.Fields.go.Goals as goal
 
-pub make-requires : goal.make-requires
-make-requires g c =
+pub advance-requires : goal.advance-requires
+advance-requires g c =
     may-advance g.L.Meaning.meaning c.args.self.now c.requires.fields c.args.flow c.args.event c.requires.coming
     c.index_mut-place.result.now c.index_mut-place.ensures.value
 
@@ -13,16 +13,11 @@ returns-clause-fields g c =
     let r = c.args.self.now in
     let place = c.index_mut-place.result.now in
     let read = c.index_mut-place.ensures.value in
-    let new : Place = record {
-      local = c.make.new.local;
-      session = place.session;
-      begun = place.begun;
-      stands = place.stands;
-    } in
+    let new : Place = record { local = c.advance.new.local; session = place.session; stands = place.stands } in
     moved-goes_on g.L.Meaning.meaning r c.requires.fields c.args.flow c.args.event c.requires.coming place read new
-    r.table c.make.new.journal r.live c.in_ok-make.ensures.added refl
+    r.table c.add.new.self r.live c.add.ensures
     (quiet-moved g.L.Meaning.meaning r c.requires.fields c.args.flow c.args.event c.requires.coming place read new
-    c.in_ok-make.ensures.made refl refl refl c.requires.quiet
+    c.in_ok-advance.ensures.ok refl refl c.requires.quiet
     (no-call g.L.Meaning.meaning r c.requires.fields c.args.flow c.args.event c.requires.coming place read))
     c.requires.goes_on refl
 
@@ -31,14 +26,9 @@ returns-clause-ok g c =
     let r = c.args.self.now in
     let place = c.index_mut-place.result.now in
     let read = c.index_mut-place.ensures.value in
-    let new : Place = record {
-      local = c.make.new.local;
-      session = place.session;
-      begun = place.begun;
-      stands = place.stands;
-    } in
+    let new : Place = record { local = c.advance.new.local; session = place.session; stands = place.stands } in
     moved-makes g.L.Meaning.meaning r c.requires.fields c.args.flow c.args.event c.requires.coming place read new
-    r.table c.make.new.journal r.live c.in_ok-make.ensures.added refl
+    r.table c.add.new.self r.live c.add.ensures
     (quiet-moved g.L.Meaning.meaning r c.requires.fields c.args.flow c.args.event c.requires.coming place read new
-    c.in_ok-make.ensures.made refl refl refl c.requires.quiet
+    c.in_ok-advance.ensures.ok refl refl c.requires.quiet
     (no-call g.L.Meaning.meaning r c.requires.fields c.args.flow c.args.event c.requires.coming place read))

@@ -4,7 +4,8 @@ use Rattle.flux_model.specs.declared.programs.Hold.{Hold}
 use Rattle.flux_model.specs.Locks.{declared}
 use Rattle.flow_state.specs.steps.Places.{key_in}
 use Rattle.flow_state.proofs.OnFields.{read-there}
-use Rattle.flow_state.proofs.Called.{known-next, known-some, keys-right}
+use Rattle.flow_state.proofs.Called.{known-next, keys-right}
+use Rattle.flow_state.proofs.Fitting.{known-some}
 use Rattle.flow_state.proofs.fields.Fields.keys.Goals as goal
 
 pub declared_of-declared-requires : goal.declared_of-declared-requires

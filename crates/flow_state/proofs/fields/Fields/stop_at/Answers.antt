@@ -1,7 +1,7 @@
-use Rattle.std.proofs.Common.{refl, None, Some, sym}
+use Rattle.std.proofs.Common.{refl, None, Some}
 use Rattle.flow_state.proofs.Asked.{not-taking, asks-rightly, lowest-is, none-blocked}
 use Rattle.flow_state.proofs.OnFields.{read-at, within-places}
-use Rattle.flow_state.proofs.Stops.{stop-is}
+use Rattle.flow_state.proofs.Stopped.{stop-is}
 use Rattle.flow_state.proofs.fields.Fields.stop_at.Goals as goal
 
 pub returns-in_default : goal.returns-in_default

@@ -2,8 +2,8 @@
 use Rattle.std.specs.Prelude.{List, [], ◌∷◌, ◌++◌}
 use Rattle.flow_model.specs.declared.journals.Entry.{Entry}
 use Rattle.flow_model.specs.declared.journals.Event.TheVariants.{Call}
-use Rattle.flow_state.specs.declared.made.Last.{Last}
-use Rattle.flow_state.specs.declared.made.Last.TheVariants as lasts
+use Rattle.flow_state.specs.declared.tales.Last.{Last}
+use Rattle.flow_state.specs.declared.tales.Last.TheVariants as lasts
 
 -- the entries of the tale before the last one, and that one
 abbrev pub told : Last → List Entry

@@ -1,0 +1,109 @@
+//! The moves of a core but for calls: each is made, and written into the journal.
+
+ghost use Rattle.std.specs.Prelude.{◌≡◌, ◌<◌, length, IfOk, OnErr};
+ghost use Rattle.flow_model.specs.declared.journals.Event.TheVariants as events;
+ghost use Rattle.flow_model.specs.Events.{IsNext};
+ghost use Rattle.flow_model.specs.Waits.{Blocks};
+ghost use Rattle.flux_laws.specs.Moves.{MayStep};
+ghost use Rattle.flux_table.specs.Blockers.{IsLowestOf};
+ghost use Rattle.std.specs.declared.option.Option.TheVariants.{Some};
+ghost use Rattle.flow_core.specs.States.{setup_in};
+ghost use Rattle.flow_core.specs.Moves.{HasStepped};
+ghost use Rattle.flow_core.specs.steps.Fields.{core_of, AreFields};
+
+use crate::cores::Step;
+use crate::fields::{Fields, take_back, write};
+use flow_model::{Entry, Event, Key};
+use flow_state::Coming;
+use flux_library::Library;
+use flux_model::{FlowNo, Mode};
+use flux_values::Memory;
+
+impl<L: Library> Fields<L> {
+    /// Makes a flow's next event.
+    fn go(&mut self, flow: FlowNo, event: Event) -> Result<Step<L>, Memory>
+        requires fields { AreFields L.meaning self.old }
+        requires may { MayStep (setup_in L.meaning (core_of self.old)) self.old.state.entries flow event }
+        ensures fields { AreFields L.meaning self.new }
+        ensures ok { IfOk result (HasStepped L.meaning (core_of self.old) (core_of self.new) flow) }
+        ensures err { OnErr result (core_of self.new ≡ core_of self.old) }
+    {
+        write(&mut self.journal, Entry { flow, event })?;
+        match self.state.make(flow) {
+            Ok(()) => Ok(Step::Went),
+            Err(memory) => {
+                take_back(&mut self.journal);
+                Err(memory)
+            }
+        }
+    }
+
+    /// Lets a flow stand at the key of its next take, which others block, unless it stands there.
+    fn wait(
+        &mut self,
+        flow: FlowNo,
+        key: Key,
+        mode: Mode,
+        holder: FlowNo,
+    ) -> Result<Step<L>, Memory>
+        requires fields { AreFields L.meaning self.old }
+        requires next { IsNext (setup_in L.meaning (core_of self.old)) self.old.state.entries flow.0
+            (events.Take key mode) }
+        requires blocked { IsLowestOf
+            (λ other. Blocks self.old.state.entries other flow.0 key mode) (Some holder) }
+        ensures fields { AreFields L.meaning self.new }
+        ensures ok { IfOk result (HasStepped L.meaning (core_of self.old) (core_of self.new) flow) }
+        ensures err { OnErr result (core_of self.new ≡ core_of self.old) }
+    {
+        if self.state.stands(flow) {
+            return Ok(Step::Waits { key, holder });
+        }
+        let event = Event::Wait(key, mode);
+        write(&mut self.journal, Entry { flow, event })?;
+        match self.state.wait(flow, key, mode) {
+            Ok(()) => Ok(Step::Waits { key, holder }),
+            Err(memory) => {
+                take_back(&mut self.journal);
+                Err(memory)
+            }
+        }
+    }
+
+    /// Lets a flow take a key, or wait for it.
+    fn take(&mut self, flow: FlowNo, key: Key, mode: Mode) -> Result<Step<L>, Memory>
+        requires fields { AreFields L.meaning self.old }
+        requires next { IsNext (setup_in L.meaning (core_of self.old)) self.old.state.entries flow.0
+            (events.Take key mode) }
+        ensures fields { AreFields L.meaning self.new }
+        ensures ok { IfOk result (HasStepped L.meaning (core_of self.old) (core_of self.new) flow) }
+        ensures err { OnErr result (core_of self.new ≡ core_of self.old) }
+    {
+        match self.state.blocker(flow, key, mode) {
+            Some(holder) => self.wait(flow, key, mode, holder),
+            None => self.go(flow, Event::Take(key, mode)),
+        }
+    }
+
+    /// Lets a flow do what comes next.
+    pub fn step(&mut self, flow: FlowNo) -> Result<Step<L>, Memory>
+        requires fields { AreFields L.meaning self.old }
+        requires flow { flow.0 < length self.old.state.setup.items }
+        ensures fields { AreFields L.meaning self.new }
+        ensures ok { IfOk result (HasStepped L.meaning (core_of self.old) (core_of self.new) flow) }
+        ensures err { OnErr result (core_of self.new ≡ core_of self.old) }
+    {
+        if self.begun[flow.0 as usize].is_some() {
+            return Ok(Step::Calling);
+        }
+        match self.state.next(flow) {
+            Coming::Ended => Ok(Step::Ended),
+            Coming::Call(_) => Ok(Step::Job(self.begin(flow)?)),
+            Coming::Take(key, mode) => self.take(flow, key, mode),
+            Coming::Enter(node) => self.go(flow, Event::Enter(node)),
+            Coming::Choose(number) => self.go(flow, Event::Choose(number)),
+            Coming::Exit(node, outcome) => self.go(flow, Event::Exit(node, outcome)),
+            Coming::Drop(key) => self.go(flow, Event::Drop(key)),
+            Coming::End(outcome) => self.go(flow, Event::End(outcome)),
+        }
+    }
+}
