@@ -1,7 +1,8 @@
 -- What is found of an entry and of a line.
-use Rattle.std.proofs.Common.{◌≡◌, ◌<◌, ◌≤◌, ◌⊎◌, inl, inr, ℕ, List, [], ◌∷◌, ◌++◌, length, Some, None, refl, sym, ap, subst, ◌∙◌, arith}
+use Rattle.std.proofs.Common.{◌≡◌, ◌<◌, ◌≤◌, ◌⊎◌, inl, inr, ℕ, Bool, true, false, List, [], ◌∷◌, ◌++◌, length, Option, Some, None, Result, Ok, Err, IfOk, is_some, refl, sym, ap, subst, ◌∙◌, arith}
 use Rattle.std.proofs.lemmas.Bool.{cases_order}
 use Rattle.std.specs.List.{slice_get}
+use Rattle.flux_values.specs.Meanings.{LibraryMeaning}
 use Rattle.flux_values.specs.declared.values.Value.{Value}
 use Rattle.flux_values.specs.declared.answers.Answer.{Answer}
 use Rattle.flux_values.specs.declared.answers.Mode.{Mode}
@@ -18,21 +19,27 @@ use Rattle.flow_model.specs.declared.journals.Event.{Event}
 use Rattle.flow_model.specs.declared.journals.Event.TheVariants as events
 use Rattle.flow_model.specs.Setup.{Setup}
 use Rattle.flow_model.specs.Keys.{Cells}
-use Rattle.flow_model.specs.Answers.{IsNodeAnswer}
+use Rattle.flow_model.specs.CellsAfter.{cells_after}
+use Rattle.flow_model.specs.Answers.{IsBodyAnswer, IsNodeAnswer}
+use Rattle.flux_table.specs.Blockers.{IsLowestOf}
 use Rattle.flow_model.specs.Events.{IsNext, CallIsNext}
 use Rattle.flow_model.specs.Waits.{IsNoWaitLast}
 use Rattle.flux_journal.specs.Spelled.{IsEntryLine}
 use Rattle.flow_state.specs.declared.coming.Coming.{Coming}
 use Rattle.flow_state.specs.declared.coming.Coming.TheVariants.{Take, Enter, Choose, Call, Exit, Drop, End, Ended}
 use Rattle.flow_state.specs.Coming.{event_of, IsComing, Comes}
+use Rattle.flow_state.specs.declared.inputs.Inputs.{Inputs}
+use Rattle.flow_state.specs.States.{FlowState, setup_at}
+use Rattle.flow_state.specs.Calls.{IsAnswerOf, IsNextCall, made_of}
 use Rattle.flow_state.specs.Blockers.{IsHeldBy, IsAhead}
-use Rattle.flow_state.specs.Moves.{MayMake}
+use Rattle.flow_state.specs.Moves.{MayMake, Makes, with_entry}
+use Rattle.flow_state.proofs.Agreeing.{answers-agree}
 use Rattle.flux_audit.specs.declared.verdicts.Rule.{Rule}
 use Rattle.flux_audit.specs.declared.verdicts.Rule.TheVariants as rules
 use Rattle.flux_audit.specs.Rules.{IsOnPath, IsAnswered, IsHeld, IsOutOfTurn, HasCause, Keeps, Breaks}
 use Rattle.flux_audit.specs.Verdicts.{SpellsBroken, LineBreaks, rank}
 use Rattle.flux_audit.specs.steps.Lines.{IsFirstOfLine}
-use Rattle.flux_audit.specs.steps.Checks.{IsPlain, IsFirstOfEntry}
+use Rattle.flux_audit.specs.steps.Checks.{IsPlain, IsFirstOfEntry, IsChecked, IsLineChecked}
 use Rattle.flux_audit.proofs.Keeping.{next_once, free_by}
 use Rattle.flux_audit.proofs.Passing.{line_keeps_one}
 
@@ -245,24 +252,24 @@ module _ (setup : Setup) (before : List Entry) (flow : FlowNo) where
 
 -- ---- answers
 
--- a call has one right answer
-pub answer_once : (setup : Setup) (flow : ℕ) (cells : Cells) (node : NodeNo) (args : List Value) (a b : Answer)
-    → IsNodeAnswer setup flow cells (slice_get setup.program.nodes node.0) (record { node = node; args = args; answer = a })
-    → IsNodeAnswer setup flow cells (slice_get setup.program.nodes node.0) (record { node = node; args = args; answer = b })
-    → a ≡ b
-answer_once setup flow cells node args a b = by (slice_get setup.program.nodes node.0)
-  where
-    abbrev made : Answer → CallMade
-    made answer = record { node = node; args = args; answer = answer }
+abbrev made_by : NodeNo → List Value → Answer → CallMade
+made_by node args answer = record { node = node; args = args; answer = answer }
 
-    by_body : (name : List ℕ) (body : Body) (found : Node) → found.body ≡ body
-        → IsNodeAnswer setup flow cells (Some found) (made a) → IsNodeAnswer setup flow cells (Some found) (made b) → a ≡ b
-    by_body name (Concrete own) found is one two = (let first = rw is at one in first) ∙ sym (let second = rw is at two in second)
-    by_body name (Abstract cases) found is one two = absurd (rw is at one)
+module _ (setup : Setup) (flow : ℕ) (cells : Cells) (node : NodeNo) (args : List Value) (a b : Answer) where
+  once_body : (body : Body) → IsBodyAnswer setup flow cells body (made_by node args a)
+      → IsBodyAnswer setup flow cells body (made_by node args b) → a ≡ b
+  once_body (Concrete name) one two = one ∙ sym two
+  once_body (Abstract cases) one two = absurd one
 
-    by : (node_ : _) → IsNodeAnswer setup flow cells node_ (made a) → IsNodeAnswer setup flow cells node_ (made b) → a ≡ b
-    by None one two = absurd one
-    by (Some found) one two = by_body [] found.body found refl one two
+  once_node : (found : Option Node) → IsNodeAnswer setup flow cells found (made_by node args a)
+      → IsNodeAnswer setup flow cells found (made_by node args b) → a ≡ b
+  once_node None one two = absurd one
+  once_node (Some found) one two = once_body found.body one two
+
+  -- a call has one right answer
+  pub answer_once : IsNodeAnswer setup flow cells (slice_get setup.program.nodes node.0) (made_by node args a)
+      → IsNodeAnswer setup flow cells (slice_get setup.program.nodes node.0) (made_by node args b) → a ≡ b
+  answer_once one two = once_node (slice_get setup.program.nodes node.0) one two
 
 -- ---- lines
 
@@ -308,3 +315,81 @@ module _ (setup : Setup) (named : IsNamed setup.program) (before : List Entry) (
       at rules.Turn breaks = spelled rules.Turn breaks
       at rules.Wait breaks = spelled rules.Wait breaks
       at rules.Short breaks = absurd breaks
+
+-- ---- what the state's calls tell
+
+-- the lowest of flows, where one is told
+pub lowest_some : (Is : ℕ → Type 0) (told : Option FlowNo) → IsLowestOf Is told → true ≡ is_some told
+    → (other : ℕ) × Is other
+lowest_some Is None lowest some = absurd cc
+lowest_some Is (Some other) lowest some = (other.0, lowest.0)
+
+-- and none
+pub lowest_none : (Is : ℕ → Type 0) (told : Option FlowNo) → IsLowestOf Is told → false ≡ is_some told
+    → (other : ℕ) → Is other → ⊥
+lowest_none Is None lowest none = lowest
+lowest_none Is (Some other) lowest none = absurd cc
+
+-- the event that was made is the one that was next
+pub made_is : {L : Type 0} (meaning : L → LibraryMeaning) (old new : FlowState L) (flow : FlowNo) (event : Event)
+    → Makes meaning old new flow → IsNext (setup_at meaning old) old.entries flow.0 event
+    → new ≡ with_entry old flow event
+made_is meaning old new flow event makes next =
+    let adds = makes.adds in
+    let may = adds.may in
+    let same : makes.event ≡ event =
+    next_once (setup_at meaning old) old.entries flow.0 makes.event event may.next next in
+    subst (λ (e : Event). new ≡ with_entry old flow e) same adds.new_
+
+-- ---- calls
+
+-- the call that comes next is on this node
+pub same_node : (setup : Setup) (before : List Entry) (flow : FlowNo) (coming : Coming) (node own : NodeNo)
+    (args : List Value) → Comes setup before flow.0 coming → coming ≡ Call own
+    → CallIsNext setup before flow.0 node args → node ≡ own
+same_node setup before flow coming node own args comes is next =
+    let both : Call node ≡ Call own = sym (comes.call node args next) ∙ is in
+    cc both
+
+module _ (setup : Setup) (entries : List Entry) (flow : ℕ) (inputs : Inputs) (made : CallMade) (answer : Answer)
+    (nodes : inputs.node ≡ made.node) (args : inputs.args ≡ made.args) where
+  -- so is the call that a line tells
+  pub next_call : CallIsNext setup entries flow inputs.node inputs.args → CallIsNext setup entries flow made.node made.args
+  next_call next = subst (λ (n : NodeNo). CallIsNext setup entries flow n made.args) nodes
+      (subst (λ (a : List Value). CallIsNext setup entries flow inputs.node a) args next)
+
+  -- the library's answer is the only right one
+  pub right_answer : IsNextCall setup entries flow inputs → IsAnswerOf setup.meaning setup.program inputs answer
+      → IsNodeAnswer setup flow (cells_after setup entries) (slice_get setup.program.nodes made.node.0) made
+      → answer ≡ made.answer
+  right_answer next right told =
+      let cells = cells_after setup entries in
+      let agree = answers-agree setup entries flow inputs answer next in
+      let there : IsNodeAnswer setup flow cells (slice_get setup.program.nodes inputs.node.0) (made_of inputs answer) = agree.0 right in
+      let moved : IsNodeAnswer setup flow cells (slice_get setup.program.nodes made.node.0)
+      (record { node = made.node; args = made.args; answer = answer }) =
+      subst (λ (n : NodeNo). IsNodeAnswer setup flow cells (slice_get setup.program.nodes n.0)
+      (record { node = n; args = made.args; answer = answer })) nodes
+      (subst (λ (a : List Value). IsNodeAnswer setup flow cells (slice_get setup.program.nodes inputs.node.0)
+      (record { node = inputs.node; args = a; answer = answer })) args there) in
+      answer_once setup flow cells made.node made.args answer made.answer moved told
+
+  pub same_made : answer ≡ made.answer → made_of inputs answer ≡ made
+  same_made same =
+      ap (λ (n : NodeNo). record { node = n; args = inputs.args; answer = answer }) nodes
+      ∙ ap (λ (a : List Value). record { node = made.node; args = a; answer = answer }) args
+      ∙ ap (λ (b : Answer). record { node = made.node; args = made.args; answer = b }) same
+
+-- ---- a line's entry
+
+pub if_ok : {X E : Type 0} (P Q : X → Type 0) (r : Result X E) → ((x : X) → P x → Q x) → IfOk r P → IfOk r Q
+if_ok P Q (Ok x) to is = to x is
+if_ok P Q (Err e) to is = tt
+
+-- what is found of an entry is found of its line
+pub checked_line : {L : Type 0} (meaning : L → LibraryMeaning) (old new : FlowState L) (line : List ℕ) (entry : Entry)
+    → IsNamed old.setup.program → IsEntryLine old.setup.program line entry → (found : Option Rule)
+    → IsChecked meaning old new entry.flow entry.event found → IsLineChecked meaning old new line found
+checked_line meaning old new line entry named spells None made = record { entry = entry; spells = spells; made = made }
+checked_line meaning old new line entry named spells (Some rule) is =
+    first_spelled (setup_at meaning old) named old.entries line entry rule spells is

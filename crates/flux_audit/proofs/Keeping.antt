@@ -167,12 +167,15 @@ unheld_of setup before flow (End outcome) legal held = held
 
 in_turn_of : (setup : Setup) (before : List Entry) (flow : FlowNo) (event : Event) → IsMove setup before flow event
     → IsOutOfTurn before flow event → ⊥
-in_turn_of setup before flow (Take key mode) move (free, (other, apart, ahead)) = move.free (other, record {
-  key = key;
-  mode = mode;
-  next = move.next;
-  blocked = record { free = free; apart = apart; cause = inr ahead };
-})
+in_turn_of setup before flow (Take key mode) move (free, (other, apart, ahead)) = move.free (
+  other,
+  record {
+    key = key;
+    mode = mode;
+    next = move.next;
+    blocked = record { free = free; apart = apart; cause = inr ahead };
+  },
+)
 in_turn_of setup before flow (Wait key mode) move out = out
 in_turn_of setup before flow (Enter node) move out = out
 in_turn_of setup before flow (Choose place) move out = out
@@ -191,9 +194,11 @@ cause_of setup before flow (Wait key mode) move = by move.blocked
         let same : Take key mode ≡ Take waits.key waits.mode =
         next_once setup before flow.0 (Take key mode) (Take waits.key waits.mode) move.next waits.next in
         let keys : waits.key ≡ key = cc in
-        let modes : waits.mode ≡ mode = cc in
-        (other, subst (λ (k : Key). Blocks before other flow.0 k mode) keys
-        (subst (λ (m : Mode). Blocks before other flow.0 waits.key m) modes waits.blocked))
+        let modes : waits.mode ≡ mode = cc in (
+          other,
+          subst (λ (k : Key). Blocks before other flow.0 k mode) keys
+              (subst (λ (m : Mode). Blocks before other flow.0 waits.key m) modes waits.blocked),
+        )
 cause_of setup before flow (Enter node) move = tt
 cause_of setup before flow (Choose place) move = tt
 cause_of setup before flow (Call made) move = tt

@@ -3,4 +3,5 @@ pub mod Passing
 pub mod Judging
 pub mod Opening
 pub mod Checking
+pub mod Equal
 pub mod Passed

@@ -15,18 +15,20 @@ use Rattle.flow_model.specs.Legal.{IsLegal}
 use Rattle.flux_laws.specs.Growth.{is_end, has_ended, sum_below}
 use Rattle.flux_laws.proofs.Members.{In, in-from_contains, contains-from_in}
 use Rattle.flux_laws.proofs.Growing.{ended-in}
+use Rattle.flux_journal.specs.Spelled.{IsEntryLine}
 use Rattle.flux_journal.specs.Journals.{is_headed, head_count, event_lines, AreEntryLines}
 use Rattle.flow_state.specs.States.{SetupState, FlowState, setup_by, setup_at, IsLegalState}
 use Rattle.flow_state.specs.Moves.{with_entry}
-use Rattle.flow_state.proofs.Ended.{live_in, none-all}
+use Rattle.flow_state.proofs.Ended.{one_live, live_in, none-all}
 use Rattle.flux_audit.specs.declared.verdicts.Rule.{Rule}
 use Rattle.flux_audit.specs.declared.verdicts.Rule.TheVariants as rules
 use Rattle.flux_audit.specs.declared.verdicts.Verdict.TheVariants.{Yes}
 use Rattle.flux_audit.specs.Verdicts.{HasHeadFor, BreaksAt, rank, IsNotLater, IsFirstBroken, HasVerdict}
-use Rattle.flux_audit.specs.steps.Lines.{IsPassedTo}
+use Rattle.flux_audit.specs.declared.heads.Opened.{Opened}
+use Rattle.flux_audit.specs.steps.Lines.{IsPassedTo, IsFirstOfLine, IsOpened}
 use Rattle.flux_audit.specs.steps.Checks.{IsLineMade, IsJudgedTo}
 use Rattle.flux_audit.proofs.Keeping.{last_keeps}
-use Rattle.flux_audit.proofs.Passing.{passed_more, true_text}
+use Rattle.flux_audit.proofs.Passing.{passed_none, passed_more, first_broken, number_fits, short_at, true_text}
 
 -- ---- a text without its head line
 
@@ -90,8 +92,8 @@ module _ {L : Type 0} (meaning : L → LibraryMeaning) (setup : SetupState L) (n
       legal : IsLegal own (old.entries ++ made.entry ∷ [])
       legal = subst (IsLegal own) entries (subst (λ (s : SetupState L). IsLegal (setup_by meaning s) new.entries) same kept.legal)
 
-      spells : _
-      spells = let is = made.spells in subst (λ (s : SetupState L). Rattle.flux_journal.specs.Spelled.IsEntryLine s.program line made.entry) judged.same is
+      spells : IsEntryLine setup.program line made.entry
+      spells = subst (λ (s : SetupState L). IsEntryLine s.program line made.entry) judged.same made.spells
 
 -- ---- the end
 
@@ -104,6 +106,9 @@ ended_there (event ∷ list) outcome (inr is) = by (is_end event) (ended_there l
     by true e = refl
     by false e = e
 
+unlike : (b : Bool) → b ≡ false → b ≡ true → ⊥
+unlike b first second = cc
+
 module _ (setup : Setup) (entries : List Entry) where
   pub not_live : live_in entries (length setup.items) ≡ 0 → (flow : ℕ) → IsLive setup entries flow → ⊥
   not_live none flow live =
@@ -113,21 +118,24 @@ module _ (setup : Setup) (entries : List Entry) where
   -- the highest of so many flows that hasn't ended
   open_below : (count : ℕ) → count ≤ length setup.items → 1 ≤ live_in entries count → (flow : ℕ) × IsLive setup entries flow
   open_below zero le some = absurd (omega (arith, some))
-  open_below (suc count) le some = by (has_ended entries count) refl
+  open_below (suc count) le some = by (has_ended entries count) refl (open_below count)
     where
-      by : (b : Bool) → has_ended entries count ≡ b → (flow : ℕ) × IsLive setup entries flow
-      by true is =
-          let none : cond (has_ended entries count) 0 1 ≡ 0 = ap (λ (b : Bool). cond b 0 1) is in
-          open_below count (omega (arith, le)) (omega (arith, some, none))
-      by false is = (count, record {
-        item = omega (arith, le);
-        goes_on = λ outcome there.
-            let ended = ended_there (events_by count entries) outcome (in-from_contains (events_by count entries) (End outcome) there) in
-            unlike is ended;
-      })
-        where
-          unlike : has_ended entries count ≡ false → has_ended entries count ≡ true → ⊥
-          unlike no yes = cc
+      by : (b : Bool) → has_ended entries count ≡ b
+          → (count ≤ length setup.items → 1 ≤ live_in entries count → (flow : ℕ) × IsLive setup entries flow)
+          → (flow : ℕ) × IsLive setup entries flow
+      by true is further =
+          let none : one_live entries count ≡ 0 = ap (λ (b : Bool). cond b 0 1) is in
+          further (omega (arith, le)) (omega (arith, some, none))
+      by false is further = (
+        count,
+        record {
+          item = omega (arith, le);
+          goes_on = λ outcome there.
+              let ended = ended_there (events_by count entries) outcome
+              (in-from_contains (events_by count entries) (End outcome) there) in
+              unlike (has_ended entries count) is ended;
+        },
+      )
 
   pub some_live : 1 ≤ live_in entries (length setup.items) → (flow : ℕ) × IsLive setup entries flow
   some_live some = open_below (length setup.items) (omega arith) some
@@ -147,3 +155,47 @@ verdict_yes setup named text entries number first is passed legal none = (
   true_text setup named text entries number passed legal (not_live setup entries none),
   omega (arith, is, passed.place, same_length setup.program passed.before entries passed.spelled),
 )
+
+-- ---- the audit's steps
+
+module _ {L : Type 0} (meaning : L → LibraryMeaning) (setup : SetupState L) (named : IsNamed setup.program) (text : List ℕ) where
+  abbrev own : Setup
+  own = setup_by meaning setup
+
+  pub judged_none : (flows : ℕ) (opened : Opened) (state : FlowState L) → flows ≡ length setup.items → IsOpened flows text opened
+      → state ≡ record { setup = setup; entries = [] } → IsJudgedTo meaning setup text opened.lines state opened.first
+  judged_none flows opened state count is fresh = record {
+    same = ap (λ (s : FlowState L). s.setup) fresh;
+    passed = subst (λ (es : List Entry). IsPassedTo own text opened.lines es opened.first) (sym (ap (λ (s : FlowState L). s.entries) fresh))
+        (subst (λ (ls : List (List ℕ)). IsPassedTo own text ls [] opened.first) (sym is.lines_)
+        (passed_none own named text (subst (λ (n : ℕ). HasHeadFor n text) count is.head) opened.first is.first_));
+  }
+
+  pub judged_broken : (line : List ℕ) (left : List (List ℕ)) (state : FlowState L) (number : ℕ)
+      → IsJudgedTo meaning setup text (line ∷ left) state number → (rule : Rule)
+      → IsFirstOfLine (setup_at meaning state) state.entries line rule → IsFirstBroken own text number rule
+  judged_broken line left state number judged rule is =
+      first_broken own named text line left state.entries number judged.passed rule
+      (subst (λ (s : SetupState L). IsFirstOfLine (setup_by meaning s) state.entries line rule) judged.same is)
+
+  pub judged_fits : (line : List ℕ) (left : List (List ℕ)) (state : FlowState L) (number : ℕ)
+      → IsJudgedTo meaning setup text (line ∷ left) state number → number ≤ length text
+  judged_fits line left state number judged = number_fits own named text line left state.entries number judged.passed
+
+  pub judged_short : (state : FlowState L) (number : ℕ) → IsJudgedTo meaning setup text [] state number
+      → 1 ≤ live_in state.entries (length state.setup.items) → IsFirstBroken own text number rules.Short
+  judged_short state number judged some =
+      let live = some_live own state.entries
+      (subst (λ (s : SetupState L). 1 ≤ live_in state.entries (length s.items)) judged.same some) in
+      short_at own named text state.entries number judged.passed live.0 live.1
+
+  pub judged_yes : (state : FlowState L) (number first : ℕ) → IsJudgedTo meaning setup text [] state number
+      → first ≡ head_count (is_headed text) + 1 → IsLegalState meaning state
+      → live_in state.entries (length state.setup.items) ≡ 0 → HasVerdict own text (Yes (number - first))
+  judged_yes state number first judged is kept none = verdict_yes own named text state.entries number first is judged.passed
+      (subst (λ (s : SetupState L). IsLegal (setup_by meaning s) state.entries) judged.same kept.legal)
+      (subst (λ (s : SetupState L). live_in state.entries (length s.items) ≡ 0) judged.same none)
+
+  pub judged_from : (left : List (List ℕ)) (state : FlowState L) (number first : ℕ) → IsJudgedTo meaning setup text left state number
+      → first ≡ head_count (is_headed text) + 1 → first ≤ number
+  judged_from left state number first judged is = let passed = judged.passed in omega (arith, is, passed.place)

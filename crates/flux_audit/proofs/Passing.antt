@@ -17,7 +17,7 @@ use Rattle.flux_journal.specs.Formats.{head_line}
 use Rattle.flux_journal.specs.Spelled.{IsEntryLine}
 use Rattle.flux_journal.specs.Journals.{lines_of, is_headed, head_count, event_lines, AreEntryLines}
 use Rattle.flux_journal.proofs.Once.{entry_once}
-use Rattle.flux_journal.proofs.Journaled.{entries_once, lines_more}
+use Rattle.flux_journal.proofs.Journaled.{entries_once, lines_more, lines_few}
 use Rattle.flux_laws.proofs.Ends.{none_live_is_whole}
 use Rattle.flux_audit.specs.declared.verdicts.Rule.{Rule}
 use Rattle.flux_audit.specs.declared.verdicts.Rule.TheVariants as rules
@@ -92,6 +92,10 @@ module _ (setup : Setup) (named : IsNamed setup.program) where
 
   module _ (text line : List ℕ) (left : List (List ℕ)) (entries : List Entry) (number : ℕ)
       (passed : IsPassedTo setup text (line ∷ left) entries number) where
+    -- the line's number can be counted to
+    pub number_fits : number ≤ length text
+    number_fits = omega (arith, passed.place, number_within text passed.before line left passed.are, lines_few text)
+
     broken_here : (rule : Rule) → HasBroken setup text number rule → LineBreaks setup entries line rule
     broken_here rule broken =
         let p : Program = setup.program in

@@ -20,11 +20,7 @@ use std::alloc::Global;
 use std::sync::Arc;
 
 /// Goes through the lines.
-fn judge<L: Library>(
-    alloc: Global,
-    setup: Setup<L>,
-    journal: &[u8],
-) -> Result<Verdict, Memory>
+fn judge<L: Library>(alloc: Global, setup: Setup<L>, journal: &[u8]) -> Result<Verdict, Memory>
     requires run { MayRun (L.meaning (arc_value setup.library)) (arc_value setup.program)
         (arc_value setup.plans) setup.items }
     requires named { IsNamed (arc_value setup.program) }
@@ -42,6 +38,7 @@ fn judge<L: Library>(
     let program = Arc::try_clone(&setup.program)?;
     let reader = LineReader::new(alloc, &program)?;
     let mut state = State::new(alloc, setup)?;
+    state.keep();
     'lines: while let Some(line) = lines.next_line() {
         if let Some(rule) = check_line(&reader, &mut state, line)? {
             return Ok(Verdict::No { line: number, rule });
@@ -49,7 +46,6 @@ fn judge<L: Library>(
         state.keep();
         number += 1;
     }
-    state.keep();
     if state.live() > 0 {
         return Ok(Verdict::No {
             line: number,
@@ -66,11 +62,7 @@ fn judge<L: Library>(
 /// `Yes` comes exactly where the text reads as a legal and whole journal of the setup's program, items, opening cells and
 /// library, with the number of its events. A text of format 2 must have its head line, with the number of the items. Else
 /// `No` has the first line that breaks a rule, counted from 1 and from the head line, and the first of its rules.
-pub fn audit<L: Library>(
-    alloc: Global,
-    setup: Setup<L>,
-    journal: &[u8],
-) -> Result<Verdict, Memory>
+pub fn audit<L: Library>(alloc: Global, setup: Setup<L>, journal: &[u8]) -> Result<Verdict, Memory>
     requires run { MayRun (L.meaning (arc_value setup.library)) (arc_value setup.program)
         (arc_value setup.plans) setup.items }
     requires named { IsNamed (arc_value setup.program) }

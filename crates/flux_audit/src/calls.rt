@@ -6,6 +6,7 @@ ghost use Rattle.flow_model.specs.declared.journals.Event.TheVariants as events;
 ghost use Rattle.flow_state.specs.Calls.{library_name, IsReady, IsAnswerOf};
 ghost use Rattle.flux_audit.specs.steps.Checks.{IsChecked};
 
+use crate::sameness::{same_answer, same_coming, same_values};
 use crate::verdicts::Rule;
 use flow_model::CallMade;
 use flow_state::{Coming, Inputs, Setup, State};
@@ -25,11 +26,7 @@ fn library_name(p: &Program, node: NodeNo) -> Option<&[u8]>
 }
 
 /// What the library answers to a call.
-fn answer_of<L: Library>(
-    alloc: Global,
-    setup: &Setup<L>,
-    inputs: &Inputs,
-) -> Result<Answer, Memory>
+fn answer_of<L: Library>(alloc: Global, setup: &Setup<L>, inputs: &Inputs) -> Result<Answer, Memory>
     requires { IsReady (L.meaning (arc_value setup.now.library)) (arc_value setup.now.program)
         inputs.now }
     ensures { IfOk result (IsAnswerOf (L.meaning (arc_value setup.now.library))
@@ -38,12 +35,7 @@ fn answer_of<L: Library>(
     let Some(name) = library_name(&setup.program, inputs.node) else {
         unreachable!()
     };
-    setup.library.call(
-        alloc,
-        name,
-        inputs.args.as_slice(),
-        inputs.cells.as_slice(),
-    )
+    setup.library.call(alloc, name, inputs.args.as_slice(), inputs.cells.as_slice())
 }
 
 /// Makes a call, or names the first rule that it breaks.
@@ -55,16 +47,15 @@ pub fn check_call<L: Library>(
     requires { flow.0 < length state.old.setup.items }
     ensures { IfOk result (IsChecked L.meaning state.old state.new flow (events.Call made.now)) }
 {
-    if state.next(flow) != Coming::Call(made.node) {
+    if !same_coming(state.next(flow), Coming::Call(made.node)) {
         return Ok(Some(Rule::Path));
     }
     let inputs = state.inputs(flow)?;
-    if inputs.args != made.args {
+    if !same_values(&inputs.args, &made.args) {
         return Ok(Some(Rule::Path));
     }
-    state.keep();
     let answer = answer_of(state.alloc(), state.setup(), &inputs)?;
-    if answer != made.answer {
+    if !same_answer(&answer, &made.answer) {
         return Ok(Some(Rule::Answer));
     }
     state.answer(flow, &inputs, &answer)?;

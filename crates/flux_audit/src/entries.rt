@@ -3,11 +3,13 @@
 ghost use Rattle.std.specs.Prelude.{◌≡◌, ◌<◌, Some, IfOk, length};
 ghost use Rattle.flow_model.specs.declared.journals.Event.{Event};
 ghost use Rattle.flow_model.specs.declared.journals.Event.TheVariants as events;
+ghost use Rattle.flux_model.specs.Names.{IsNamed};
 ghost use Rattle.flow_state.specs.Coming.{event_of};
 ghost use Rattle.flow_state.specs.States.{setup_at};
 ghost use Rattle.flux_audit.specs.steps.Checks.{IsPlain, IsChecked, IsLineChecked};
 
 use crate::calls::check_call;
+use crate::sameness::same_coming;
 use crate::verdicts::Rule;
 use flow_model::{Entry, Event, Key};
 use flow_state::{Coming, State};
@@ -27,7 +29,7 @@ fn check_plain<L: Library>(
     ensures { (event : Event) → event_of coming ≡ Some event
         → IfOk result (IsChecked L.meaning state.old state.new flow event) }
 {
-    if state.next(flow) != coming {
+    if !same_coming(state.next(flow), coming) {
         return Ok(Some(Rule::Path));
     }
     state.make(flow)?;
@@ -44,7 +46,7 @@ fn check_take<L: Library>(
     requires { flow.0 < length state.old.setup.items }
     ensures { IfOk result (IsChecked L.meaning state.old state.new flow (events.Take key mode)) }
 {
-    if state.next(flow) != Coming::Take(key, mode) {
+    if !same_coming(state.next(flow), Coming::Take(key, mode)) {
         return Ok(Some(Rule::Path));
     }
     if state.holder(flow, key, mode).is_some() {
@@ -67,7 +69,7 @@ fn check_wait<L: Library>(
     requires { flow.0 < length state.old.setup.items }
     ensures { IfOk result (IsChecked L.meaning state.old state.new flow (events.Wait key mode)) }
 {
-    if state.next(flow) != Coming::Take(key, mode) {
+    if !same_coming(state.next(flow), Coming::Take(key, mode)) {
         return Ok(Some(Rule::Path));
     }
     if state.stands(flow) {
@@ -107,7 +109,8 @@ pub fn check_line<L: Library>(
     state: &mut State<L>,
     line: &[u8],
 ) -> Result<Option<Rule>, Memory>
-    requires { reader.now ≡ state.old.setup.program }
+    requires same { reader.now ≡ state.old.setup.program }
+    requires named { IsNamed reader.now }
     ensures { IfOk result (IsLineChecked L.meaning state.old state.new line.now) }
 {
     match reader.read_line(line) {

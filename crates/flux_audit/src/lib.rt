@@ -12,6 +12,7 @@ mod entries;
 mod heads;
 mod laws;
 mod printing;
+mod sameness;
 mod verdicts;
 
 pub use audits::audit;

@@ -8,7 +8,7 @@ use Rattle.flow_model.specs.Setup.{Setup}
 use Rattle.flux_journal.specs.Spelled.{IsEntryLine}
 use Rattle.flow_state.specs.declared.coming.Coming.{Coming}
 use Rattle.flow_state.specs.declared.coming.Coming.TheVariants.{Take, Enter, Choose, Call, Exit, Drop, End, Ended}
-use Rattle.flow_state.specs.States.{SetupState, FlowState, setup_by, setup_at}
+use Rattle.flow_state.specs.States.{SetupState, FlowState, setup_by, setup_at, IsLegalState}
 use Rattle.flow_state.specs.Moves.{with_entry}
 use Rattle.flux_audit.specs.declared.verdicts.Rule.{Rule}
 use Rattle.flux_audit.specs.Rules.{Keeps, Breaks}
@@ -52,3 +52,9 @@ pub record IsJudgedTo {L : Type 0} (meaning : L → LibraryMeaning) (setup : Set
     (left : List (List ℕ)) (state : FlowState L) (number : ℕ) : Type 0 where
   pub same : state.setup ≡ setup
   pub passed : IsPassedTo (setup_by meaning setup) text left state.entries number
+
+-- and the state is legal
+pub record IsJudging {L : Type 0} (meaning : L → LibraryMeaning) (setup : SetupState L) (text : List ℕ)
+    (left : List (List ℕ)) (state : FlowState L) (number : ℕ) : Type 0 where
+  pub judged : IsJudgedTo meaning setup text left state number
+  pub legal : IsLegalState meaning state
