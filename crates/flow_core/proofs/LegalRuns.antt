@@ -194,7 +194,7 @@ module _ {L : Type 0} (meaning : L → LibraryMeaning) (old : CoreState L) (kept
 
 -- ---- runs
 
-kept-opened : {L : Type 0} (meaning : L → LibraryMeaning) (p : Program) (plans : List Plan) (items : List Item)
+pub kept-opened : {L : Type 0} (meaning : L → LibraryMeaning) (p : Program) (plans : List Plan) (items : List Item)
     (opening : Kept) (library : L) → IsLawful (meaning library)
     → MayRun (meaning library) p plans items → IsKept meaning (opened p plans items opening library)
 kept-opened meaning p plans items opening library lawful may = record {

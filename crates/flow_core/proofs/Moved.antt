@@ -1,10 +1,17 @@
 -- What moves leave in a core's fields.
-use Rattle.std.proofs.Common.{◌≡◌, ◌<◌, inl, inr, ℕ, true, false, List, [], ◌∷◌, ◌++◌, length, Option, Some, None, refl, sym, ap, subst, ◌∙◌, arith}
+use Rattle.std.proofs.Common.{◌≡◌, ◌<◌, inl, inr, ℕ, List, [], ◌∷◌, ◌++◌, length, get_or, Option, Some, None, refl, sym, ap, subst, ◌∙◌, arith}
+use Rattle.std.specs.Option.{option_flatten}
 use Rattle.std.specs.Vec.{with_item}
+use Rattle.std.proofs.lemmas.Option.{slice_get_read}
 use Rattle.flux_values.specs.declared.answers.Answer.{Answer}
 use Rattle.flux_values.specs.declared.answers.Mode.{Mode}
 use Rattle.flux_values.specs.Meanings.{LibraryMeaning}
+use Rattle.flux_library.specs.Libraries.{IsLawful}
 use Rattle.flux_model.specs.declared.items.FlowNo.{FlowNo}
+use Rattle.flux_model.specs.declared.items.Item.{Item}
+use Rattle.flux_model.specs.declared.programs.Program.{Program}
+use Rattle.flux_plan.specs.declared.plans.Plan.{Plan}
+use Rattle.flux_cells.specs.Kept.{Kept}
 use Rattle.flow_model.specs.declared.journals.Entry.{Entry}
 use Rattle.flow_model.specs.declared.journals.Event.{Event}
 use Rattle.flow_model.specs.declared.journals.Event.TheVariants.{Take, Wait, Call}
@@ -19,17 +26,17 @@ use Rattle.flux_laws.proofs.NextEvents.{call-item}
 use Rattle.flux_laws.proofs.Standing.{next-unique}
 use Rattle.flux_table.specs.Blockers.{IsLowestOf}
 use Rattle.flow_state.specs.declared.inputs.Inputs.{Inputs}
-use Rattle.flow_state.specs.States.{FlowState}
+use Rattle.flow_state.specs.States.{FlowState, MayRun}
 use Rattle.flow_state.specs.Calls.{IsReady, IsNextCall, made_of}
 use Rattle.flow_state.specs.Lines.{IsStanding}
 use Rattle.flow_state.specs.Moves as states
 use Rattle.flow_state.proofs.Fitting.{ready-of}
 use Rattle.flow_state.proofs.Tables.{stands-next}
 use Rattle.flow_core.specs.declared.fields.Fields.{Fields}
-use Rattle.flow_core.specs.States.{CoreState, setup_in, begun_by, IsKept}
+use Rattle.flow_core.specs.States.{CoreState, setup_in, begun_by, opened, IsKept}
 use Rattle.flow_core.specs.Moves.{with_entry, with_begun, MakesEvent, AddsWait, BeginsCall, FinishesCall, HasWaited}
 use Rattle.flow_core.specs.steps.Fields.{core_of, AreFields}
-use Rattle.flow_core.proofs.LegalRuns.{kept-event, kept-wait, kept-begin, kept-finish, ends-finished}
+use Rattle.flow_core.proofs.LegalRuns.{kept-opened, kept-event, kept-wait, kept-begin, kept-finish, ends-finished}
 
 -- only takes are blocked
 pub free-beside : (setup : Setup) (entries : List Entry) (flow : ℕ) (event : Event) → IsNext setup entries flow event
@@ -49,6 +56,16 @@ free-take setup entries flow key mode next nobody (other, waits) =
     nobody other (subst (λ (k : Key). Blocks entries other flow k mode) keys
     (subst (λ (m : Mode). Blocks entries other flow waits.key m) modes waits.blocked))
 
+-- flows that have done nothing
+pub opened-fields : {L : Type 0} (meaning : L → LibraryMeaning) (r : Fields L) (p : Program) (plans : List Plan)
+    (items : List Item) (opening : Kept) (library : L) → IsLawful (meaning library)
+    → MayRun (meaning library) p plans items → core_of r ≡ opened p plans items opening library
+    → (let journal = r.journal in journal.entries ≡ []) → AreFields meaning r
+opened-fields meaning r p plans items opening library lawful may same empty = record {
+  kept = subst (IsKept meaning) (sym same) (kept-opened meaning p plans items opening library lawful may);
+  written = empty ∙ sym (ap (λ (core : CoreState _). core.entries) same);
+}
+
 module _ {L : Type 0} (meaning : L → LibraryMeaning) (r : Fields L) (is : AreFields meaning r) where
   abbrev state : FlowState L
   state = r.state
@@ -59,6 +76,12 @@ module _ {L : Type 0} (meaning : L → LibraryMeaning) (r : Fields L) (is : AreF
   -- each flow has its place among the begun calls
   pub begun-place : (flow : ℕ) → flow < length state.setup.items → flow < length r.begun.items
   begun-place flow lt = let kept = is.kept in let each = kept.each in omega (arith, lt, each)
+
+  -- what was read there
+  pub begun-read : (flow : ℕ) (found : Option Inputs) → flow < length state.setup.items
+      → found ≡ get_or r.begun.items flow found → begun_by (core_of r) flow ≡ found
+  begun-read flow found within read = ap option_flatten
+      (slice_get_read r.begun.items (length r.begun.items) flow found refl (begun-place flow within) read)
 
   module _ (flow : FlowNo) where
     -- the fields behind an entry

@@ -1,6 +1,6 @@
 //! The core, and its moves.
 
-ghost use Rattle.std.specs.Prelude.{◌≡◌, ◌<◌, ◌↔◌, length, IsTrue, true, false, IfOk, OnErr, MatchOption, option_map};
+ghost use Rattle.std.specs.Prelude.{◌≡◌, ◌<◌, ◌↔◌, length, IsTrue, IsSome, true, false, IfOk, OnErr, MatchOption, option_map};
 ghost use Rattle.std.specs.Arc.{arc_value};
 ghost use Rattle.flow_model.specs.CellsAfter.{cells_after};
 ghost use Rattle.flux_laws.specs.Going.{IsBlocked, IsAtCall};
@@ -160,6 +160,14 @@ impl<L: Library> Core<L> {
             (IsBlockedAt (setup_in L.meaning self.now) self.now.entries flow.0) }
     {
         self.fields.state.waits_at(flow)
+    }
+
+    /// Whether a flow's call is begun.
+    pub fn is_calling(&self, flow: FlowNo) -> bool
+        requires { flow.0 < length self.now.setup.items }
+        ensures { IsTrue result ↔ IsSome (begun_by self.now flow.0) }
+    {
+        self.fields.is_calling(flow)
     }
 
     /// Whether a flow's next event is a call, begun or not.

@@ -45,7 +45,8 @@ fn none_begun(alloc: Global, items: &[Item]) -> Result<Vec<Option<Begun>>, Memor
     ensures { IfOk result (λ begun. begun.items ≡ mapped (λ item. None) items.now) }
 {
     let mut begun = Vec::new(alloc);
-    for _ in items {
+    for item in items {
+        let _ = item;
         begun.push(None)?;
     }
     Ok(begun)

@@ -1,6 +1,6 @@
 //! How calls are begun and finished.
 
-ghost use Rattle.std.specs.Prelude.{◌≡◌, ◌<◌, ◌↔◌, Some, None, length, IsTrue, IfOk, OnOk, OnErr, option_map};
+ghost use Rattle.std.specs.Prelude.{◌≡◌, ◌<◌, ◌↔◌, Some, None, length, IsTrue, IsSome, IfOk, OnOk, OnErr, option_map};
 ghost use Rattle.flux_laws.specs.Going.{IsAtCall};
 ghost use Rattle.flow_state.specs.Calls.{IsNextCall, IsAnswerOf};
 ghost use Rattle.flow_core.specs.States.{setup_in, begun_by};
@@ -32,6 +32,7 @@ impl<L: Library> Fields<L> {
     /// Begins a flow's call, which comes next.
     pub fn begin(&mut self, flow: FlowNo) -> Result<Job<L>, Memory>
         requires fields { AreFields L.meaning self.old }
+        requires flow { flow.0 < length self.old.state.setup.items }
         requires at { IsAtCall (setup_in L.meaning (core_of self.old)) self.old.state.entries flow.0 }
         requires idle { begun_by (core_of self.old) flow.0 ≡ None }
         ensures fields { AreFields L.meaning self.new }
@@ -43,6 +44,15 @@ impl<L: Library> Fields<L> {
         let job = self.job(flow, &begun)?;
         self.begun[flow.0 as usize] = Some(begun);
         Ok(job)
+    }
+
+    /// Whether a flow's call is begun.
+    pub fn is_calling(&self, flow: FlowNo) -> bool
+        requires fields { AreFields L.meaning self.now }
+        requires flow { flow.0 < length self.now.state.setup.items }
+        ensures { IsTrue result ↔ IsSome (begun_by (core_of self.now) flow.0) }
+    {
+        self.begun[flow.0 as usize].is_some()
     }
 
     /// The job of the call that a flow has begun.
@@ -73,6 +83,7 @@ impl<L: Library> Fields<L> {
     /// Adds a flow's begun call with its answer.
     pub fn answer(&mut self, flow: FlowNo, inputs: &Inputs, answer: &Answer) -> Result<(), Memory>
         requires fields { AreFields L.meaning self.old }
+        requires flow { flow.0 < length self.old.state.setup.items }
         requires begun { begun_by (core_of self.old) flow.0 ≡ Some inputs.now }
         requires right { IsAnswerOf (L.meaning self.old.state.setup.library) self.old.state.setup.program
             inputs.now answer.now }

@@ -1,12 +1,11 @@
 //! The moves of a core but for calls: each is made, and written into the journal.
 
-ghost use Rattle.std.specs.Prelude.{◌≡◌, ◌<◌, length, IfOk, OnErr};
+ghost use Rattle.std.specs.Prelude.{◌≡◌, ◌<◌, Some, length, IfOk, OnErr};
 ghost use Rattle.flow_model.specs.declared.journals.Event.TheVariants as events;
 ghost use Rattle.flow_model.specs.Events.{IsNext};
 ghost use Rattle.flow_model.specs.Waits.{Blocks};
 ghost use Rattle.flux_laws.specs.Moves.{MayStep};
 ghost use Rattle.flux_table.specs.Blockers.{IsLowestOf};
-ghost use Rattle.std.specs.declared.option.Option.TheVariants.{Some};
 ghost use Rattle.flow_core.specs.States.{setup_in};
 ghost use Rattle.flow_core.specs.Moves.{HasStepped};
 ghost use Rattle.flow_core.specs.steps.Fields.{core_of, AreFields};
@@ -92,7 +91,7 @@ impl<L: Library> Fields<L> {
         ensures ok { IfOk result (HasStepped L.meaning (core_of self.old) (core_of self.new) flow) }
         ensures err { OnErr result (core_of self.new ≡ core_of self.old) }
     {
-        if self.begun[flow.0 as usize].is_some() {
+        if self.is_calling(flow) {
             return Ok(Step::Calling);
         }
         match self.state.next(flow) {
