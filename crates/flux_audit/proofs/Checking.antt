@@ -1,5 +1,5 @@
 -- What is found of an entry and of a line.
-use Rattle.std.proofs.Common.{◌≡◌, ◌<◌, ◌≤◌, ◌⊎◌, inl, inr, ℕ, Bool, true, false, List, [], ◌∷◌, ◌++◌, length, Option, Some, None, Result, Ok, Err, IfOk, is_some, refl, sym, ap, subst, ◌∙◌, arith}
+use Rattle.std.proofs.Common.{◌≡◌, ◌<◌, ◌≤◌, inl, inr, ℕ, true, false, List, length, Option, Some, None, Result, Ok, Err, IfOk, is_some, sym, ap, subst, ◌∙◌, arith}
 use Rattle.std.proofs.lemmas.Bool.{cases_order}
 use Rattle.std.specs.List.{slice_get}
 use Rattle.flux_values.specs.Meanings.{LibraryMeaning}
@@ -36,7 +36,7 @@ use Rattle.flow_state.specs.Moves.{MayMake, Makes, with_entry}
 use Rattle.flow_state.proofs.Agreeing.{answers-agree}
 use Rattle.flux_audit.specs.declared.verdicts.Rule.{Rule}
 use Rattle.flux_audit.specs.declared.verdicts.Rule.TheVariants as rules
-use Rattle.flux_audit.specs.Rules.{IsOnPath, IsAnswered, IsHeld, IsOutOfTurn, HasCause, Keeps, Breaks}
+use Rattle.flux_audit.specs.Rules.{IsOnPath, IsAnswered, IsHeld, HasCause, Keeps, Breaks}
 use Rattle.flux_audit.specs.Verdicts.{SpellsBroken, LineBreaks, rank}
 use Rattle.flux_audit.specs.steps.Lines.{IsFirstOfLine}
 use Rattle.flux_audit.specs.steps.Checks.{IsPlain, IsFirstOfEntry, IsChecked, IsLineChecked}

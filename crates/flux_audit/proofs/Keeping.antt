@@ -1,6 +1,5 @@
 -- A journal is legal exactly where each entry keeps the rules.
-use Rattle.std.proofs.Common.{◌≡◌, ◌<◌, ◌⊎◌, inl, inr, ℕ, true, false, List, [], ◌∷◌, ◌++◌, length, refl, sym, ap, subst, ◌∙◌, append_assoc}
-use Rattle.std.specs.List.{Contains}
+use Rattle.std.proofs.Common.{◌≡◌, ◌<◌, ◌⊎◌, inl, inr, ℕ, true, false, List, [], ◌∷◌, ◌++◌, length, refl, sym, subst, ◌∙◌, append_assoc}
 use Rattle.std.proofs.lemmas.List.{append-nil, append_cancel_left}
 use Rattle.flux_values.specs.declared.answers.Mode.{Mode}
 use Rattle.flux_model.specs.declared.items.FlowNo.{FlowNo}
@@ -10,12 +9,11 @@ use Rattle.flow_model.specs.declared.journals.Event.{Event}
 use Rattle.flow_model.specs.declared.journals.Event.TheVariants.{Take, Wait, Enter, Choose, Call, Exit, Drop, End}
 use Rattle.flow_model.specs.Setup.{Setup}
 use Rattle.flow_model.specs.Walk.{Stop, finished, before_call, nowhere, Walked}
-use Rattle.flow_model.specs.Flows.{flow_walk, ending, flow_events, HasEnded}
-use Rattle.flow_model.specs.Events.{events_by, own_events, own_answers, IsNext, Stands, IsLive, IsWholePath}
+use Rattle.flow_model.specs.Flows.{flow_walk, ending, HasEnded}
+use Rattle.flow_model.specs.Events.{events_by, own_events, own_answers, IsNext, IsWholePath}
 use Rattle.flow_model.specs.Exclusion.{holds_against}
-use Rattle.flow_model.specs.Waits.{StandsBefore, Blocks, WaitsFor}
-use Rattle.flow_model.specs.Legal.{IsLegal, IsWhole}
-use Rattle.flux_model.specs.Locks.{AreLocks}
+use Rattle.flow_model.specs.Waits.{StandsBefore, Blocks}
+use Rattle.flow_model.specs.Legal.{IsLegal}
 use Rattle.flux_laws.specs.Going.{IsBlocked}
 use Rattle.flux_laws.specs.Moves.{MayStep, IsMove}
 use Rattle.flux_laws.proofs.Members.{In, in-right, contains-from_in, all-behind}

@@ -1,5 +1,5 @@
 -- Head lines that fit, and those that don't.
-use Rattle.std.proofs.Common.{◌≡◌, ◌<◌, ◌^◌, ◌&&◌, ℕ, Bool, true, false, eqb, eq-eqb, List, [], ◌∷◌, length, drop, Option, Some, None, MatchOption, refl, sym, ap, subst, ◌∙◌, arith}
+use Rattle.std.proofs.Common.{◌≡◌, ◌<◌, ◌^◌, ◌&&◌, ℕ, Bool, true, false, eqb, eq-eqb, List, ◌∷◌, length, drop, Option, Some, None, MatchOption, sym, ap, subst, ◌∙◌}
 use Rattle.std.specs.List.{slice_get}
 use Rattle.flux_journal.specs.declared.texts.Head.{Head}
 use Rattle.flux_journal.specs.Formats.{head_line, IsHeadLine}

@@ -1,5 +1,5 @@
 -- An audit goes on from line to line, and ends.
-use Rattle.std.proofs.Common.{◌≡◌, ◌<◌, ◌≤◌, ◌+◌, ◌-◌, ◌||◌, ℕ, zero, suc, Bool, true, false, cond, List, [], ◌∷◌, ◌++◌, length, inl, inr, refl, sym, ap, subst, ◌∙◌, arith}
+use Rattle.std.proofs.Common.{◌≡◌, ◌≤◌, ◌+◌, ◌-◌, ◌||◌, ℕ, zero, suc, Bool, true, false, cond, List, [], ◌∷◌, ◌++◌, length, inl, inr, refl, sym, ap, subst, ◌∙◌, arith}
 use Rattle.std.specs.List.{list_any}
 use Rattle.std.proofs.lemmas.Bool.{cases_order}
 use Rattle.flux_values.specs.Meanings.{LibraryMeaning}
@@ -12,13 +12,12 @@ use Rattle.flow_model.specs.declared.journals.Outcome.{Outcome}
 use Rattle.flow_model.specs.Setup.{Setup}
 use Rattle.flow_model.specs.Events.{events_by, IsLive}
 use Rattle.flow_model.specs.Legal.{IsLegal}
-use Rattle.flux_laws.specs.Growth.{is_end, has_ended, sum_below}
+use Rattle.flux_laws.specs.Growth.{is_end, has_ended}
 use Rattle.flux_laws.proofs.Members.{In, in-from_contains, contains-from_in}
 use Rattle.flux_laws.proofs.Growing.{ended-in}
 use Rattle.flux_journal.specs.Spelled.{IsEntryLine}
-use Rattle.flux_journal.specs.Journals.{is_headed, head_count, event_lines, AreEntryLines}
+use Rattle.flux_journal.specs.Journals.{is_headed, head_count, AreEntryLines}
 use Rattle.flow_state.specs.States.{SetupState, FlowState, setup_by, setup_at, IsLegalState}
-use Rattle.flow_state.specs.Moves.{with_entry}
 use Rattle.flow_state.proofs.Ended.{one_live, live_in, none-all}
 use Rattle.flux_audit.specs.declared.verdicts.Rule.{Rule}
 use Rattle.flux_audit.specs.declared.verdicts.Rule.TheVariants as rules

@@ -1,18 +1,15 @@
 -- Lines that are passed one after the other, and the first that breaks a rule.
-use Rattle.std.proofs.Common.{◌≡◌, ◌<◌, ◌≤◌, ◌+◌, ◌⊎◌, inl, inr, ℕ, Bool, true, false, List, [], ◌∷◌, ◌++◌, length, drop, Some, refl, sym, ap, subst, ◌∙◌, append_assoc, arith}
-use Rattle.std.specs.List.{slice_get}
+use Rattle.std.proofs.Common.{◌≡◌, ◌≤◌, ◌+◌, inl, inr, ℕ, Bool, true, false, List, [], ◌∷◌, ◌++◌, length, drop, refl, sym, ap, subst, ◌∙◌, append_assoc, arith}
 use Rattle.std.proofs.lemmas.Bool.{cases_order}
 use Rattle.std.proofs.lemmas.List.{append-nil, length-append, length-drop}
 use Rattle.std.proofs.lemmas.Option.{slice_get_within}
 use Rattle.flux_model.specs.declared.programs.Program.{Program}
-use Rattle.flux_model.specs.declared.items.FlowNo.{FlowNo}
 use Rattle.flux_model.specs.Names.{IsNamed}
 use Rattle.flow_model.specs.declared.journals.Entry.{Entry}
-use Rattle.flow_model.specs.declared.journals.Event.{Event}
 use Rattle.flow_model.specs.declared.journals.Journal.{Journal}
 use Rattle.flow_model.specs.Setup.{Setup}
 use Rattle.flow_model.specs.Events.{IsLive}
-use Rattle.flow_model.specs.Legal.{IsLegal, IsWhole}
+use Rattle.flow_model.specs.Legal.{IsLegal}
 use Rattle.flux_journal.specs.Formats.{head_line}
 use Rattle.flux_journal.specs.Spelled.{IsEntryLine}
 use Rattle.flux_journal.specs.Journals.{lines_of, is_headed, head_count, event_lines, AreEntryLines}

@@ -1,9 +1,9 @@
-use Rattle.std.proofs.Common.{◌≡◌, ℕ, List, [], length, refl, sym, ap, subst, ◌∙◌, arith}
+use Rattle.std.proofs.Common.{ℕ, List, [], sym, ap, subst, ◌∙◌, arith}
 use Rattle.flux_model.specs.Names.{IsNamed}
 use Rattle.flux_model.specs.Numbered.{IsNumbered}
-use Rattle.flow_state.specs.States.{SetupState, setup_of, setup_by, setup_at}
+use Rattle.flow_state.specs.States.{SetupState, setup_of, setup_by}
 use Rattle.flux_audit.specs.Verdicts.{HasHeadFor}
-use Rattle.flux_audit.specs.steps.Checks.{IsJudgedTo, IsLineChecked}
+use Rattle.flux_audit.specs.steps.Checks.{IsJudgedTo}
 use Rattle.flux_audit.proofs.Passed.{head_first, judged_none, judged_more, judged_broken, judged_fits, judged_short, judged_yes, judged_from}
 use Rattle.flux_audit.proofs.audits.judge.Goals as goal
 

@@ -1,4 +1,4 @@
-use Rattle.std.proofs.Common.{refl, sym, ap, subst, ◌∙◌, ◌≡◌}
+use Rattle.std.proofs.Common.{refl, sym, subst, ◌≡◌}
 use Rattle.flow_model.specs.declared.journals.Event.TheVariants as events
 use Rattle.flow_model.specs.declared.journals.CallMade.{CallMade}
 use Rattle.flow_model.specs.Setup.{Setup}
