@@ -3,6 +3,7 @@
 //! A journal has one printed text in format 1, and in format 2 one for each number of flows.
 //! `read_line` and `read_journal` take exactly the lines of the program's entries, and name the first bad
 //! line otherwise. A text reads as one journal at most, and the printed text of a journal reads as that one.
+//! `LineReader`, `Lines` and `read_head` read a text line by line, and `print_batch` prints a batch of a log.
 #![tactic(auto)]
 
 mod calls;
