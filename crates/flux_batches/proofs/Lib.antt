@@ -4,3 +4,4 @@ mod HeldLemmas
 mod Pieces
 mod Giving
 mod GatheredLemmas
+mod ItemLemmas
