@@ -14,5 +14,5 @@ pub values-fit : (number : ℤ) (bytes text : List ℕ) (one both : List Value) 
 values-fit number bytes text one both fits small short same first second =
     let P : List Value → Type 0 = AreValues (kinds.Int ∷ kinds.Text ∷ []) in
     let is : both ≡ values.Int number ∷ values.Text bytes ∷ [] =
-        second ∙ ap (λ (l : List Value). l ++ values.Text text ∷ []) first ∙ ap (λ (t : List ℕ). values.Int number ∷ values.Text t ∷ []) same in
+    second ∙ ap (λ (l : List Value). l ++ values.Text text ∷ []) first ∙ ap (λ (t : List ℕ). values.Int number ∷ values.Text t ∷ []) same in
     subst P (sym is) (record { have = refl; each = (fits, ((All-from_get_or (λ (b : ℕ). b < 256) bytes 0 (λ i within. omega (arith, small i)), short), tt)) })
