@@ -1,6 +1,6 @@
 -- The lines of a text, one after the other, and the entries that they spell.
-use Rattle.std.proofs.Common.{◌≡◌, inl, inr, ℕ, zero, suc, ◌+◌, ◌<◌, ◌^◌, Bool, true, false, eqb, List, [], ◌∷◌, ◌++◌, length, drop, Option, Some, None, IfSome, IfNone, Result, Ok, Err, codes, refl, sym, ap, ◌∙◌, subst, append_assoc, arith, All}
-use Rattle.std.specs.List.{slice_split}
+use Rattle.std.proofs.Common.{◌≡◌, inl, inr, ℕ, zero, suc, ◌+◌, ◌<◌, ◌≤◌, ◌^◌, Bool, true, false, cond, eqb, List, [], ◌∷◌, ◌++◌, length, drop, Option, Some, None, IfSome, IfNone, Result, Ok, Err, codes, refl, sym, ap, ◌∙◌, subst, append_assoc, arith, All}
+use Rattle.std.specs.List.{slice_split, onto_first}
 use Rattle.std.specs.Fmt.{decimal}
 use Rattle.std.proofs.lemmas.Bool.{cases_order, eqb-true}
 use Rattle.std.proofs.lemmas.Bool.Decides.{nat_tests}
@@ -44,6 +44,22 @@ line_first text front behind cut = record {
   shorter = omega (arith, ap length cut.laid, length-append front (10 ∷ behind));
 }
 
+-- a byte more makes at most one line more
+line_more : (b : ℕ) (t : Bool) (pieces : List (List ℕ)) (n : ℕ) → 0 < length pieces → length (without_empty_last pieces) ≤ n
+    → length (without_empty_last (cond t ([] ∷ pieces) (onto_first b pieces))) ≤ n + 1
+line_more b true pieces n some few = omega (arith, few, ap length (keeps_first [] pieces some))
+line_more b false [] n some few = absurd (omega arith)
+line_more b false (piece ∷ []) n some few = omega arith
+line_more b false ([] ∷ next ∷ pieces) n some few = omega (arith, few)
+line_more b false ((c ∷ piece) ∷ next ∷ pieces) n some few = omega (arith, few)
+
+-- a text has at most as many lines as bytes
+pub lines_few : (text : List ℕ) → length (lines_of text) ≤ length text
+lines_few [] = omega arith
+lines_few (b ∷ text) =
+    let more : length (lines_of (b ∷ text)) ≤ length text + 1 = line_more b (is_line_end b) (slice_split is_line_end text) (length text) (some_split text) (lines_few text) in
+    omega (arith, more)
+
 one_piece : (text : List ℕ) → 0 < length text → without_empty_last (text ∷ []) ≡ text ∷ []
 one_piece [] some = absurd (omega arith)
 one_piece (b ∷ text) some = refl
@@ -72,7 +88,7 @@ counted_all text rest count so over = omega (arith, so.counted, ap length (no_li
 
 -- ---- entries
 
-lines_more : (p : Program) (lines more : List (List ℕ)) (entries others : List Entry) → AreEntryLines p lines entries → AreEntryLines p more others → AreEntryLines p (lines ++ more) (entries ++ others)
+pub lines_more : (p : Program) (lines more : List (List ℕ)) (entries others : List Entry) → AreEntryLines p lines entries → AreEntryLines p more others → AreEntryLines p (lines ++ more) (entries ++ others)
 lines_more p [] more [] others one two = two
 lines_more p [] more (e ∷ entries) others one two = absurd one
 lines_more p (l ∷ lines) more [] others one two = absurd one
@@ -265,7 +281,7 @@ headed_some (b ∷ text) is = omega arith
 
 -- ---- one answer
 
-entries_once : (p : Program) → IsNamed p → (lines : List (List ℕ)) (xs ys : List Entry) → AreEntryLines p lines xs → AreEntryLines p lines ys → xs ≡ ys
+pub entries_once : (p : Program) → IsNamed p → (lines : List (List ℕ)) (xs ys : List Entry) → AreEntryLines p lines xs → AreEntryLines p lines ys → xs ≡ ys
 entries_once p named [] [] [] one two = refl
 entries_once p named [] [] (y ∷ ys) one two = absurd two
 entries_once p named [] (x ∷ xs) ys one two = absurd one

@@ -60,6 +60,7 @@ impl<'a> Lines<'a> {
         ensures found { IfSome result (λ line. self.old ≡ line.now ∷ self.new) }
         ensures over { IfNone result (self.old ≡ []) }
         ensures stays { IfNone result (self.new ≡ []) }
+        ensures few { length self.old < 2 ^ 63 }
     {
         if self.rest.is_empty() {
             return None;
