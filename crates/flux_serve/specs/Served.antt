@@ -12,7 +12,7 @@ use Rattle.flux_model.specs.Kinds.{NodeKinds}
 use Rattle.flux_model.specs.Soundness.{IsSound}
 use Rattle.flux_plan.specs.declared.plans.Plan.{Plan}
 use Rattle.flux_plan.specs.Runs.{ArePlansOf}
-use Rattle.flow_core.specs.States.{library_name}
+use Rattle.flow_state.specs.Calls.{library_name}
 use Rattle.flux_batches.specs.declared.framing.Framing.{Framing}
 use Rattle.flux_batches.specs.declared.framing.Framing.TheVariants.{Head, Line}
 
