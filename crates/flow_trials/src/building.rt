@@ -18,12 +18,18 @@ use flux_hoist::Checked;
 use flux_library::Library;
 use flux_model::{Item, SourceNo};
 use flux_values::{Kind, List, Memory, Value};
-use plain_journals::Given;
 use std::alloc::Global;
 use std::sync::Arc;
 
 /// The most flows of a core.
 const FLOW_LIMIT: usize = 4_096;
+
+/// A number that a source gives.
+#[derive(Clone, Copy, Debug)]
+pub struct Given {
+    pub source: u32,
+    pub number: i64,
+}
 
 /// The text's program with what is found of it.
 pub fn checked_of<L: Library>(alloc: Global, text: &[u8], library: &L) -> Result<Checked, Trouble>

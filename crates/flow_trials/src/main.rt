@@ -5,20 +5,15 @@
 #![tactic(auto)]
 
 mod building;
-#[cfg(test)]
-mod cores;
 mod journals;
-#[cfg(test)]
-mod tests;
 mod troubles;
 mod turns;
 
-use building::{checked_of, core_of};
+use building::{Given, checked_of, core_of};
 use flow_core::Core;
 use flux_values::{Bytes, List};
 use journals::{entry_count, journal_of, print_again, read_again};
 use nodes_counter::Counter;
-use plain_journals::Given;
 use std::alloc::Global;
 use std::env;
 use std::io::Write;
