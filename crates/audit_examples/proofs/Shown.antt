@@ -1,6 +1,9 @@
 -- Why these entries keep and break rules.
 use Rattle.std.proofs.Common.{◌≡◌, ◌⊎◌, inl, inr, ℕ, true, ap, drop, length, List, [], ◌∷◌, ◌++◌, refl, sym, arith}
 use Rattle.std.proofs.lemmas.List.{length-append}
+use Rattle.flux_values.specs.declared.answers.Answer.{Answer}
+use Rattle.flux_values.specs.declared.answers.CallResult.{CallResult}
+use Rattle.flux_values.specs.declared.answers.CallResult.TheVariants as results
 use Rattle.flux_values.specs.declared.answers.Mode.{Mode}
 use Rattle.flux_values.specs.declared.answers.Mode.TheVariants.{Writer}
 use Rattle.flux_model.specs.declared.items.FlowNo.{FlowNo}
@@ -64,6 +67,11 @@ in_turn (free, (other, apart, ahead)) =
     let is = one_there (by 1 (Wait a Writer)) stands.before (flow other) (Wait a ahead.their) stands.after stands.stands in
     apart (sym is.0)
 
+-- the code of a failure
+abbrev code_of : CallResult → ℕ
+code_of (results.Good values) = 0
+code_of (results.Bad code) = code
+
 pub kept : Kept
 kept = record {
   flow_ = omega arith;
@@ -80,16 +88,23 @@ broken = record {
   flow_ = λ lt. omega (arith, lt);
   path = λ path. let e = path.next in cc;
   path_of_wait = λ path. path.1 a Writer 0 (record { before = []; after = []; stands = refl; last = refl; at = refl });
-  answer_ = λ right. let e = right in cc;
+  answer_ = λ right. let same : 2 ≡ 1 = ap (λ (x : Answer). code_of x.result) right in omega (arith, same);
   hold = (0, λ same. omega (arith, same), refl);
-  turn = (λ holds. holds refl, (1, λ same. omega (arith, same), record {
-    their = Writer;
-    place = 0;
-    stands = record { before = []; after = []; stands = refl; last = refl; at = refl };
-    against = refl;
-    first = λ own behind stands.
-        let is = one_there (by 1 (Wait a Writer)) stands.before (flow 0) (Wait a own) stands.after stands.stands in
-        let same = is.0 in absurd (omega (arith, same));
-  }));
+  turn = (
+    λ holds. holds refl,
+    (
+      1,
+      λ same. omega (arith, same),
+      record {
+        their = Writer;
+        place = 0;
+        stands = record { before = []; after = []; stands = refl; last = refl; at = refl };
+        against = refl;
+        first = λ own behind stands.
+            let is = one_there (by 1 (Wait a Writer)) stands.before (flow 0) (Wait a own) stands.after stands.stands in
+            let same = is.0 in absurd (omega (arith, same));
+      },
+    ),
+  );
   wait = not_blocked;
 }
