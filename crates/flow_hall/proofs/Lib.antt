@@ -1,0 +1,4 @@
+mod Kept
+mod Goings
+mod AtSeats
+mod Examples

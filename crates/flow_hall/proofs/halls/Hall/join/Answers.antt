@@ -1,0 +1,17 @@
+use Rattle.std.proofs.Common.{sym, ap, ◌∙◌, arith}
+use Rattle.flow_hall.proofs.AtSeats.{join_at}
+use Rattle.flow_hall.proofs.halls.Hall.join.Goals as goal
+
+pub join_seat-requires : goal.join_seat-requires
+join_seat-requires g c =
+    let table = c.self.inside.table.shared in
+    let same = ap (λ s. s.hall) c.into.view_is ∙ c.requires.into ∙ sym c.self.view_is in
+    let same' = ap (λ s. s.hall) c.other.view_is ∙ c.requires.other ∙ sym c.self.view_is in (
+      c.into.invariant.table ∙ ap (λ h. h.id) same,
+      c.other.invariant.table ∙ ap (λ h. h.id) same',
+      ap (λ m. m.1) c.other.invariant.me_,
+      omega (arith, c.self.invariant.0),
+      join_at c.into.inside.hall.value _ table.table_id table.key.value same c.into.inside.seat.me c.into.invariant
+          c.other.inside.hall.value _ c.other.inside.seat.me c.other.invariant same' c.into.inside.seat.id
+          c.other.inside.seat.id,
+    )

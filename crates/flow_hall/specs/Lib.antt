@@ -1,0 +1,4 @@
+pub mod States
+pub mod Rule
+pub mod Turns
+pub mod Examples

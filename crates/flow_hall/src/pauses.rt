@@ -1,0 +1,43 @@
+//! How a thread that has nothing to do gives its processor away.
+
+use std::sync::Wait;
+use std::sync::atomic::AtomicU64;
+use std::thread;
+use std::time::Duration;
+
+/// So many pauses only let others go first.
+const YIELDS: u32 = 16;
+
+/// The first sleep has so many microseconds, and each later one twice as many.
+const FIRST_SLEEP: u64 = 8;
+
+/// The longest sleep, in microseconds.
+const LONGEST_SLEEP: u64 = 1_000;
+
+/// The pauses that a thread has made in a row.
+#[derive(Clone, Copy, Debug, Drop)]
+pub struct Pause {
+    yields: u32,
+    sleep: u64,
+}
+
+impl Pause {
+    pub fn new() -> Pause {
+        Pause {
+            yields: 0,
+            sleep: FIRST_SLEEP,
+        }
+    }
+
+    /// Lets others go first, and later sleeps, longer each time, for up to a millisecond.
+    pub fn rest<R: Wait>(&mut self, rt: &R) {
+        if self.yields < YIELDS {
+            self.yields += 1;
+            thread::yield_now();
+            return;
+        }
+        let bed = AtomicU64::new(0);
+        bed.park_timeout(rt, 0, Duration::from_micros(self.sleep));
+        self.sleep = (self.sleep.saturating_mul(2)).min(LONGEST_SLEEP);
+    }
+}
