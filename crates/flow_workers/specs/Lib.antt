@@ -1,0 +1,2 @@
+pub mod Outings
+pub mod Settling
