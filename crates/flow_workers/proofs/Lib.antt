@@ -1,1 +1,3 @@
 mod Owns
+pub mod Crossing
+pub mod Settled

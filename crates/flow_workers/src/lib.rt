@@ -11,4 +11,4 @@ mod visits;
 
 pub use outings::{Outing, go_on, take_answer};
 pub use settling::settle;
-pub use visits::{Stage, visit};
+pub use visits::{Stage, stop, visit};

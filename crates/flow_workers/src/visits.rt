@@ -75,3 +75,13 @@ fn call<L: Library, G: Gate, R: Wait>(
         (seat, Stage::Halted)
     }
 }
+
+/// Halts the core, where there was no memory.
+pub fn stop<L: Library, R: Wait>(rt: &R, hall: &Hall<L>, seat: HallSeat<L>) -> HallSeat<L>
+    requires { seat.hall ≡ hall.now }
+    ensures { result.hall ≡ hall.now }
+{
+    let mut turn = hall.turn(rt, seat);
+    turn.core.halt();
+    hall.give(turn)
+}
