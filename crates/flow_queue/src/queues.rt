@@ -58,6 +58,13 @@ impl FlowQueue {
         ))
     }
 
+    /// With how many numbers it was opened.
+    pub fn flows(&self) -> u32
+        ensures { result ≡ self.now.flows }
+    {
+        self.flows
+    }
+
     /// Puts the number that a pass holds at the back.
     pub fn put<R: Wait>(&self, rt: &R, pass: &mut QueuePass)
         requires queue { pass.old.queue ≡ self.now }
