@@ -17,8 +17,8 @@ use Rattle.flow_core.specs.declared.cores.Step.{Step}
 use Rattle.flow_core.specs.declared.cores.Step.TheVariants.{Ended, Calling, Waits, Job, Went}
 use Rattle.flow_core.specs.States.{CoreState, setup_in, begun_by, IsKept}
 use Rattle.flow_core.specs.Moves.{HasStepped, ComesWherever}
-use Rattle.flow_core.proofs.Tables.{not-both}
-use Rattle.flow_core.proofs.Ended.{next-goes_on, call-goes_on}
+use Rattle.flow_state.proofs.Tables.{not-both}
+use Rattle.flow_state.proofs.Ended.{next-goes_on, call-goes_on}
 
 some-of : {X : Type 0} (o : Option X) → IsSome o → (x : X) × (o ≡ Some x)
 some-of None is = absurd (false≢true is)

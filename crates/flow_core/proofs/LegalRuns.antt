@@ -8,9 +8,6 @@ use Rattle.flux_values.specs.declared.answers.Answer.{Answer}
 use Rattle.flux_values.specs.declared.answers.Mode.{Mode}
 use Rattle.flux_values.specs.Meanings.{LibraryMeaning}
 use Rattle.flux_library.specs.Libraries.{IsLawful}
-use Rattle.flux_model.specs.declared.programs.Body.{Body}
-use Rattle.flux_model.specs.declared.programs.Body.TheVariants.{Concrete, Abstract}
-use Rattle.flux_model.specs.declared.programs.Node.{Node}
 use Rattle.flux_model.specs.declared.programs.Program.{Program}
 use Rattle.flow_model.specs.declared.journals.CallMade.{CallMade}
 use Rattle.flow_model.specs.declared.journals.Entry.{Entry}
@@ -21,51 +18,37 @@ use Rattle.flux_model.specs.declared.items.Item.{Item}
 use Rattle.flow_model.specs.declared.journals.Key.{Key}
 use Rattle.flow_model.specs.Setup.{Setup}
 use Rattle.flow_model.specs.CellsAfter.{cells_after}
-use Rattle.flow_model.specs.Answers.{IsBodyAnswer, IsNodeAnswer}
+use Rattle.flow_model.specs.Answers.{IsNodeAnswer}
 use Rattle.flow_model.specs.Events.{IsNext}
 use Rattle.flow_model.specs.Waits.{StandsAt}
 use Rattle.flow_model.specs.Legal.{IsLegal}
-use Rattle.flux_laws.specs.Calls.{cells_of_body, cells_of_node}
 use Rattle.flux_laws.proofs.OwnEvents.{by_another}
 use Rattle.flux_laws.proofs.Added.{nothing_is_legal, event_is_legal, wait_is_legal, call_is_legal}
 use Rattle.flux_laws.proofs.Locks.{locks_are_there}
 use Rattle.flux_laws.proofs.Untouched.{calls_stay}
 use Rattle.flux_plan.specs.declared.plans.Plan.{Plan}
 use Rattle.flux_cells.specs.Kept.{Kept}
-use Rattle.flow_core.specs.declared.calls.Inputs.{Inputs}
-use Rattle.flow_core.specs.States.{CoreState, setup_in, begun_by, opened, body_name, node_name, IsAnswerBy, MayRun, IsBegun, IsKept}
+use Rattle.flow_state.specs.declared.inputs.Inputs.{Inputs}
+use Rattle.flow_state.specs.States.{MayRun}
+use Rattle.flow_state.specs.Calls.{IsNextCall, made_of}
+use Rattle.flow_state.proofs.Agreeing.{answers-agree}
+use Rattle.flow_core.specs.States.{CoreState, setup_in, begun_by, opened, IsKept}
 use Rattle.flow_core.specs.declared.cores.Step.TheVariants as steps
 use Rattle.flow_core.specs.declared.cores.Finish.TheVariants as finishes
-use Rattle.flow_core.proofs.Sets.{length-replaced}
-use Rattle.flow_core.proofs.Tables.{not-both}
+use Rattle.flow_state.proofs.Sets.{length-replaced}
+use Rattle.flow_state.proofs.Tables.{not-both}
 use Rattle.flow_core.specs.Moves.{with_entry, with_begun, MakesEvent, AddsWait, BeginsCall, FinishesCall}
-use Rattle.flow_core.specs.Laws.{made_of, IsAnswerAtBegin, IsAnswerNow, EndsCall, IsMoveOf, made_event, added_wait, begun_call, ended_call, IsRun, RunsAreLegal, StepsAreMoves, FinishesAreMoves, NoneLiveIsWhole}
-use Rattle.flow_core.proofs.Ended.{has_ended-whole, none-all}
+use Rattle.flow_core.specs.Laws.{IsAnswerAtBegin, IsAnswerNow, EndsCall, IsMoveOf, made_event, added_wait, begun_call, ended_call, IsRun, RunsAreLegal, StepsAreMoves, FinishesAreMoves, NoneLiveIsWhole}
+use Rattle.flow_state.proofs.Ended.{has_ended-whole, none-all}
 
 -- ---- the answer on the cells of now
-
-module _ (setup : Setup) (entries : List Entry) (flow : ℕ) (inputs : Inputs) (answer : Answer) where
-  agree-body : (body : Body) → inputs.cells ≡ cells_of_body setup flow inputs.node.0 entries body
-      → IsAnswerBy setup.meaning (body_name body) inputs answer ↔ IsBodyAnswer setup flow (cells_after setup entries)
-      body (made_of inputs answer)
-  agree-body (Concrete name) same =
-      let e = ap (setup.meaning.call name inputs.args) same in
-      (λ is. is ∙ e, λ is. is ∙ sym e)
-  agree-body (Abstract cases) same = (λ is. is, λ is. is)
-
-  agree-node : (node : Option Node) → inputs.cells ≡ cells_of_node setup flow inputs.node.0 entries node
-      → IsAnswerBy setup.meaning (node_name node) inputs answer ↔ IsNodeAnswer setup flow (cells_after setup entries)
-      node (made_of inputs answer)
-  agree-node None same = (λ is. is, λ is. is)
-  agree-node (Some node) same = agree-body node.body same
 
 agrees : {L : Type 0} (meaning : L → LibraryMeaning) (core : CoreState L) → IsKept meaning core
     → (flow : FlowNo) (inputs : Inputs) (answer : Answer) → begun_by core flow.0 ≡ Some inputs
     → IsAnswerAtBegin meaning core inputs answer ↔ IsAnswerNow meaning core flow inputs answer
 agrees meaning core kept flow inputs answer begun =
     let call = kept.calls flow.0 inputs begun in
-    agree-node (setup_in meaning core) core.entries flow.0 inputs answer
-    (slice_get core.setup.program.nodes inputs.node.0) call.cells_
+    answers-agree (setup_in meaning core) core.entries flow.0 inputs answer call
 
 -- ---- what is begun
 
@@ -106,13 +89,13 @@ module _ {L : Type 0} (meaning : L → LibraryMeaning) (old : CoreState L) (kept
 
     -- calls of others stay begun
     others-stay : (event : Event) → IsLegal setup (more event) → (other : ℕ) → (flow.0 ≡ other → ⊥) → (inputs : Inputs)
-        → IsBegun setup old.entries other inputs → IsBegun setup (more event) other inputs
+        → IsNextCall setup old.entries other inputs → IsNextCall setup (more event) other inputs
     others-stay event legal other apart inputs begun =
         let stays = calls_stay setup kept.kinds old.entries (record { flow = flow; event = event } ∷ []) kept.sound
         kept.lawful kept.fit legal other inputs.node inputs.args begun.next (by_another flow other event apart) in
         record { next = stays.next; cells_ = begun.cells_ ∙ sym stays.cells_ }
 
-    kept-entry : (event : Event) → IsLegal setup (more event)
+    pub kept-entry : (event : Event) → IsLegal setup (more event)
         → ((inputs : Inputs) → begun_by old flow.0 ≡ Some inputs → ⊥) → IsKept meaning (with_entry old flow event)
     kept-entry event legal idle = record {
       lawful = kept.lawful;
@@ -127,7 +110,7 @@ module _ {L : Type 0} (meaning : L → LibraryMeaning) (old : CoreState L) (kept
     }
       where
         by : (other : ℕ) (inputs : Inputs) → begun_by old other ≡ Some inputs → (flow.0 ≡ other) ⊎ (flow.0 ≡ other → ⊥)
-            → IsBegun setup (more event) other inputs
+            → IsNextCall setup (more event) other inputs
         by other inputs is (inl same) = absurd (idle inputs (ap (begun_by old) same ∙ is))
         by other inputs is (inr apart) = others-stay event legal other apart inputs (kept.calls other inputs is)
 
@@ -137,20 +120,20 @@ module _ {L : Type 0} (meaning : L → LibraryMeaning) (old : CoreState L) (kept
     idle-next event next inputs is = let call = kept.calls flow.0 inputs is in not-both setup old.entries flow.0 event
         inputs.node inputs.args next call.next
 
-    kept-event : (event : Event) (new : CoreState L) → MakesEvent meaning old new flow event → IsKept meaning new
+    pub kept-event : (event : Event) (new : CoreState L) → MakesEvent meaning old new flow event → IsKept meaning new
     kept-event event new makes =
         let may = makes.may in
         subst (IsKept meaning) (sym makes.new_) (kept-entry event
         (event_is_legal setup old.entries flow event kept.legal may) (idle-next event may.next))
 
-    kept-wait : (key : Key) (mode : Mode) (new : CoreState L) → AddsWait meaning old new flow key mode
+    pub kept-wait : (key : Key) (mode : Mode) (new : CoreState L) → AddsWait meaning old new flow key mode
         → IsKept meaning new
     kept-wait key mode new adds =
         let may = adds.may in
         subst (IsKept meaning) (sym adds.new_) (kept-entry (Wait key mode)
         (wait_is_legal setup old.entries flow key mode kept.legal may) (idle-next (Take key mode) may.next))
 
-    kept-begin : (inputs : Inputs) (new : CoreState L) → BeginsCall meaning old new flow inputs → IsKept meaning new
+    pub kept-begin : (inputs : Inputs) (new : CoreState L) → BeginsCall meaning old new flow inputs → IsKept meaning new
     kept-begin inputs new begins = subst (IsKept meaning) (sym begins.new_) (record {
       lawful = kept.lawful;
       kinds = kept.kinds;
@@ -164,13 +147,13 @@ module _ {L : Type 0} (meaning : L → LibraryMeaning) (old : CoreState L) (kept
     })
       where
         by : (other : ℕ) (given : Inputs) → ((flow.0 ≡ other) × (Some inputs ≡ Some given)) ⊎
-            ((flow.0 ≡ other → ⊥) × (begun_by old other ≡ Some given)) → IsBegun setup old.entries other given
+            ((flow.0 ≡ other → ⊥) × (begun_by old other ≡ Some given)) → IsNextCall setup old.entries other given
         by other given (inl (same, e)) = let is : inputs ≡ given =
-            cc in subst (λ (n : ℕ). IsBegun setup old.entries n given) same
-            (subst (IsBegun setup old.entries flow.0) is begins.next)
+            cc in subst (λ (n : ℕ). IsNextCall setup old.entries n given) same
+            (subst (IsNextCall setup old.entries flow.0) is begins.next)
         by other given (inr (apart, is)) = kept.calls other given is
 
-    kept-finish : (inputs : Inputs) (answer : Answer) (new : CoreState L) → EndsCall meaning old new flow inputs answer
+    pub kept-finish : (inputs : Inputs) (answer : Answer) (new : CoreState L) → EndsCall meaning old new flow inputs answer
         → IsKept meaning new
     kept-finish inputs answer new ends = subst (IsKept meaning) (sym ends.new_) (record {
       lawful = kept.lawful;
@@ -184,7 +167,7 @@ module _ {L : Type 0} (meaning : L → LibraryMeaning) (old : CoreState L) (kept
       calls = λ other given is. by other given (begun-cases old.begun flow.0 None other given is);
     })
       where
-        call : IsBegun setup old.entries flow.0 inputs
+        call : IsNextCall setup old.entries flow.0 inputs
         call = kept.calls flow.0 inputs ends.begun
 
         now : IsAnswerAtBegin meaning old inputs answer ⊎ IsAnswerNow meaning old flow inputs answer
@@ -198,7 +181,7 @@ module _ {L : Type 0} (meaning : L → LibraryMeaning) (old : CoreState L) (kept
 
         by : (other : ℕ) (given : Inputs) → ((flow.0 ≡ other) × (None ≡ Some given)) ⊎
             ((flow.0 ≡ other → ⊥) × (begun_by old other ≡ Some given))
-            → IsBegun setup (more (Call (made_of inputs answer))) other given
+            → IsNextCall setup (more (Call (made_of inputs answer))) other given
         by other given (inl (same, e)) = absurd cc
         by other given (inr (apart, is)) = others-stay (Call (made_of inputs answer)) legal other apart given
             (kept.calls other given is)
@@ -211,7 +194,7 @@ module _ {L : Type 0} (meaning : L → LibraryMeaning) (old : CoreState L) (kept
 
 -- ---- runs
 
-kept-opened : {L : Type 0} (meaning : L → LibraryMeaning) (p : Program) (plans : List Plan) (items : List Item)
+pub kept-opened : {L : Type 0} (meaning : L → LibraryMeaning) (p : Program) (plans : List Plan) (items : List Item)
     (opening : Kept) (library : L) → IsLawful (meaning library)
     → MayRun (meaning library) p plans items → IsKept meaning (opened p plans items opening library)
 kept-opened meaning p plans items opening library lawful may = record {
@@ -242,7 +225,7 @@ runs_are_legal meaning p plans items opening library lawful may states last run 
 -- ---- what calls do
 
 module _ {L : Type 0} (meaning : L → LibraryMeaning) (old new : CoreState L) (flow : FlowNo) where
-  ends-finished : (inputs : Inputs) (answer : Answer) → FinishesCall meaning old new flow inputs answer
+  pub ends-finished : (inputs : Inputs) (answer : Answer) → FinishesCall meaning old new flow inputs answer
       → EndsCall meaning old new flow inputs answer
   ends-finished inputs answer finishes =
       let may = finishes.may in

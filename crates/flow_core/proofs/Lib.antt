@@ -1,17 +1,5 @@
-pub mod Entries
-pub mod Held
-pub mod Lines
-pub mod Tables
-pub mod Sets
-pub mod Ended
-pub mod AtPlaces
-pub mod Moved
-pub mod OnFields
-pub mod Asked
-pub mod SameCells
-pub mod Called
-pub mod Opened
-pub mod Comes
-pub mod LegalRuns
-pub mod Stops
+mod SameCells
+mod Comes
+mod LegalRuns
+mod Moved
 pub mod Sequels

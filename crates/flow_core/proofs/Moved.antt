@@ -1,316 +1,260 @@
--- What holds of a core's fields keeps holding with each move.
-use Rattle.std.proofs.Common.{◌≡◌, ℕ, true, false, List, [], ◌∷◌, ◌++◌, Some, None, refl, sym, ap, subst, ◌∙◌}
-use Rattle.std.specs.List.{slice_get, slice_set}
-use Rattle.flux_values.specs.declared.values.Value.{Value}
-use Rattle.flux_values.specs.declared.answers.Mode.{Mode}
+-- What moves leave in a core's fields.
+use Rattle.std.proofs.Common.{◌≡◌, ◌<◌, inl, inr, ℕ, List, [], ◌∷◌, ◌++◌, length, get_or, Option, Some, None, refl, sym, ap, subst, ◌∙◌, arith}
+use Rattle.std.specs.Option.{option_flatten}
+use Rattle.std.specs.Vec.{with_item}
+use Rattle.std.proofs.lemmas.Option.{slice_get_read}
 use Rattle.flux_values.specs.declared.answers.Answer.{Answer}
-use Rattle.flux_model.specs.declared.programs.NodeNo.{NodeNo}
+use Rattle.flux_values.specs.declared.answers.Mode.{Mode}
+use Rattle.flux_values.specs.Meanings.{LibraryMeaning}
+use Rattle.flux_library.specs.Libraries.{IsLawful}
 use Rattle.flux_model.specs.declared.items.FlowNo.{FlowNo}
-use Rattle.flow_model.specs.declared.journals.Key.{Key}
-use Rattle.flow_model.specs.declared.journals.Entry.{Entry}
-use Rattle.flow_model.specs.declared.journals.CallMade.{CallMade}
-use Rattle.flow_model.specs.declared.journals.Event.{Event}
-use Rattle.flow_model.specs.declared.journals.Event.TheVariants.{Take, Wait, Enter, Choose, Call, Exit, Drop, End}
-use Rattle.flow_model.specs.Setup.{Setup, item_of}
-use Rattle.flow_model.specs.Keys.{Cells}
-use Rattle.flow_model.specs.CellsAfter.{after_event, after_entries, cells_after}
-use Rattle.flow_model.specs.Events.{events_by, own_events, own_answers, IsNext, CallIsNext}
-use Rattle.flow_model.specs.Waits.{Blocks}
-use Rattle.flow_model.specs.Legal.{IsLegal}
-use Rattle.flux_table.specs.Tables.{Locks}
-use Rattle.flux_table.specs.Changes.{Takes, Waits, Releases}
-use Rattle.flux_laws.specs.Going.{IsBlocked}
-use Rattle.flux_laws.specs.Moves.{MayStep, MayStand, MayCall}
-use Rattle.flux_laws.proofs.Standing.{next-unique}
-use Rattle.flux_laws.proofs.Added.{event_is_legal, wait_is_legal, call_is_legal}
-use Rattle.flux_laws.proofs.NextEvents.{own_events-more, own_answers-more}
-use Rattle.std.proofs.lemmas.List.{append-nil}
+use Rattle.flux_model.specs.declared.items.Item.{Item}
+use Rattle.flux_model.specs.declared.programs.Program.{Program}
 use Rattle.flux_plan.specs.declared.plans.Plan.{Plan}
-use Rattle.flux_plan.specs.declared.locals.Next.{Next}
-use Rattle.flux_plan.specs.declared.locals.Next.TheVariants as nexts
-use Rattle.flux_plan.specs.Machine.{values_at}
-use Rattle.flux_plan.specs.Moves.{next_in, called_in, Advances, IsAnswered}
-use Rattle.flow_core.specs.declared.calls.Inputs.{Inputs}
-use Rattle.flow_core.specs.declared.places.Place.{Place}
-use Rattle.flow_core.specs.States.{IsBegun}
-use Rattle.flow_core.specs.steps.Places.{matches_in, HasPlan, is_wait, ends_waiting, IsPlaceOf, IsComing, IsQuiet, IsEventComing}
-use Rattle.flow_core.specs.steps.Table.{IsTable}
-use Rattle.flow_core.specs.steps.Fields.{IsGiven, IsAfter}
-use Rattle.flow_core.proofs.Entries.{events-own, waiting-last, not_waiting-last, not_waiting-nowhere}
-use Rattle.flow_core.proofs.Tables.{not-both, nowhere-by, nowhere-calling, table-quiet, table-taken, table-dropped, table-waited}
-use Rattle.flow_core.proofs.AtPlaces.{one-plan, place-next, place-calls, place-later, place-advanced, place-answered, place-nowhere, places-replaced, places-more}
+use Rattle.flux_cells.specs.Kept.{Kept}
+use Rattle.flow_model.specs.declared.journals.Entry.{Entry}
+use Rattle.flow_model.specs.declared.journals.Event.{Event}
+use Rattle.flow_model.specs.declared.journals.Event.TheVariants.{Take, Wait, Call}
+use Rattle.flow_model.specs.declared.journals.Journal.{Journal}
+use Rattle.flow_model.specs.declared.journals.Key.{Key}
+use Rattle.flow_model.specs.Setup.{Setup}
+use Rattle.flow_model.specs.Events.{IsNext}
+use Rattle.flow_model.specs.Waits.{Blocks, StandsAt, IsNoWaitLast}
+use Rattle.flux_laws.specs.Going.{IsBlocked}
+use Rattle.flux_laws.specs.Moves.{MayStep, MayStand}
+use Rattle.flux_laws.proofs.NextEvents.{call-item}
+use Rattle.flux_laws.proofs.Standing.{next-unique}
+use Rattle.flux_table.specs.Blockers.{IsLowestOf}
+use Rattle.flow_state.specs.declared.inputs.Inputs.{Inputs}
+use Rattle.flow_state.specs.States.{FlowState, MayRun}
+use Rattle.flow_state.specs.Calls.{IsReady, IsNextCall, made_of}
+use Rattle.flow_state.specs.Lines.{IsStanding}
+use Rattle.flow_state.specs.Moves as states
+use Rattle.flow_state.proofs.Fitting.{ready-of}
+use Rattle.flow_state.proofs.Tables.{stands-next}
+use Rattle.flow_core.specs.declared.fields.Fields.{Fields}
+use Rattle.flow_core.specs.States.{CoreState, setup_in, begun_by, opened, IsKept}
+use Rattle.flow_core.specs.Moves.{with_entry, with_begun, MakesEvent, AddsWait, BeginsCall, FinishesCall, HasWaited}
+use Rattle.flow_core.specs.steps.Fields.{core_of, AreFields}
+use Rattle.flow_core.proofs.LegalRuns.{kept-opened, kept-event, kept-wait, kept-begin, kept-finish, ends-finished}
 
--- ---- cells
+-- only takes are blocked
+pub free-beside : (setup : Setup) (entries : List Entry) (flow : ℕ) (event : Event) → IsNext setup entries flow event
+    → ((key : Key) (mode : Mode) → event ≡ Take key mode → ⊥) → IsBlocked setup entries flow → ⊥
+free-beside setup entries flow event next away (other, waits) =
+    away waits.key waits.mode (next-unique setup entries flow event (Take waits.key waits.mode) next waits.next)
 
-after-append : (setup : Setup) (cells : Cells) (a b : List Entry)
-    → after_entries setup cells (a ++ b) ≡ after_entries setup (after_entries setup cells a) b
-after-append setup cells [] b = refl
-after-append setup cells (entry ∷ a) b = after-append setup (after_event setup entry.flow.0 cells entry.event) a b
+-- a take that no flow blocks isn't blocked
+pub free-take : (setup : Setup) (entries : List Entry) (flow : ℕ) (key : Key) (mode : Mode)
+    → IsNext setup entries flow (Take key mode) → ((other : ℕ) → Blocks entries other flow key mode → ⊥)
+    → IsBlocked setup entries flow → ⊥
+free-take setup entries flow key mode next nobody (other, waits) =
+    let same : Take key mode ≡ Take waits.key waits.mode =
+    next-unique setup entries flow (Take key mode) (Take waits.key waits.mode) next waits.next in
+    let keys : waits.key ≡ key = cc in
+    let modes : waits.mode ≡ mode = cc in
+    nobody other (subst (λ (k : Key). Blocks entries other flow k mode) keys
+    (subst (λ (m : Mode). Blocks entries other flow waits.key m) modes waits.blocked))
 
-pub cells-more : (setup : Setup) (entries : List Entry) (flow : FlowNo) (event : Event)
-    → cells_after setup (entries ++ record { flow = flow; event = event } ∷ []) ≡ after_event setup flow.0
-    (cells_after setup entries) event
-cells-more setup entries flow event = after-append setup setup.opening entries
-    (record { flow = flow; event = event } ∷ [])
+-- flows that have done nothing
+pub opened-fields : {L : Type 0} (meaning : L → LibraryMeaning) (r : Fields L) (p : Program) (plans : List Plan)
+    (items : List Item) (opening : Kept) (library : L) → IsLawful (meaning library)
+    → MayRun (meaning library) p plans items → core_of r ≡ opened p plans items opening library
+    → (let journal = r.journal in journal.entries ≡ []) → AreFields meaning r
+opened-fields meaning r p plans items opening library lawful may same empty = record {
+  kept = subst (IsKept meaning) (sym same) (kept-opened meaning p plans items opening library lawful may);
+  written = empty ∙ sym (ap (λ (core : CoreState _). core.entries) same);
+}
 
--- ---- what comes next
+module _ {L : Type 0} (meaning : L → LibraryMeaning) (r : Fields L) (is : AreFields meaning r) where
+  abbrev state : FlowState L
+  state = r.state
 
-quiet-no_wait : (event : Event) → IsQuiet event → is_wait event ≡ false
-quiet-no_wait (Take key mode) quiet = absurd quiet
-quiet-no_wait (Wait key mode) quiet = absurd quiet
-quiet-no_wait (Enter node) quiet = refl
-quiet-no_wait (Choose place) quiet = refl
-quiet-no_wait (Call made) quiet = refl
-quiet-no_wait (Exit node outcome) quiet = refl
-quiet-no_wait (Drop key) quiet = absurd quiet
-quiet-no_wait (End outcome) quiet = refl
+  abbrev setup : Setup
+  setup = setup_in meaning (core_of r)
 
-quiet-no_take : (event : Event) → IsQuiet event → (key : Key) (mode : Mode) → event ≡ Take key mode → ⊥
-quiet-no_take event quiet key mode e = subst IsQuiet e quiet
+  -- each flow has its place among the begun calls
+  pub begun-place : (flow : ℕ) → flow < length state.setup.items → flow < length r.begun.items
+  begun-place flow lt = let kept = is.kept in let each = kept.each in omega (arith, lt, each)
 
-module _ (setup : Setup) (plans : List Plan) (given : IsGiven setup plans) (entries : List Entry) (places : List Place)
-    (locks : Locks) (cells : Cells)
-    (after : IsAfter setup plans entries places locks cells) (flow : FlowNo) where
-  abbrev more : Event → List Entry
-  more event = entries ++ record { flow = flow; event = event } ∷ []
+  -- what was read there
+  pub begun-read : (flow : ℕ) (found : Option Inputs) → flow < length state.setup.items
+      → found ≡ get_or r.begun.items flow found → begun_by (core_of r) flow ≡ found
+  begun-read flow found within read = ap option_flatten
+      (slice_get_read r.begun.items (length r.begun.items) flow found refl (begun-place flow within) read)
 
-  abbrev Coming : Event → Type 0
-  Coming event = IsEventComing setup plans places flow.0 event
+  module _ (flow : FlowNo) where
+    -- the fields behind an entry
+    abbrev Written : FlowState L → Journal → Fields L
+    Written new journal = record { state = new; journal = journal; begun = r.begun; halted = r.halted }
 
-  legal : IsLegal setup entries
-  legal = after.legal
+    core-written : (event : Event) (new : FlowState L) → new ≡ states.with_entry state flow event → (journal : Journal)
+        → core_of (Written new journal) ≡ with_entry (core_of r) flow event
+    core-written event new same journal =
+        λ i. record (core_of r) { setup = let s = same i in s.setup; entries = let s = same i in s.entries }
 
-  -- the place of a flow
-  pub here : (place : Place) → slice_get places flow.0 ≡ Some place → IsPlaceOf setup plans entries flow.0 place
-  here place at = let are = after.places_ in are.each flow.0 place at
+    journal-written : (event : Event) (new : FlowState L) → new ≡ states.with_entry state flow event
+        → (journal : Journal) → journal.entries ≡ (let old = r.journal in old.entries) ++ record {
+          flow = flow;
+          event = event;
+        } ∷ [] → journal.entries ≡ new.entries
+    journal-written event new same journal added =
+        added ∙ ap (λ (es : List Entry). es ++ record { flow = flow; event = event } ∷ []) is.written
+        ∙ sym (ap (λ (s : FlowState L). s.entries) same)
 
-  -- what comes at its place comes in the plan that is known
-  pub coming-there : (next : Next) (coming : IsComing setup plans places flow.0 next)
-      → let place = coming.place in let own = here coming.place coming.is_place in
-      next_in own.plan (matches_in setup) place.local ≡ Some next
-  coming-there next coming =
-      let place = coming.place in
-      let own = here coming.place coming.is_place in
-      subst (λ (p : Plan). next_in p (matches_in setup) place.local ≡ Some next)
-      (one-plan plans (item_of setup flow.0) coming.plan own.plan coming.is_plan own.is_plan) coming.coming
+    -- where a move is refused, all is as it was
+    pub refused : (new : FlowState L) → new ≡ state → (journal : Journal)
+        → journal.entries ≡ (let old = r.journal in old.entries) → AreFields meaning (Written new journal)
+    refused new same journal back = record {
+      kept = subst (λ (s : FlowState L). IsKept meaning (core_of (Written s journal))) (sym same) is.kept;
+      written = back ∙ is.written ∙ sym (ap (λ (s : FlowState L). s.entries) same);
+    }
 
-  pub event-next : (event : Event) → Coming event → IsNext setup entries flow.0 event
-  event-next event is =
-      let coming = is.coming in
-      place-next setup plans entries legal flow.0 coming.place (here coming.place coming.is_place) is.next
-      (coming-there is.next coming) event is.event_
+    pub core-refused : (new : FlowState L) → new ≡ state → (journal : Journal)
+        → core_of (Written new journal) ≡ core_of r
+    core-refused new same journal = ap (λ (s : FlowState L). core_of (Written s journal)) same
 
-  pub call-next : (node : NodeNo) (coming : IsComing setup plans places flow.0 (nexts.Call node))
-      → let place = coming.place in CallIsNext setup entries flow.0 node (values_at place.local)
-  call-next node coming = place-calls setup plans entries legal flow.0 coming.place (here coming.place coming.is_place)
-      (nexts.Call node) (coming-there (nexts.Call node) coming) node refl
+    -- ---- an event
 
-  -- a flow with a next event has no begun call
-  pub not-begun : (event : Event) → IsNext setup entries flow.0 event → (place : Place)
-      → slice_get places flow.0 ≡ Some place → (inputs : Inputs) → place.begun ≡ Some inputs → ⊥
-  not-begun event next place at inputs begun =
-      let own = here place at in
-      let call = own.call inputs begun in
-      not-both setup entries flow.0 event inputs.node inputs.args next call.next
+    module _ (event : Event) (may : MayStep setup state.entries flow event) (new : FlowState L)
+        (makes : states.Makes meaning state new flow) (journal : Journal) where
+      state-made : new ≡ states.with_entry state flow event
+      state-made =
+          let adds = makes.adds in
+          let theirs = adds.may in
+          let same = next-unique setup state.entries flow.0 makes.event event theirs.next may.next in
+          adds.new_ ∙ ap (states.with_entry state flow) same
 
-  -- only takes are blocked
-  pub not-blocked : (event : Event) → IsNext setup entries flow.0 event
-      → ((key : Key) (mode : Mode) → event ≡ Take key mode → ⊥) → IsBlocked setup entries flow.0 → ⊥
-  not-blocked event next away (other, waits) = away waits.key waits.mode
-      (next-unique setup entries flow.0 event (Take waits.key waits.mode) next waits.next)
+      pub go-makes : MakesEvent meaning (core_of r) (core_of (Written new journal)) flow event
+      go-makes = record { may = may; new_ = core-written event new state-made journal }
 
-  -- ---- moves
+      pub go-running : journal.entries ≡ (let old = r.journal in old.entries) ++ record {
+        flow = flow;
+        event = event;
+      } ∷ [] → AreFields meaning (Written new journal)
+      go-running added = record {
+        kept = kept-event meaning (core_of r) is.kept flow event (core_of (Written new journal)) go-makes;
+        written = journal-written event new state-made journal added;
+      }
 
-  -- the flow's new place behind an event
-  pub record IsMadeAt (place new : Place) : Type 0 where
-    pub made : HasPlan plans setup.items flow.0 (λ plan. Advances plan (matches_in setup) place.local new.local)
-    pub session : new.session ≡ place.session
-    pub begun : new.begun ≡ place.begun
+    -- ---- a wait
 
-  pub record HasMoved (event : Event) (new : Place) (after_locks : Locks) (after_cells : Cells) : Type 0 where
-    pub holds : IsAfter setup plans (more event) (slice_set places flow.0 new) after_locks after_cells
-    pub may : MayStep setup entries flow event
+    module _ (key : Key) (mode : Mode) (next : IsNext setup state.entries flow.0 (Take key mode)) (holder : FlowNo)
+        (lowest : IsLowestOf (λ other. Blocks state.entries other flow.0 key mode) (Some holder)) where
+      pub may-stand : IsNoWaitLast state.entries flow → MayStand setup state.entries flow key mode
+      may-stand once = record {
+        next = next;
+        blocked = (holder.0, record { key = key; mode = mode; next = next; blocked = lowest.0 });
+        once = once;
+      }
 
-  abbrev OldPlace : (event : Event) → Coming event → Place
-  OldPlace event is = let coming = is.coming in coming.place
+      -- the flow stands there already
+      pub stood : IsStanding state.entries flow.0 → HasWaited meaning (core_of r) (core_of r) flow key holder
+      stood standing =
+          let kept = is.kept in
+          let e : Take key mode ≡ Take standing.key standing.mode = stands-next setup state.entries kept.legal flow.0
+          (Take key mode) next standing.key standing.mode standing.place standing.stands in
+          let keys : standing.key ≡ key = cc in
+          let modes : standing.mode ≡ mode = cc in
+          record {
+            mode = mode;
+            next = next;
+            blocked = lowest.0;
+            lowest = lowest.1;
+            noted = inr (
+              standing.place,
+              subst (λ (x : Mode). StandsAt state.entries flow.0 key x standing.place) modes
+                  (subst (λ (x : Key). StandsAt state.entries flow.0 x standing.mode standing.place) keys
+                  standing.stands),
+              refl,
+            );
+          }
 
-  module _ (event : Event) (is : Coming event) (new : Place) (made : IsMadeAt (OldPlace event is) new)
-      (stands : new.stands ≡ false) (no_wait : is_wait event ≡ false)
-      (free : IsBlocked setup entries flow.0 → ⊥) (new_locks : Locks) (table : IsTable (more event) new_locks)
-      (same_cells : cells_after setup (more event) ≡ cells_after setup entries) where
-    step-may : MayStep setup entries flow event
-    step-may = record { next = event-next event is; free = free }
+      -- or it stands there now
+      module _ (new : FlowState L) (adds : states.AddsWait meaning state new flow key mode) (journal : Journal) where
+        wait-adds : AddsWait meaning (core_of r) (core_of (Written new journal)) flow key mode
+        wait-adds = record { may = adds.may; new_ = core-written (Wait key mode) new adds.new_ journal }
 
-    step-holds : IsAfter setup plans (more event) (slice_set places flow.0 new) new_locks cells
-    step-holds =
-        let after_legal = event_is_legal setup entries flow event legal step-may in
-        let coming = is.coming in
-        record {
-          legal = after_legal;
-          places_ = places-more setup plans given entries places after.places_ flow event legal after_legal new
-              (place-advanced setup plans entries legal flow.0 coming.place (here coming.place coming.is_place) is.next
-              (coming-there is.next coming) event is.event_ new made.made made.session
-              (λ inputs begun. not-begun event (event-next event is) coming.place coming.is_place inputs
-              (sym made.begun ∙ begun)) stands no_wait);
-          table = table;
-          cells_ = after.cells_ ∙ sym same_cells;
+        pub waited : HasWaited meaning (core_of r) (core_of (Written new journal)) flow key holder
+        waited = record {
+          mode = mode;
+          next = next;
+          blocked = lowest.0;
+          lowest = lowest.1;
+          noted = inl wait-adds;
         }
 
-  -- an event that changes no keys
-  pub moved-quiet : (event : Event) (is : Coming event) (new : Place) → IsMadeAt (OldPlace event is) new → IsQuiet event
-      → ((made : CallMade) → event ≡ Call made → ⊥)
-      → (let old = OldPlace event is in new.stands ≡ old.stands) → HasMoved event new locks cells
-  moved-quiet event is new made quiet no_call stands =
-      let next = event-next event is in
-      let coming = is.coming in
-      let away = quiet-no_take event quiet in
-      let nowhere = nowhere-by setup entries legal flow.0 event next away in
-      let still : new.stands ≡ false = stands ∙ place-nowhere setup plans entries legal flow.0 coming.place
-      (here coming.place coming.is_place) nowhere in
-      let free = not-blocked event next away in
-      let same = cells-more setup entries flow event ∙ no_change event quiet no_call in
-      record {
-        holds = step-holds event is new made still (quiet-no_wait event quiet) free locks
-            (table-quiet setup entries legal locks after.table flow event quiet nowhere) same;
-        may = step-may event is new made still (quiet-no_wait event quiet) free locks
-            (table-quiet setup entries legal locks after.table flow event quiet nowhere) same;
-      }
-    where
-      no_change : (e : Event) → IsQuiet e → ((m : CallMade) → e ≡ Call m → ⊥)
-          → after_event setup flow.0 (cells_after setup entries) e ≡ cells_after setup entries
-      no_change (Take key mode) q n = refl
-      no_change (Wait key mode) q n = refl
-      no_change (Enter node) q n = refl
-      no_change (Choose place) q n = refl
-      no_change (Call m) q n = absurd (n m refl)
-      no_change (Exit node outcome) q n = refl
-      no_change (Drop key) q n = refl
-      no_change (End outcome) q n = refl
+        pub wait-running : journal.entries ≡ (let old = r.journal in old.entries) ++ record {
+          flow = flow;
+          event = Wait key mode;
+        } ∷ [] → AreFields meaning (Written new journal)
+        wait-running added = record {
+          kept = kept-wait meaning (core_of r) is.kept flow key mode (core_of (Written new journal)) wait-adds;
+          written = journal-written (Wait key mode) new adds.new_ journal added;
+        }
 
-  -- a drop
-  pub moved-drop : (key : Key) (is : Coming (Drop key)) (new : Place) → IsMadeAt (OldPlace (Drop key) is) new
-      → (let old = OldPlace (Drop key) is in new.stands ≡ old.stands)
-      → (new_locks : Locks) → Releases locks new_locks flow.0 key → HasMoved (Drop key) new new_locks cells
-  moved-drop key is new made stands new_locks releases =
-      let next = event-next (Drop key) is in
-      let coming = is.coming in
-      let away : (k : Key) (mode : Mode) → Drop key ≡ Take k mode → ⊥ = λ k mode e. cc in
-      let nowhere = nowhere-by setup entries legal flow.0 (Drop key) next away in
-      let still : new.stands ≡ false = stands ∙ place-nowhere setup plans entries legal flow.0 coming.place
-      (here coming.place coming.is_place) nowhere in
-      let free = not-blocked (Drop key) next away in
-      let table = table-dropped setup entries legal locks after.table flow key new_locks next releases in
-      let same = cells-more setup entries flow (Drop key) in
-      record {
-        holds = step-holds (Drop key) is new made still refl free new_locks table same;
-        may = step-may (Drop key) is new made still refl free new_locks table same;
+    -- ---- calls
+
+    pub begun-in : (inputs : Inputs) → begun_by (core_of r) flow.0 ≡ Some inputs
+        → IsNextCall setup state.entries flow.0 inputs
+    begun-in inputs begun = let kept = is.kept in kept.calls flow.0 inputs begun
+
+    pub begun-within : (inputs : Inputs) → IsNextCall setup state.entries flow.0 inputs
+        → flow.0 < length state.setup.items
+    begun-within inputs call = call-item setup state.entries flow.0 inputs.node inputs.args call.next
+
+    pub ready : (inputs : Inputs) → IsNextCall setup state.entries flow.0 inputs
+        → IsReady setup.meaning setup.program inputs
+    ready inputs call =
+        let kept = is.kept in
+        ready-of setup kept.kinds kept.lawful kept.sound kept.fit state.entries kept.legal flow.0 inputs call
+
+    module _ (inputs : Inputs) (idle : begun_by (core_of r) flow.0 ≡ None)
+        (call : IsNextCall setup state.entries flow.0 inputs) where
+      abbrev Begun : Fields L
+      Begun = record {
+        state = r.state;
+        journal = r.journal;
+        begun = with_item r.begun flow.0 (Some inputs);
+        halted = r.halted;
       }
 
-  -- a take that nobody blocks
-  pub moved-take : (key : Key) (mode : Mode) (is : Coming (Take key mode)) (new : Place)
-      → IsMadeAt (OldPlace (Take key mode) is) new → new.stands ≡ false
-      → ((other : ℕ) → Blocks entries other flow.0 key mode → ⊥) → (new_locks : Locks)
-      → Takes locks new_locks flow.0 key mode → HasMoved (Take key mode) new new_locks cells
-  moved-take key mode is new made stands nobody new_locks takes =
-      let next = event-next (Take key mode) is in
-      let free : IsBlocked setup entries flow.0 → ⊥ = λ blocked.
-      let waits = blocked.1 in
-      let same : Take key mode ≡ Take waits.key waits.mode =
-      next-unique setup entries flow.0 (Take key mode) (Take waits.key waits.mode) next waits.next in
-      let keys : key ≡ waits.key = cc in
-      let modes : mode ≡ waits.mode = cc in
-      nobody blocked.0 (subst (λ (k : Key). Blocks entries blocked.0 flow.0 k mode) (sym keys)
-      (subst (λ (m : Mode). Blocks entries blocked.0 flow.0 waits.key m) (sym modes) waits.blocked)) in
-      let table = table-taken setup entries legal locks after.table flow key mode new_locks next takes in
-      let same = cells-more setup entries flow (Take key mode) in
-      record {
-        holds = step-holds (Take key mode) is new made stands refl free new_locks table same;
-        may = step-may (Take key mode) is new made stands refl free new_locks table same;
+      pub begins : BeginsCall meaning (core_of r) (core_of Begun) flow inputs
+      begins = record { idle = idle; next = call; new_ = refl }
+
+      pub begun-running : AreFields meaning Begun
+      begun-running = record {
+        kept = kept-begin meaning (core_of r) is.kept flow inputs (core_of Begun) begins;
+        written = is.written;
       }
 
-  -- a wait
-  pub record HasStood (key : Key) (mode : Mode) (new : Place) (after_locks : Locks) : Type 0 where
-    pub holds : IsAfter setup plans (more (Wait key mode)) (slice_set places flow.0 new) after_locks cells
-    pub may : MayStand setup entries flow key mode
-
-  pub moved-wait : (key : Key) (mode : Mode) (is : Coming (Take key mode)) (other : ℕ)
-      → Blocks entries other flow.0 key mode
-      → (new : Place) → (let old = OldPlace (Take key mode) is in (old.stands ≡ false) × (new.local ≡ old.local) ×
-      (new.session ≡ old.session) × (new.begun ≡ old.begun)) → new.stands ≡ true
-      → (new_locks : Locks) → Waits locks new_locks flow key mode → HasStood key mode new new_locks
-  moved-wait key mode is other blocks new (idle, local, session, begun) stands new_locks waits =
-      let next = event-next (Take key mode) is in
-      let coming = is.coming in
-      let own = here coming.place coming.is_place in
-      let no_wait = sym own.stands ∙ idle in
-      let may : MayStand setup entries flow key mode = record {
-        next = next;
-        blocked = (other, record { key = key; mode = mode; next = next; blocked = blocks });
-        once = not_waiting-last entries flow no_wait;
-      } in
-      let after_legal = wait_is_legal setup entries flow key mode legal may in
-      record {
-        holds = record {
-          legal = after_legal;
-          places_ = places-more setup plans given entries places after.places_ flow (Wait key mode) legal after_legal
-              new
-              (place-later setup plans entries legal flow.0 coming.place own (more (Wait key mode)) new
-              (own_answers-more entries flow.0 (Wait key mode) ∙ append-nil (own_answers entries flow.0))
-              (own_events-more entries flow.0 (Wait key mode) ∙ append-nil (own_events entries flow.0))
-              local session
-              (λ inputs is_begun. absurd (not-begun (Take key mode) next coming.place coming.is_place inputs
-              (sym begun ∙ is_begun)))
-              (stands ∙ sym (ap (ends_waiting false) (events-own entries flow.0 (Wait key mode)) ∙ waiting-last false
-              (events_by flow.0 entries) (Wait key mode))));
-          table = table-waited setup entries legal locks after.table flow key mode new_locks
-              (not_waiting-nowhere entries flow.0 no_wait) waits;
-          cells_ = after.cells_ ∙ sym (cells-more setup entries flow (Wait key mode));
-        };
-        may = may;
+    module _ (inputs : Inputs) (begun : begun_by (core_of r) flow.0 ≡ Some inputs) (answer : Answer)
+        (new : FlowState L) (adds : states.AddsCall meaning state new flow (made_of inputs answer))
+        (journal : Journal) where
+      abbrev Finished : Fields L
+      Finished = record {
+        state = new;
+        journal = journal;
+        begun = with_item r.begun flow.0 None;
+        halted = r.halted;
       }
 
-  -- a call is begun
-  pub moved-begin : (place new : Place) → slice_get places flow.0 ≡ Some place → new.local ≡ place.local
-      → new.session ≡ place.session → new.stands ≡ place.stands
-      → (inputs : Inputs) → new.begun ≡ Some inputs → IsBegun setup entries flow.0 inputs
-      → IsAfter setup plans entries (slice_set places flow.0 new) locks cells
-  moved-begin place new at local session stands inputs begun call =
-      let own = here place at in
-      record {
-        legal = legal;
-        places_ = places-replaced setup plans given entries places after.places_ flow.0 new
-            (place-later setup plans entries legal flow.0 place own entries new refl refl local session
-            (λ other is. let same : inputs ≡ other = let e =
-            sym begun ∙ is in cc in subst (IsBegun setup entries flow.0) same call) (stands ∙ own.stands));
-        table = after.table;
-        cells_ = after.cells_;
+      pub finishes : FinishesCall meaning (core_of r) (core_of Finished) flow inputs answer
+      finishes = record {
+        begun = begun;
+        made = made_of inputs answer;
+        made_ = refl;
+        may = adds.may;
+        new_ = ap (λ (core : CoreState L). with_begun core flow None)
+            (core-written (Call (made_of inputs answer)) new adds.new_ journal);
       }
 
-  -- a call is finished
-  pub moved-finish : (place new : Place) → slice_get places flow.0 ≡ Some place → (inputs : Inputs)
-      → place.begun ≡ Some inputs → (answer : Answer)
-      → HasPlan plans setup.items flow.0 (λ plan. IsAnswered plan place.local answer new.local)
-      → new.session ≡ place.session → new.begun ≡ None → new.stands ≡ place.stands
-      → (made : CallMade) → made ≡ record { node = inputs.node; args = inputs.args; answer = answer }
-      → MayCall setup entries flow made
-      → (own : IsPlaceOf setup plans entries flow.0 place) → called_in own.plan place.local ≡ Some inputs.node
-      → values_at place.local ≡ inputs.args
-      → (new_cells : Cells) → new_cells ≡ after_event setup flow.0 (cells_after setup entries) (Call made)
-      → IsAfter setup plans (more (Call made)) (slice_set places flow.0 new) locks new_cells
-  moved-finish place new at inputs begun answer answered session ended stands made is_made may own called args new_cells
-      changed =
-      let call = own.call inputs begun in
-      let nowhere = nowhere-calling setup entries legal flow.0 inputs.node inputs.args call.next in
-      let after_legal = call_is_legal setup entries flow made legal may in
-      let as_made : record { node = inputs.node; args = values_at place.local; answer = answer } ≡ made =
-      ap (λ (vs : List Value). record { node = inputs.node; args = vs; answer = answer }) args ∙ sym is_made in
-      record {
-        legal = after_legal;
-        places_ = places-more setup plans given entries places after.places_ flow (Call made) legal after_legal new
-            (subst (λ (m : CallMade). IsPlaceOf setup plans (more (Call m)) flow.0 new) as_made
-            (place-answered setup plans entries legal flow.0 place own inputs.node answer called new answered session
-            (λ other is. let e : None ≡ Some other = sym ended ∙ is in cc)
-            (stands ∙ place-nowhere setup plans entries legal flow.0 place own nowhere)));
-        table = table-quiet setup entries legal locks after.table flow (Call made) tt nowhere;
-        cells_ = changed ∙ sym (cells-more setup entries flow (Call made));
+      pub finished-running : journal.entries ≡ (let old = r.journal in old.entries) ++ record {
+        flow = flow;
+        event = Call (made_of inputs answer);
+      } ∷ [] → AreFields meaning Finished
+      finished-running added = record {
+        kept = kept-finish meaning (core_of r) is.kept flow inputs answer (core_of Finished)
+            (ends-finished meaning (core_of r) (core_of Finished) flow inputs answer finishes);
+        written = journal-written (Call (made_of inputs answer)) new adds.new_ journal added;
       }

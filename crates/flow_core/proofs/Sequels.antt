@@ -11,15 +11,17 @@ use Rattle.flow_model.specs.Legal.{IsLegal}
 use Rattle.flow_model.specs.declared.journals.Entry.{Entry}
 use Rattle.flow_model.specs.declared.journals.Event.{Event}
 use Rattle.flow_model.specs.declared.journals.Event.TheVariants.{Wait, Call}
-use Rattle.flow_core.specs.declared.calls.Inputs.{Inputs}
+use Rattle.flow_state.specs.declared.inputs.Inputs.{Inputs}
+use Rattle.flow_state.specs.States.{setup_by}
+use Rattle.flow_state.specs.Calls.{made_of}
 use Rattle.flow_core.specs.declared.cores.Finish.TheVariants.{Went}
 use Rattle.flow_core.specs.declared.cores.Step.{Step}
-use Rattle.flow_core.specs.States.{CoreState, setup_by, setup_in, begun_by}
+use Rattle.flow_core.specs.States.{CoreState, setup_in, begun_by}
 use Rattle.flow_core.specs.Moves.{with_entry, HasStepped, FinishesCall}
 use Rattle.flow_core.specs.Runs.{SameSetting, LeavesOthers, GoesOn, GoesOnLegally}
-use Rattle.flow_core.specs.Laws.{IsMoveOf, made_event, added_wait, begun_call, ended_call, made_of}
+use Rattle.flow_core.specs.Laws.{IsMoveOf, made_event, added_wait, begun_call, ended_call}
 use Rattle.flow_core.proofs.LegalRuns.{steps_are_moves, finishes_are_moves}
-use Rattle.flow_core.proofs.Sets.{get-replaced_other}
+use Rattle.flow_state.proofs.Sets.{get-replaced_other}
 
 pub on-same : {L : Type 0} (old : CoreState L) → GoesOn old old
 on-same old = record { setup_ = refl; more = []; added = sym (append-nil old.entries) }

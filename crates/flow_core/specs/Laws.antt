@@ -6,7 +6,6 @@ use Rattle.flux_values.specs.declared.answers.Mode.{Mode}
 use Rattle.flux_values.specs.Meanings.{LibraryMeaning}
 use Rattle.flux_library.specs.Libraries.{IsLawful}
 use Rattle.flux_model.specs.declared.programs.Program.{Program}
-use Rattle.flow_model.specs.declared.journals.CallMade.{CallMade}
 use Rattle.flow_model.specs.declared.journals.Event.{Event}
 use Rattle.flow_model.specs.declared.journals.Event.TheVariants.{Call}
 use Rattle.flux_model.specs.declared.items.FlowNo.{FlowNo}
@@ -16,8 +15,10 @@ use Rattle.flow_model.specs.CellsAfter.{cells_after}
 use Rattle.flow_model.specs.Answers.{IsNodeAnswer}
 use Rattle.flux_plan.specs.declared.plans.Plan.{Plan}
 use Rattle.flux_cells.specs.Kept.{Kept}
-use Rattle.flow_core.specs.declared.calls.Inputs.{Inputs}
-use Rattle.flow_core.specs.States.{CoreState, setup_in, begun_by, opened, IsAnswerOf, MayRun, IsKept}
+use Rattle.flow_state.specs.declared.inputs.Inputs.{Inputs}
+use Rattle.flow_state.specs.States.{MayRun}
+use Rattle.flow_state.specs.Calls.{IsAnswerOf, made_of}
+use Rattle.flow_core.specs.States.{CoreState, setup_in, begun_by, opened, IsKept}
 use Rattle.flow_model.specs.Legal.{IsWhole}
 use Rattle.flow_core.specs.Runs.{live_count}
 use Rattle.flow_core.specs.declared.cores.Step.{Step}
@@ -25,10 +26,6 @@ use Rattle.flow_core.specs.declared.cores.Finish.{Finish}
 use Rattle.flow_core.specs.Moves.{with_entry, with_begun, MakesEvent, AddsWait, BeginsCall, HasStepped, HasFinished}
 
 -- ---- answers of begun calls
-
--- a begun call with its answer, as an entry has it
-abbrev pub made_of : Inputs → Answer → CallMade
-made_of inputs answer = record { node = inputs.node; args = inputs.args; answer = answer }
 
 module _ {L : Type 0} (meaning : L → LibraryMeaning) (core : CoreState L) where
   -- the answer is the library's on the cells that the call was begun on

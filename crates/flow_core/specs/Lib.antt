@@ -1,6 +1,5 @@
 pub mod States
 pub mod Moves
 pub mod Runs
-pub mod Lines
 pub mod Laws
 pub mod steps

@@ -14,12 +14,13 @@ use Rattle.flow_model.specs.Waits.{Blocks, StandsAt}
 use Rattle.flux_laws.specs.Growth.{has_ended}
 use Rattle.flux_laws.specs.Going.{IsBlocked, IsAtCall}
 use Rattle.flux_laws.specs.Moves.{MayStep, MayStand, MayCall}
-use Rattle.flow_core.specs.declared.calls.Inputs.{Inputs}
+use Rattle.flow_state.specs.declared.inputs.Inputs.{Inputs}
+use Rattle.flow_state.specs.Calls.{IsNextCall}
 use Rattle.flow_core.specs.declared.cores.Step.{Step}
 use Rattle.flow_core.specs.declared.cores.Step.TheVariants.{Ended, Calling, Waits, Job, Went}
 use Rattle.flow_core.specs.declared.cores.Finish.{Finish}
 use Rattle.flow_core.specs.declared.cores.Finish.TheVariants as finishes
-use Rattle.flow_core.specs.States.{CoreState, JobState, setup_in, begun_by, IsBegun}
+use Rattle.flow_core.specs.States.{CoreState, JobState, setup_in, begun_by}
 
 -- ---- changes
 
@@ -49,7 +50,7 @@ module _ {L : Type 0} (meaning : L → LibraryMeaning) (old new : CoreState L) (
   -- the flow's next event, which is a call, is begun on the cells of that moment
   pub record BeginsCall (inputs : Inputs) : Type 0 where
     pub idle : begun_by old flow.0 ≡ None
-    pub next : IsBegun (setup_in meaning old) old.entries flow.0 inputs
+    pub next : IsNextCall (setup_in meaning old) old.entries flow.0 inputs
     pub new_ : new ≡ with_begun old flow (Some inputs)
 
   -- the flow's begun call is added with its answer, which is right for the cells of this moment too

@@ -2,13 +2,7 @@
 use Rattle.std.specs.Prelude.{◌≡◌, ◌≢◌, ℕ, if◌then◌else◌, List, ◌++◌, length}
 use Rattle.flux_values.specs.Meanings.{LibraryMeaning}
 use Rattle.flow_model.specs.declared.journals.Entry.{Entry}
-use Rattle.flow_model.specs.declared.journals.Event.TheVariants.{Take}
-use Rattle.flow_model.specs.declared.journals.Key.{Key}
-use Rattle.flux_values.specs.declared.answers.Mode.{Mode}
-use Rattle.flow_model.specs.Setup.{Setup}
-use Rattle.flow_model.specs.Events.{IsNext}
 use Rattle.flow_model.specs.Legal.{IsLegal, IsWhole}
-use Rattle.flux_laws.specs.Going.{IsBlocked}
 use Rattle.flux_laws.specs.Growth.{has_ended, sum_below}
 use Rattle.flux_model.specs.declared.items.FlowNo.{FlowNo}
 use Rattle.flow_core.specs.States.{CoreState, setup_in, begun_by}
@@ -48,9 +42,3 @@ pub record LeavesOthers {L : Type 0} (old new : CoreState L) (flow : FlowNo) : T
 abbrev pub live_count : {L : Type 0} → CoreState L → ℕ
 live_count core =
     sum_below (λ flow. if has_ended core.entries flow then 0 else 1) (length core.setup.items)
-
--- a flow is blocked at the take of a key
-pub record IsBlockedAt (setup : Setup) (entries : List Entry) (flow : ℕ) (key : Key) : Type 0 where
-  pub mode : Mode
-  pub next : IsNext setup entries flow (Take key mode)
-  pub blocked : IsBlocked setup entries flow

@@ -2,22 +2,15 @@
 
 ghost use Rattle.std.specs.Prelude.{◌≡◌, IfOk, option_map};
 ghost use Rattle.std.specs.Arc.{arc_value};
-ghost use Rattle.flow_core.specs.States.{library_name, IsReady, IsAnswerOf};
+ghost use Rattle.flow_state.specs.Calls.{library_name, IsReady, IsAnswerOf};
 
+use flow_state::Inputs;
 use flux_library::Library;
 use flux_model::{Body, FlowNo, NodeNo, Program};
-use flux_values::{Answer, Cell, List, Memory, Value};
+use flux_values::{Answer, Cell, Memory, Value};
 use std::alloc::Global;
 use std::marker::Model;
 use std::sync::Arc;
-
-/// What a call of a node is given: values, and the cells that the node uses, in order.
-#[derive(Debug, Drop)]
-pub struct Inputs {
-    pub node: NodeNo,
-    pub args: List<Value>,
-    pub cells: List<Cell>,
-}
 
 /// A begun call, which a core and its jobs share, seen as its inputs.
 #[derive(Debug, Drop)]
@@ -27,8 +20,8 @@ pub struct Begun {
 
 impl Model for Begun {
     ghost use Rattle.std.specs.Arc.{arc_value};
-    ghost use Rattle.flow_core.specs.declared.calls.Inputs.{Inputs};
-    ghost use Rattle.flow_core.specs.contracts.calls.Inputs as inputs;
+    ghost use Rattle.flow_state.specs.declared.inputs.Inputs.{Inputs};
+    ghost use Rattle.flow_state.specs.contracts.inputs.Inputs as inputs;
 
     ghost Value = { Inputs };
 
@@ -83,7 +76,8 @@ pub struct Job<L: Library> {
 
 impl<L: Library> Model for Job<L> {
     ghost use Rattle.std.specs.Arc.{arc_value};
-    ghost use Rattle.flow_core.specs.States.{JobState, job_code, IsReady};
+    ghost use Rattle.flow_core.specs.States.{JobState, job_code};
+    ghost use Rattle.flow_state.specs.Calls.{IsReady};
 
     ghost Value = { JobState L };
 
@@ -111,7 +105,8 @@ pub struct CallDone<L: Library> {
 
 impl<L: Library> Model for CallDone<L> {
     ghost use Rattle.std.specs.Arc.{arc_value};
-    ghost use Rattle.flow_core.specs.States.{DoneState, done_code, IsAnswerOf};
+    ghost use Rattle.flow_core.specs.States.{DoneState, done_code};
+    ghost use Rattle.flow_state.specs.Calls.{IsAnswerOf};
 
     ghost Value = { DoneState L };
 

@@ -1,28 +1,30 @@
 //! The core, and its moves.
 
-ghost use Rattle.std.specs.Prelude.{◌≡◌, ◌<◌, ◌↔◌, length, IsTrue, true, false, IfOk, OnErr, MatchOption, option_map};
+ghost use Rattle.std.specs.Prelude.{◌≡◌, ◌<◌, ◌↔◌, length, IsTrue, IsSome, true, false, IfOk, OnErr, MatchOption, option_map};
 ghost use Rattle.std.specs.Arc.{arc_value};
 ghost use Rattle.flow_model.specs.CellsAfter.{cells_after};
 ghost use Rattle.flux_laws.specs.Going.{IsBlocked, IsAtCall};
 ghost use Rattle.flux_laws.specs.Growth.{has_ended};
 ghost use Rattle.flux_cells.specs.Kept.{cells_of};
-ghost use Rattle.flow_core.specs.States.{setup_in, begun_by, opened, library_name, MayRun, IsKept};
+ghost use Rattle.flow_state.specs.States.{MayRun};
+ghost use Rattle.flow_state.specs.Calls.{library_name};
+ghost use Rattle.flow_state.specs.Blockers.{IsBlockedAt};
+ghost use Rattle.flow_state.specs.Lines.{IsStop, IsLineAt};
+ghost use Rattle.flow_core.specs.States.{setup_in, begun_by, opened, IsKept};
 ghost use Rattle.flow_core.specs.Moves.{HasStepped, HasFinished, ComesWherever, job_of};
-ghost use Rattle.flow_core.specs.Runs.{live_count, IsBlockedAt, GoesOn, LeavesOthers};
-
-mod stops;
+ghost use Rattle.flow_core.specs.Runs.{live_count, GoesOn, LeavesOthers};
 
 use crate::calls::{CallDone, Job};
 use crate::fields::Fields;
-use crate::setups::Setup;
 use flow_model::{Journal, Key};
+use flow_state::{Setup, Stop};
 use flux_cells::Cells;
 use flux_library::Library;
 use flux_model::FlowNo;
+use flux_table::Waiter;
 use flux_values::Memory;
 use std::alloc::Global;
 use std::marker::Model;
-pub use stops::Stop;
 
 /// What a step did.
 #[derive(Drop)]
@@ -127,21 +129,21 @@ impl<L: Library> Core<L> {
     pub fn flows(&self) -> u32
         ensures { result ≡ length self.now.setup.items }
     {
-        self.fields.setup.items.len() as u32
+        self.fields.state.flows()
     }
 
     /// The number of flows without `end`.
     pub fn live(&self) -> u32
         ensures { result ≡ live_count self.now }
     {
-        self.fields.live
+        self.fields.state.live()
     }
 
     pub fn is_ended(&self, flow: FlowNo) -> bool
         requires { flow.0 < length self.now.setup.items }
         ensures { result ≡ has_ended self.now.entries flow.0 }
     {
-        self.fields.is_ended(flow)
+        self.fields.state.is_ended(flow)
     }
 
     pub fn blocked(&self, flow: FlowNo) -> bool
@@ -157,7 +159,15 @@ impl<L: Library> Core<L> {
         ensures { MatchOption result (IsBlocked (setup_in L.meaning self.now) self.now.entries flow.0 → ⊥)
             (IsBlockedAt (setup_in L.meaning self.now) self.now.entries flow.0) }
     {
-        self.fields.waits_at(flow)
+        self.fields.state.waits_at(flow)
+    }
+
+    /// Whether a flow's call is begun.
+    pub fn is_calling(&self, flow: FlowNo) -> bool
+        requires { flow.0 < length self.now.setup.items }
+        ensures { IsTrue result ↔ IsSome (begun_by self.now flow.0) }
+    {
+        self.fields.is_calling(flow)
     }
 
     /// Whether a flow's next event is a call, begun or not.
@@ -165,7 +175,30 @@ impl<L: Library> Core<L> {
         requires { flow.0 < length self.now.setup.items }
         ensures { IsTrue result ↔ IsAtCall (setup_in L.meaning self.now) self.now.entries flow.0 }
     {
-        self.fields.at_call(flow)
+        self.fields.state.at_call(flow)
+    }
+}
+
+impl<L: Library> Core<L> {
+    /// Where a flow is blocked.
+    pub fn stop_at(&self, flow: FlowNo) -> Option<Stop>
+        requires { flow.0 < length self.now.setup.items }
+        ensures { MatchOption result (IsBlocked (setup_in L.meaning self.now) self.now.entries flow.0 → ⊥)
+            (IsStop (setup_in L.meaning self.now) self.now.entries flow.0) }
+    {
+        self.fields.state.stop_at(flow)
+    }
+
+    /// The allocator that the core was made with.
+    pub fn alloc(&self) -> Global {
+        self.fields.state.alloc()
+    }
+
+    /// The flows that stand at a key, first come first.
+    pub fn line(&self, key: Key) -> &[Waiter]
+        ensures { IsLineAt self.now.entries key result.now }
+    {
+        self.fields.state.line(key)
     }
 }
 
@@ -202,7 +235,7 @@ impl<L: Library> Core<L> {
     pub fn cells(&self) -> &Cells
         ensures { cells_of result.now ≡ cells_after (setup_in L.meaning self.now) self.now.entries }
     {
-        &self.fields.cells
+        self.fields.state.cells()
     }
 
     pub fn into_parts(self) -> (Journal, Cells)
@@ -210,7 +243,8 @@ impl<L: Library> Core<L> {
         ensures cells { cells_of result.1 ≡ cells_after (setup_in L.meaning self) self.entries }
         ensures kept { IsKept L.meaning self }
     {
-        let Fields { journal, cells, .. } = self.fields;
+        let Fields { state, journal, .. } = self.fields;
+        let (_, cells) = state.into_parts();
         (journal, cells)
     }
 }

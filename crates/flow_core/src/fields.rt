@@ -1,96 +1,76 @@
-//! The fields of a core, and how moves change them.
+//! The fields of a core, and what moves write into its journal.
 
-ghost use Rattle.std.specs.Prelude.{◌≡◌, ◌<◌, ◌↔◌, length, IsTrue, IfOk, OnErr, MatchOption, Some};
-ghost use Rattle.flow_model.specs.Setup.{item_of};
-ghost use Rattle.flow_model.specs.CellsAfter.{key_for};
-ghost use Rattle.flux_laws.specs.Going.{IsBlocked, IsAtCall};
-ghost use Rattle.flux_laws.specs.Growth.{has_ended};
-ghost use Rattle.flow_core.specs.States.{setup_in};
-ghost use Rattle.flow_core.specs.Runs.{IsBlockedAt};
-ghost use Rattle.flow_core.specs.steps.Places.{IsComing};
-ghost use Rattle.flow_core.specs.steps.Fields.{core_of, plans_of, AreFields};
+ghost use Rattle.std.specs.Prelude.{◌≡◌, List, [], ◌∷◌, ◌++◌, None, map as mapped, IfOk, OnOk, OnErr};
+ghost use Rattle.std.specs.Arc.{arc_value};
+ghost use Rattle.flow_model.specs.declared.journals.Entry.{Entry};
+ghost use Rattle.flow_state.specs.States.{MayRun};
+ghost use Rattle.flow_core.specs.States.{opened};
+ghost use Rattle.flow_core.specs.steps.Fields.{core_of, AreFields};
 
-use crate::keys::key_in;
-use crate::places::Place;
-use crate::setups::Setup;
-use flow_model::{Journal, Key};
-use flux_cells::Cells;
+use crate::calls::Begun;
+use flow_model::{Entry, Journal};
+use flow_state::{Setup, State};
 use flux_library::Library;
-use flux_model::{ClassNo, FlowNo};
-use flux_plan::Next;
-use flux_table::Table;
+use flux_model::Item;
+use flux_values::{List, Memory};
 use std::alloc::Global;
 
-/// What a core keeps beside its setup: each flow's place, who holds each key and waits for it, the cells, the journal,
-/// and how many flows have not ended.
+/// What a core keeps: where its flows stand, the journal, and the call that each flow has begun.
 #[derive(Drop)]
 pub struct Fields<L: Library> {
-    pub alloc: Global,
-    pub setup: Setup<L>,
-    pub places: Vec<Place>,
-    pub table: Table,
-    pub cells: Cells,
+    pub state: State<L>,
     pub journal: Journal,
-    pub live: u32,
+    pub begun: Vec<Option<Begun>>,
     pub halted: bool,
 }
 
+/// Adds an entry.
+pub fn write(journal: &mut Journal, entry: Entry) -> Result<(), Memory>
+    ensures ok { OnOk result (journal.new.entries ≡ journal.old.entries ++ entry ∷ []) }
+    ensures err { OnErr result (journal.new.entries ≡ journal.old.entries) }
+{
+    journal.entries.add(entry)
+}
+
+/// Takes the last entry back.
+pub fn take_back(journal: &mut Journal)
+    ensures { (entries : List Entry) (last : Entry) → journal.old.entries ≡ entries ++ last ∷ []
+        → journal.new.entries ≡ entries }
+{
+    drop(journal.entries.pop());
+}
+
+/// No call is begun.
+fn none_begun(alloc: Global, items: &[Item]) -> Result<Vec<Option<Begun>>, Memory>
+    ensures { IfOk result (λ begun. begun.items ≡ mapped (λ item. None) items.now) }
+{
+    let mut begun = Vec::new(alloc);
+    for item in items {
+        let _ = item;
+        begun.push(None)?;
+    }
+    Ok(begun)
+}
+
 impl<L: Library> Fields<L> {
-    pub fn next(&self, flow: FlowNo) -> Next
-        requires fields { AreFields L.meaning self.now }
-        requires flow { flow.0 < length self.now.setup.items }
-        ensures { IsComing (setup_in L.meaning (core_of self.now)) (plans_of self.now)
-            self.now.places.items flow.0 result }
+    /// Flows that have done nothing.
+    pub fn new(alloc: Global, setup: Setup<L>) -> Result<Fields<L>, Memory>
+        requires { MayRun (L.meaning (arc_value setup.library)) (arc_value setup.program)
+            (arc_value setup.plans) setup.items }
+        ensures core { IfOk result (λ fields. core_of fields
+            ≡ opened (arc_value setup.program) (arc_value setup.plans) setup.items setup.opening
+            (arc_value setup.library)) }
+        ensures fields { IfOk result (AreFields L.meaning) }
     {
-        let place = &self.places[flow.0 as usize];
-        self.setup.next(flow, &place.local)
-    }
-
-    /// A flow's key of a class.
-    pub fn key(&self, flow: FlowNo, class: ClassNo) -> Key
-        requires fields { AreFields L.meaning self.now }
-        requires flow { flow.0 < length self.now.setup.items }
-        ensures { let setup = setup_in L.meaning (core_of self.now) in
-            key_for setup (item_of setup flow.0) class ≡ Some result }
-    {
-        key_in(
-            &self.setup.program,
-            self.places[flow.0 as usize].session,
-            class,
-        )
-    }
-
-    pub fn is_ended(&self, flow: FlowNo) -> bool
-        requires fields { AreFields L.meaning self.now }
-        requires flow { flow.0 < length self.now.setup.items }
-        ensures { result ≡ has_ended self.now.journal.entries flow.0 }
-    {
-        matches!(self.next(flow), Next::Ended)
-    }
-
-    pub fn at_call(&self, flow: FlowNo) -> bool
-        requires fields { AreFields L.meaning self.now }
-        requires flow { flow.0 < length self.now.setup.items }
-        ensures { IsTrue result ↔ IsAtCall (setup_in L.meaning (core_of self.now))
-            self.now.journal.entries flow.0 }
-    {
-        matches!(self.next(flow), Next::Call(_))
-    }
-
-    pub fn waits_at(&self, flow: FlowNo) -> Option<Key>
-        requires fields { AreFields L.meaning self.now }
-        requires flow { flow.0 < length self.now.setup.items }
-        ensures { let setup = setup_in L.meaning (core_of self.now) in
-            MatchOption result (IsBlocked setup self.now.journal.entries flow.0 → ⊥)
-            (IsBlockedAt setup self.now.journal.entries flow.0) }
-    {
-        let Next::Take(class, mode) = self.next(flow) else {
-            return None;
-        };
-        let key = self.key(flow, class);
-        match self.table.holder(flow, key, mode) {
-            Some(_) => Some(key),
-            None => None,
-        }
+        let begun = none_begun(alloc, setup.items.as_slice())?;
+        let state = State::new(alloc, setup)?;
+        Ok(Fields {
+            state,
+            journal: Journal {
+                entries: List::new(alloc),
+            },
+            begun,
+            halted: false,
+        })
     }
 }

@@ -1,174 +1,108 @@
-//! The moves of a core, on its fields.
+//! The moves of a core but for calls: each is made, and written into the journal.
 
-ghost use Rattle.std.specs.Prelude.{◌≡◌, ◌≤◌, ◌<◌, ℕ, false, Some, None, length, slice_get, IfOk, OnOk, OnErr};
+ghost use Rattle.std.specs.Prelude.{◌≡◌, ◌<◌, Some, length, IfOk, OnErr};
 ghost use Rattle.flow_model.specs.declared.journals.Event.TheVariants as events;
+ghost use Rattle.flow_model.specs.Events.{IsNext};
 ghost use Rattle.flow_model.specs.Waits.{Blocks};
-ghost use Rattle.flux_laws.specs.Growth.{is_end};
+ghost use Rattle.flux_laws.specs.Moves.{MayStep};
 ghost use Rattle.flux_table.specs.Blockers.{IsLowestOf};
-ghost use Rattle.flow_core.specs.declared.places.Place.{Place};
 ghost use Rattle.flow_core.specs.States.{setup_in};
-ghost use Rattle.flow_core.specs.Moves.{MakesEvent, HasWaited};
-ghost use Rattle.flow_core.specs.steps.Places.{IsQuiet, IsEventComing};
-ghost use Rattle.flow_core.specs.steps.Fields.{core_of, plans_of, AreFields};
+ghost use Rattle.flow_core.specs.Moves.{HasStepped};
+ghost use Rattle.flow_core.specs.steps.Fields.{core_of, AreFields};
 
-use crate::additions::{make, stand, take, take_on};
-use crate::fields::Fields;
-use flow_model::{Event, Key, Outcome};
+use crate::cores::Step;
+use crate::fields::{Fields, take_back, write};
+use flow_model::{Entry, Event, Key};
+use flow_state::Coming;
 use flux_library::Library;
 use flux_model::{FlowNo, Mode};
 use flux_values::Memory;
 
 impl<L: Library> Fields<L> {
-    /// Makes a flow's next event, which changes no keys.
-    pub fn go(&mut self, flow: FlowNo, event: Event) -> Result<(), Memory>
+    /// Makes a flow's next event.
+    fn go(&mut self, flow: FlowNo, event: Event) -> Result<Step<L>, Memory>
         requires fields { AreFields L.meaning self.old }
-        requires coming { IsEventComing (setup_in L.meaning (core_of self.old)) (plans_of self.old)
-            self.old.places.items flow.0 event }
-        requires quiet { IsQuiet event }
-        requires goes_on { is_end event ≡ false }
+        requires may { MayStep (setup_in L.meaning (core_of self.old)) self.old.state.entries flow event }
         ensures fields { AreFields L.meaning self.new }
-        ensures ok { OnOk result
-            (MakesEvent L.meaning (core_of self.old) (core_of self.new) flow event) }
+        ensures ok { IfOk result (HasStepped L.meaning (core_of self.old) (core_of self.new) flow) }
         ensures err { OnErr result (core_of self.new ≡ core_of self.old) }
     {
-        let place = &mut self.places[flow.0 as usize];
-        make(
-            &self.setup,
-            &mut self.journal,
-            &mut place.local,
-            flow,
-            event,
-        )?;
-        Ok(())
-    }
-
-    /// Makes a flow's `end`.
-    pub fn end(&mut self, flow: FlowNo, outcome: Outcome) -> Result<(), Memory>
-        requires fields { AreFields L.meaning self.old }
-        requires coming { IsEventComing (setup_in L.meaning (core_of self.old)) (plans_of self.old)
-            self.old.places.items flow.0 (events.End outcome) }
-        ensures fields { AreFields L.meaning self.new }
-        ensures ok { OnOk result
-            (MakesEvent L.meaning (core_of self.old) (core_of self.new) flow (events.End outcome)) }
-        ensures err { OnErr result (core_of self.new ≡ core_of self.old) }
-    {
-        let place = &mut self.places[flow.0 as usize];
-        make(
-            &self.setup,
-            &mut self.journal,
-            &mut place.local,
-            flow,
-            Event::End(outcome),
-        )?;
-        self.live -= 1;
-        Ok(())
-    }
-
-    /// Makes a flow's drop of a key.
-    pub fn give(&mut self, flow: FlowNo, key: Key) -> Result<(), Memory>
-        requires fields { AreFields L.meaning self.old }
-        requires coming { IsEventComing (setup_in L.meaning (core_of self.old)) (plans_of self.old)
-            self.old.places.items flow.0 (events.Drop key) }
-        ensures fields { AreFields L.meaning self.new }
-        ensures ok { OnOk result
-            (MakesEvent L.meaning (core_of self.old) (core_of self.new) flow (events.Drop key)) }
-        ensures err { OnErr result (core_of self.new ≡ core_of self.old) }
-    {
-        let place = &mut self.places[flow.0 as usize];
-        make(
-            &self.setup,
-            &mut self.journal,
-            &mut place.local,
-            flow,
-            Event::Drop(key),
-        )?;
-        self.table.release(flow, key);
-        Ok(())
-    }
-
-    /// Makes a flow's take of a key, which no flow blocks.
-    pub fn get(&mut self, flow: FlowNo, key: Key, mode: Mode) -> Result<(), Memory>
-        requires fields { AreFields L.meaning self.old }
-        requires coming { IsEventComing (setup_in L.meaning (core_of self.old)) (plans_of self.old)
-            self.old.places.items flow.0 (events.Take key mode) }
-        requires free { (other : ℕ) → Blocks self.old.journal.entries other flow.0 key mode → ⊥ }
-        ensures fields { AreFields L.meaning self.new }
-        ensures ok { OnOk result
-            (MakesEvent L.meaning (core_of self.old) (core_of self.new) flow (events.Take key mode)) }
-        ensures err { OnErr result (core_of self.new ≡ core_of self.old) }
-    {
-        if self.places[flow.0 as usize].stands {
-            self.get_behind(flow, key, mode)
-        } else {
-            self.get_first(flow, key, mode)
+        write(&mut self.journal, Entry { flow, event })?;
+        match self.state.make(flow) {
+            Ok(()) => Ok(Step::Went),
+            Err(memory) => {
+                take_back(&mut self.journal);
+                Err(memory)
+            }
         }
     }
 
-    /// The same for a flow that stands in the key's line. Its place is changed last, since leaving a line can't be undone.
-    fn get_behind(&mut self, flow: FlowNo, key: Key, mode: Mode) -> Result<(), Memory>
+    /// Lets a flow stand at the key of its next take, which others block, unless it stands there.
+    fn wait(
+        &mut self,
+        flow: FlowNo,
+        key: Key,
+        mode: Mode,
+        holder: FlowNo,
+    ) -> Result<Step<L>, Memory>
         requires fields { AreFields L.meaning self.old }
-        requires coming { IsEventComing (setup_in L.meaning (core_of self.old)) (plans_of self.old)
-            self.old.places.items flow.0 (events.Take key mode) }
-        requires free { (other : ℕ) → Blocks self.old.journal.entries other flow.0 key mode → ⊥ }
-        ensures fields { AreFields L.meaning self.new }
-        ensures ok { OnOk result
-            (MakesEvent L.meaning (core_of self.old) (core_of self.new) flow (events.Take key mode)) }
-        ensures err { OnErr result (core_of self.new ≡ core_of self.old) }
-    {
-        let place = &mut self.places[flow.0 as usize];
-        let mut ahead = place.local.copy()?;
-        self.setup.advance(flow, &mut ahead)?;
-        take(&mut self.journal, &mut self.table, flow, key, mode)?;
-        place.local = ahead;
-        place.stands = false;
-        Ok(())
-    }
-
-    /// The same for a flow that stands nowhere.
-    fn get_first(&mut self, flow: FlowNo, key: Key, mode: Mode) -> Result<(), Memory>
-        requires fields { AreFields L.meaning self.old }
-        requires coming { IsEventComing (setup_in L.meaning (core_of self.old)) (plans_of self.old)
-            self.old.places.items flow.0 (events.Take key mode) }
-        requires idle { (place : Place) → slice_get self.old.places.items flow.0 ≡ Some place
-            → place.stands ≡ false }
-        requires free { (other : ℕ) → Blocks self.old.journal.entries other flow.0 key mode → ⊥ }
-        ensures fields { AreFields L.meaning self.new }
-        ensures ok { OnOk result
-            (MakesEvent L.meaning (core_of self.old) (core_of self.new) flow (events.Take key mode)) }
-        ensures err { OnErr result (core_of self.new ≡ core_of self.old) }
-    {
-        let place = &mut self.places[flow.0 as usize];
-        take_on(
-            &self.setup,
-            &mut self.journal,
-            &mut self.table,
-            &mut place.local,
-            flow,
-            key,
-            mode,
-        )?;
-        Ok(())
-    }
-
-    /// Lets a flow stand at a key where a flow blocks it, unless it stands there.
-    pub fn wait(&mut self, flow: FlowNo, key: Key, mode: Mode, holder: FlowNo) -> Result<(), Memory>
-        requires fields { AreFields L.meaning self.old }
-        requires coming { IsEventComing (setup_in L.meaning (core_of self.old)) (plans_of self.old)
-            self.old.places.items flow.0 (events.Take key mode) }
+        requires next { IsNext (setup_in L.meaning (core_of self.old)) self.old.state.entries flow.0
+            (events.Take key mode) }
         requires blocked { IsLowestOf
-            (λ other. Blocks self.old.journal.entries other flow.0 key mode) (Some holder) }
+            (λ other. Blocks self.old.state.entries other flow.0 key mode) (Some holder) }
         ensures fields { AreFields L.meaning self.new }
-        ensures ok { OnOk result
-            (HasWaited L.meaning (core_of self.old) (core_of self.new) flow key holder) }
+        ensures ok { IfOk result (HasStepped L.meaning (core_of self.old) (core_of self.new) flow) }
         ensures err { OnErr result (core_of self.new ≡ core_of self.old) }
     {
-        let _ = holder;
-        let place = &mut self.places[flow.0 as usize];
-        if place.stands {
-            return Ok(());
+        if self.state.stands(flow) {
+            return Ok(Step::Waits { key, holder });
         }
-        stand(&mut self.journal, &mut self.table, flow, key, mode)?;
-        place.stands = true;
-        Ok(())
+        let event = Event::Wait(key, mode);
+        write(&mut self.journal, Entry { flow, event })?;
+        match self.state.wait(flow, key, mode) {
+            Ok(()) => Ok(Step::Waits { key, holder }),
+            Err(memory) => {
+                take_back(&mut self.journal);
+                Err(memory)
+            }
+        }
+    }
+
+    /// Lets a flow take a key, or wait for it.
+    fn take(&mut self, flow: FlowNo, key: Key, mode: Mode) -> Result<Step<L>, Memory>
+        requires fields { AreFields L.meaning self.old }
+        requires next { IsNext (setup_in L.meaning (core_of self.old)) self.old.state.entries flow.0
+            (events.Take key mode) }
+        ensures fields { AreFields L.meaning self.new }
+        ensures ok { IfOk result (HasStepped L.meaning (core_of self.old) (core_of self.new) flow) }
+        ensures err { OnErr result (core_of self.new ≡ core_of self.old) }
+    {
+        match self.state.blocker(flow, key, mode) {
+            Some(holder) => self.wait(flow, key, mode, holder),
+            None => self.go(flow, Event::Take(key, mode)),
+        }
+    }
+
+    /// Lets a flow do what comes next.
+    pub fn step(&mut self, flow: FlowNo) -> Result<Step<L>, Memory>
+        requires fields { AreFields L.meaning self.old }
+        requires flow { flow.0 < length self.old.state.setup.items }
+        ensures fields { AreFields L.meaning self.new }
+        ensures ok { IfOk result (HasStepped L.meaning (core_of self.old) (core_of self.new) flow) }
+        ensures err { OnErr result (core_of self.new ≡ core_of self.old) }
+    {
+        if self.is_calling(flow) {
+            return Ok(Step::Calling);
+        }
+        match self.state.next(flow) {
+            Coming::Ended => Ok(Step::Ended),
+            Coming::Call(_) => Ok(Step::Job(self.begin(flow)?)),
+            Coming::Take(key, mode) => self.take(flow, key, mode),
+            Coming::Enter(node) => self.go(flow, Event::Enter(node)),
+            Coming::Choose(number) => self.go(flow, Event::Choose(number)),
+            Coming::Exit(node, outcome) => self.go(flow, Event::Exit(node, outcome)),
+            Coming::Drop(key) => self.go(flow, Event::Drop(key)),
+            Coming::End(outcome) => self.go(flow, Event::End(outcome)),
+        }
     }
 }

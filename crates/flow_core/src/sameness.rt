@@ -4,7 +4,7 @@ ghost use Rattle.std.specs.Prelude.{◌≡◌, ◌↔◌, Some, IsTrue, IfOk, op
 ghost use Rattle.std.specs.FinMap as map;
 ghost use Rattle.flow_core.specs.steps.Sameness.{IsSameAt};
 
-use crate::calls::Inputs;
+use flow_state::Inputs;
 use flux_values::{Cell, Memory, TextBytes, Value};
 
 fn same_value(a: Option<&Value>, b: Option<&Value>) -> bool

@@ -78,7 +78,7 @@ no_take_among key mode rest (w ∷ x ∷ y ∷ z ∷ own) a b c d na nb nc nd e 
     nothing_past own (Take key mode) rest (ap (drop 4) e)
 
 -- no flow of this setup comes to a take
-no_take_next : (before : List Entry) (flow : ℕ) (key : Key) (mode : Mode) → IsNext failing before flow (Take key mode) → ⊥
+pub no_take_next : (before : List Entry) (flow : ℕ) (key : Key) (mode : Mode) → IsNext failing before flow (Take key mode) → ⊥
 no_take_next before zero key mode next = by_answers (own_answers before 0) next.next
   where
     by_result : (result : CallResult) (answer : Answer) (left : List Answer)

@@ -2,3 +2,5 @@ mod Ends
 mod Held
 mod Waiting
 mod Legality
+mod Orders
+mod Rounds

@@ -2,6 +2,7 @@
 use Rattle.flow_examples.specs.Walks.{HandlerFollowsDrops, FirstCaseIsTaken, HandlersGoByCode, StopsBeforeCall, FailuresPassOutward}
 use Rattle.flow_examples.specs.Held.{ReadersShare, CellsFollowPuts, KeysGoBySession, TakesAreKeptApart, SectionsAreKeptApart, TakesMayFollow}
 use Rattle.flow_examples.specs.Waiting.{MayWaitWhereHeld, WaitsForItsOwnTake, WaitsOnlyWhereBlocked, WaitsOnce, IsNotPassedBy, CyclesAreFound}
+use Rattle.flow_examples.specs.Orders.{OneFlowGoesRound, RoundBeginsWithTheFirst, TurnsLast, ListedComeFirst, LowestComesFirst}
 use Rattle.flow_examples.specs.Legality.{FailedIsWhole, OthersAnswersAreRefused, BegunIsNotWhole}
 
 pub record Examples : Type 0 where
@@ -16,6 +17,7 @@ pub record Examples : Type 0 where
   pub takes_may_follow : TakesMayFollow
   pub may_wait : MayWaitWhereHeld
   pub failed_is_whole : FailedIsWhole
+  pub goes_round : OneFlowGoesRound
 
 pub record Refused : Type 0 where
   pub takes : TakesAreKeptApart
@@ -27,3 +29,7 @@ pub record Refused : Type 0 where
   pub cycles : CyclesAreFound
   pub answers : OthersAnswersAreRefused
   pub begun : BegunIsNotWhole
+  pub round : RoundBeginsWithTheFirst
+  pub turns : TurnsLast
+  pub listed : ListedComeFirst
+  pub lowest : LowestComesFirst

@@ -3,4 +3,5 @@ pub mod Walks
 pub mod Held
 pub mod Waiting
 pub mod Legality
+pub mod Orders
 pub mod Examples

@@ -13,8 +13,8 @@ use Rattle.flow_model.specs.Legal.{IsLegal}
 use Rattle.flux_laws.specs.Going.{IsBlocked, CanGoOn}
 use Rattle.flux_laws.proofs.Living.{not_all_blocked}
 use Rattle.flux_laws.proofs.Standing.{next-unique}
-use Rattle.flow_core.specs.declared.cores.stops.Stop.{Stop}
-use Rattle.flow_core.specs.Lines.{IsStop}
+use Rattle.flow_state.specs.declared.stops.Stop.{Stop}
+use Rattle.flow_state.specs.Lines.{IsStop}
 use Rattle.flow_waits.specs.Turns.{IsBefore, IsInLine}
 use Rattle.flow_waits.specs.steps.Staying.{IsFresh}
 use Rattle.flow_waits.specs.steps.Waking.{has, IsLess, IsEarliest, room_at}

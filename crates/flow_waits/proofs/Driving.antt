@@ -105,7 +105,7 @@ lags setup entries after pools from flow covers ready moves = let makes = moves.
   was = from;
   covers = covers;
   ready = ready;
-  later = λ one other is apart before. before;
+  later = λ one other key mode is fresh apart before. before;
 }
 
 -- one turn of a core that is drained

@@ -14,3 +14,4 @@ pub mod Ending
 pub mod Counting
 pub mod Schedules
 pub mod Driving
+mod Aside

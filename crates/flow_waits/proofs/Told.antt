@@ -13,7 +13,7 @@ use Rattle.flow_model.specs.Events.{IsLive}
 use Rattle.flow_model.specs.Waits.{StandsAt}
 use Rattle.flow_model.specs.Legal.{IsLegal}
 use Rattle.flux_table.specs.declared.locks.Waiter.{Waiter}
-use Rattle.flow_core.specs.Lines.{IsLineAt}
+use Rattle.flow_state.specs.Lines.{IsLineAt}
 use Rattle.flow_waits.specs.steps.Staying.{IsFresh}
 use Rattle.flow_waits.specs.steps.Covers.{Pools, IsReady, IsParked, IsCovered, Covers, Lags, StayReady, Wakes, WakesLine}
 use Rattle.flow_waits.proofs.Waking.{IsOwed, carried, parked-fresh}

@@ -47,7 +47,8 @@ pub record IsOwed (entries : List Entry) (event : Event) (pools : Pools) (flow :
 module _ (setup : Setup) (before : List Entry) (flow : FlowNo) (event : Event)
     (legal : IsLegal setup (before ++ record { flow = flow; event = event } ∷ []))
     (pools : Pools) (was from : ℕ) (covers : Covers setup before pools was) (ready : IsReady pools flow.0)
-    (later : (one other : ℕ) → IsReady pools one → flow.0 ≢ one → IsBefore was one other → IsBefore from one other)
+    (later : (one other : ℕ) (key : Key) (mode : Mode) → IsReady pools one → IsFresh setup before one key mode
+    → flow.0 ≢ one → IsBefore was one other → IsBefore from one other)
   where
     abbrev entries : List Entry
     entries = before ++ record { flow = flow; event = event } ∷ []
@@ -75,14 +76,18 @@ module _ (setup : Setup) (before : List Entry) (flow : FlowNo) (event : Event)
     took key mode next (Call made) may =
         absurd (nothing-left (own_events before flow.0) (Take key mode) next.rest
         (sym (let call = may.next in call.all) ∙ next.next))
-    took key mode next (Take k m) may = inl (next-unique setup before flow.0 (Take k m) (Take key mode) may.next next)
-    took key mode next (Enter node) may = inl (next-unique setup before flow.0 (Enter node) (Take key mode) may.next next)
-    took key mode next (Choose n) may = inl (next-unique setup before flow.0 (Choose n) (Take key mode) may.next next)
-    took key mode next (Exit node outcome) may = inl (next-unique setup before flow.0 (Exit node outcome) (Take key mode)
-        may.next next)
-    took key mode next (Drop k) may = inl (next-unique setup before flow.0 (Drop k) (Take key mode) may.next next)
-    took key mode next (End outcome) may = inl (next-unique setup before flow.0 (End outcome) (Take key mode) may.next
-        next)
+    took key mode next (Take k m) may =
+        inl (next-unique setup before flow.0 (Take k m) (Take key mode) may.next next)
+    took key mode next (Enter node) may =
+        inl (next-unique setup before flow.0 (Enter node) (Take key mode) may.next next)
+    took key mode next (Choose n) may =
+        inl (next-unique setup before flow.0 (Choose n) (Take key mode) may.next next)
+    took key mode next (Exit node outcome) may =
+        inl (next-unique setup before flow.0 (Exit node outcome) (Take key mode) may.next next)
+    took key mode next (Drop k) may =
+        inl (next-unique setup before flow.0 (Drop k) (Take key mode) may.next next)
+    took key mode next (End outcome) may =
+        inl (next-unique setup before flow.0 (End outcome) (Take key mode) may.next next)
 
     module _ (other : ℕ) (apart : flow.0 ≡ other → ⊥) where
       still-blocked : (key : Key) (mode : Mode) → IsNext setup before other (Take key mode) → IsBlocked setup before other
@@ -153,7 +158,7 @@ module _ (setup : Setup) (before : List Entry) (flow : FlowNo) (event : Event)
                 other = behind.other;
                 ready = behind.ready;
                 fresh = fresh-stays before flow event behind.other elsewhere setup key mode behind.fresh;
-                before = later behind.other other behind.ready elsewhere behind.before;
+                before = later behind.other other key mode behind.ready behind.fresh elsewhere behind.before;
               });
             })))
 

@@ -16,7 +16,7 @@ use Rattle.flux_laws.proofs.Members.{In, in-from_contains, contains-from_in}
 use Rattle.flux_laws.proofs.Standing.{next-unique, standing-next}
 use Rattle.flux_laws.proofs.NextEvents.{next-item}
 use Rattle.flux_table.specs.declared.locks.Waiter.{Waiter}
-use Rattle.flow_core.specs.Lines.{IsLineAt, StandInOrder}
+use Rattle.flow_state.specs.Lines.{IsLineAt, StandInOrder}
 use Rattle.flow_waits.specs.steps.Staying.{IsFresh}
 use Rattle.flow_waits.specs.steps.Waking.{has, room_at}
 use Rattle.flow_waits.specs.steps.Covers.{Pools, IsReady, IsParked, IsBehind, IsCovered, rooms_for, StayReady, MovesFirst, WakesFirst, Wakes, served_of, WakesLine}

@@ -1,4 +1,5 @@
 pub mod Turns
+pub mod Idle
 pub mod Schedules
 pub mod Drains
 pub mod Driven

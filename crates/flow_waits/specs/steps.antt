@@ -1,3 +1,4 @@
 pub mod Staying
 pub mod Waking
 pub mod Covers
+pub mod Aside

@@ -10,6 +10,8 @@ ghost use Rattle.flow_core.specs.States.{setup_in};
 ghost use Rattle.flow_waits.specs.steps.Waking.{has};
 ghost use Rattle.flow_waits.specs.steps.Covers.{Covers, IsChosen, Lags, StayReady, Parks, WakesFirst, Wakes, served_of, WakesLine};
 
+mod idle;
+
 use crate::numbers::Numbers;
 use crate::rooms::Rooms;
 use flow_core::{Core, Stop};

@@ -10,5 +10,5 @@ mod turns;
 
 pub use candidates::Candidates;
 pub use drains::{drain, drain_by, enabled};
-pub use laws::{blocked_stay, fresh_are_alike, writers_block};
+pub use laws::{blocked_stay, calls_keep_covers, fresh_are_alike, writers_block};
 pub use turns::{Turn, take_turn};

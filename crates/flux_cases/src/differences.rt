@@ -72,6 +72,21 @@ impl Differences {
         self.lines.add(line)
     }
 
+    /// Compares the number of calls that a gate was told of with those that were printed.
+    pub fn compare_calls(&mut self, told: Option<u64>, printed: u64) -> Result<(), Memory> {
+        if told == Some(printed) {
+            return Ok(());
+        }
+        let mut line = Bytes::copy(self.alloc, b"gate told of ")?;
+        match told {
+            Some(calls) => append_number(self.alloc, &mut line, calls)?,
+            None => line.append(b"calls mixed up")?,
+        }
+        line.append(b" in place of ")?;
+        append_number(self.alloc, &mut line, printed)?;
+        self.lines.add(line)
+    }
+
     /// Compares names that were asked for, where a case tells which.
     pub fn compare_names(
         &mut self,

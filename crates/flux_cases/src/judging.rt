@@ -1,13 +1,14 @@
 //! Cases run one after another, and what is wrong with each.
 
+use crate::calls::{CountingGate, calls_in};
 use crate::cases::Case;
 use crate::differences::Differences;
 use crate::entries::{Entry, Line, Stream};
 use crate::reports::Report;
 use crate::troubles::Trouble;
-use crate::worlds::world_of;
-use flux_driver::{OpenGate, top};
-use flux_values::Memory;
+use crate::worlds::{Memories, world_of};
+use flux_driver::{needs_threads, top};
+use flux_values::{Bytes, Memory};
 use std::alloc::Global;
 use std::marker::Sync;
 use std::sync::Wait;
@@ -78,6 +79,17 @@ fn judge_lines<Rt: Threads + Wait + Sync>(
     Ok(())
 }
 
+/// The status that a command line ends with. Cases look at what else came of it.
+fn answer<Rt: Threads + Wait + Sync>(
+    rt: &Rt,
+    alloc: Global,
+    words: &[Bytes],
+    world: &mut Memories,
+    gate: &CountingGate,
+) -> u8 {
+    top(rt, alloc, words, world, gate).code()
+}
+
 /// Does what a case's words say, and answers what differs from what it wants.
 fn judge<Rt: Threads + Wait + Sync>(
     rt: &Rt,
@@ -90,8 +102,9 @@ fn judge<Rt: Threads + Wait + Sync>(
         return Ok(differences);
     };
     let mut world = world_of(alloc, case)?;
-    let status = top(rt, alloc, words, &mut world, &OpenGate);
-    differences.compare_status(status.code(), case.status.unwrap_or(0))?;
+    let gate = CountingGate::new();
+    let status = answer(rt, alloc, words, &mut world, &gate);
+    differences.compare_status(status, case.status.unwrap_or(0))?;
     differences.compare_gain(
         b"out",
         Stream::Out,
@@ -106,5 +119,15 @@ fn judge<Rt: Threads + Wait + Sync>(
     )?;
     differences.compare_names(b"asked", world.store.names.all(), case.asked)?;
     differences.compare_names(b"opened", world.folder.names.all(), case.opened)?;
+    if status == 0 && is_run(words) {
+        let told = gate.calls(needs_threads(words));
+        differences.compare_calls(told, calls_in(world.out.written()))?;
+    }
     Ok(differences)
+}
+
+fn is_run(words: &[Bytes]) -> bool {
+    words
+        .first()
+        .is_some_and(|word| word.as_bytes() == b"run".as_slice())
 }

@@ -6,6 +6,7 @@
 #![tactic(auto)]
 
 mod bodies;
+mod calls;
 mod cases;
 mod differences;
 mod entries;

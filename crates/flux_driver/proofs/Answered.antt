@@ -6,7 +6,8 @@ use Rattle.flux_driver.specs.declared.statuses.Status.{Status}
 use Rattle.flux_driver.specs.declared.statuses.Status.TheVariants as statuses
 use Rattle.flux_driver.specs.declared.refusals.Refusal.{Refusal}
 use Rattle.flux_driver.specs.declared.refusals.Refusal.TheVariants as refusals
-use Rattle.flux_driver.specs.Worlds.{Told, Stream, Wrote, WroteOrBroke}
+use Rattle.flux_outside.specs.Streams.{Stream, Wrote, WroteOrBroke}
+use Rattle.flux_driver.specs.Worlds.{Told}
 use Rattle.flux_driver.specs.Causes.{write_line}
 use Rattle.flux_driver.specs.Answers.{Libraries, IsAnswer, OrMemory}
 use Rattle.flux_driver.specs.Documents.{WithDocs}
@@ -15,7 +16,7 @@ use Rattle.flux_driver.specs.Top.{AreFiles, IsStopped, AsksFor, HasAsked, HasAns
 use Rattle.flux_driver.specs.steps.Refusals.{status_of, line_of}
 use Rattle.flux_driver.specs.steps.Preparing.{AsksAll, IsRefusedAll, AreSteady, CountsBothRefusal, AnswersDue, AnswersWords, PrintsWords}
 use Rattle.flux_driver.specs.steps.Telling.{IsTold, IsPut}
-use Rattle.flux_driver.proofs.Writes.{wrote_none}
+use Rattle.flux_outside.proofs.Writes.{wrote_none}
 
 -- ---- statuses of refusals
 

@@ -15,7 +15,8 @@ use Rattle.flux_syntax.specs.ProgramOfText.{program_of}
 use Rattle.flux_check.specs.Judgement.{AreSound}
 use Rattle.flux_driver.specs.declared.statuses.Status.{Status}
 use Rattle.flux_driver.specs.declared.statuses.Status.TheVariants as statuses
-use Rattle.flux_driver.specs.Worlds.{Files, Told, Seen, Stream, Gains, Wrote, Broke, WroteOrBroke}
+use Rattle.flux_outside.specs.Streams.{Stream, Gains, Wrote, Broke, WroteOrBroke}
+use Rattle.flux_driver.specs.Worlds.{Files, Told, Seen}
 use Rattle.flux_driver.specs.Documents.{WithDocs, TellsAll}
 use Rattle.flux_driver.specs.declared.files.TheConstants.{ITEMS_FILE_LIMIT}
 use Rattle.flux_driver.specs.Inputs.{HasDecls, HasProgram, HasItems}

@@ -3,7 +3,7 @@ use Rattle.std.proofs.Common.{◌≡◌, inl, refl, sym, subst}
 use Rattle.flux_driver.specs.declared.statuses.Status.TheVariants as statuses
 use Rattle.flux_driver.specs.declared.refusals.Refusal.{Refusal}
 use Rattle.flux_driver.specs.declared.refusals.Refusal.TheVariants.{Read}
-use Rattle.flux_driver.specs.Worlds.{Stream, WroteOrBroke}
+use Rattle.flux_outside.specs.Streams.{Stream, WroteOrBroke}
 use Rattle.flux_driver.specs.Causes.{read_line}
 use Rattle.flux_driver.specs.steps.Telling.{IsTold}
 

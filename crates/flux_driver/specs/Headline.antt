@@ -21,7 +21,8 @@ use Rattle.rt_all.specs.Orders.{IsOrderOf}
 use Rattle.flux_driver.specs.declared.files.TheConstants.{PROGRAM_FILE_LIMIT, ITEMS_FILE_LIMIT}
 use Rattle.flux_driver.specs.declared.statuses.Status.{Status}
 use Rattle.flux_driver.specs.declared.statuses.Status.TheVariants as statuses
-use Rattle.flux_driver.specs.Worlds.{Told, Seen, Gives, Gains}
+use Rattle.flux_outside.specs.Streams.{Gains}
+use Rattle.flux_driver.specs.Worlds.{Told, Seen, Gives}
 use Rattle.flux_driver.specs.Documents.{AreDocs, TellsAll}
 use Rattle.flux_driver.specs.Items.{rules_in}
 use Rattle.flux_driver.specs.TrueRuns.{setup_of, printed_in}

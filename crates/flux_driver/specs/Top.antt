@@ -6,7 +6,8 @@ use Rattle.flux_syntax.specs.declared.declarations.Decl.{Decl}
 use Rattle.flux_words.specs.Commands.{Command, check, plan, format, run, help, Spells, SpellsNone}
 use Rattle.flux_driver.specs.declared.statuses.Status.{Status}
 use Rattle.flux_driver.specs.declared.statuses.Status.TheVariants as statuses
-use Rattle.flux_driver.specs.Worlds.{Files, Told, Seen, Wrote, Broke, WroteOrBroke}
+use Rattle.flux_outside.specs.Streams.{Wrote, Broke, WroteOrBroke}
+use Rattle.flux_driver.specs.Worlds.{Files, Told, Seen}
 use Rattle.flux_driver.specs.Documents.{WithDocs, TellsAll}
 use Rattle.flux_driver.specs.Commands.{folder_of}
 use Rattle.flux_driver.specs.Inputs.{HasProgram}

@@ -17,7 +17,6 @@ mod running;
 mod statuses;
 mod telling;
 mod texts;
-mod writing;
 
 pub use flow_core::{Gate, OpenGate};
 pub use flux_words::needs_threads;

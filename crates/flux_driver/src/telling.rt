@@ -1,13 +1,12 @@
 //! What is written at the end: the printed text, or the line about a refusal.
 
 ghost use Rattle.std.specs.Prelude.{◌≤◌};
-ghost use Rattle.flux_driver.specs.Worlds.{WroteOrBroke};
+ghost use Rattle.flux_outside.specs.Streams.{WroteOrBroke};
 ghost use Rattle.flux_driver.specs.steps.Telling.{IsTold, IsPut};
 
 use crate::refusals::Refusal;
 use crate::statuses::Status;
-use crate::writing::write_all;
-use flux_outside::Sink;
+use flux_outside::{Sink, write_all};
 use std::alloc::Global;
 
 /// Writes a line. A fault of the sink changes nothing else.

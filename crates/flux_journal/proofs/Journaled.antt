@@ -1,6 +1,6 @@
 -- The lines of a text, one after the other, and the entries that they spell.
-use Rattle.std.proofs.Common.{◌≡◌, inl, inr, ℕ, zero, suc, ◌+◌, ◌<◌, ◌^◌, Bool, true, false, eqb, List, [], ◌∷◌, ◌++◌, length, drop, Option, Some, None, IfNone, Result, Ok, Err, codes, refl, sym, ap, ◌∙◌, subst, append_assoc, arith, All}
-use Rattle.std.specs.List.{slice_split}
+use Rattle.std.proofs.Common.{◌≡◌, inl, inr, ℕ, zero, suc, ◌+◌, ◌<◌, ◌≤◌, ◌^◌, Bool, true, false, cond, eqb, List, [], ◌∷◌, ◌++◌, length, drop, Option, Some, None, IfSome, IfNone, Result, Ok, Err, codes, refl, sym, ap, ◌∙◌, subst, append_assoc, arith, All}
+use Rattle.std.specs.List.{slice_split, onto_first}
 use Rattle.std.specs.Fmt.{decimal}
 use Rattle.std.proofs.lemmas.Bool.{cases_order, eqb-true}
 use Rattle.std.proofs.lemmas.Bool.Decides.{nat_tests}
@@ -12,7 +12,8 @@ use Rattle.flow_model.specs.declared.journals.Journal.{Journal}
 use Rattle.flux_model.specs.Names.{IsNamed}
 use Rattle.flux_journal.specs.declared.faults.JournalFault.{JournalFault}
 use Rattle.flux_journal.specs.declared.faults.JournalFault.TheVariants as faults
-use Rattle.flux_journal.specs.Formats.{head_line}
+use Rattle.flux_journal.specs.declared.texts.Head.{Head}
+use Rattle.flux_journal.specs.Formats.{head_line, IsHeadLine}
 use Rattle.flux_journal.specs.Spelled.{IsEntryLine}
 use Rattle.flux_journal.specs.Journals.{is_line_end, without_empty_last, lines_of, is_headed, head_count, event_lines, HasHead, FitsFormat, AreEntryLines, ReadsAs, IsHeadBad, IsEventBad, IsBadLine, HasCause, IsOrMemory, IsWellHeaded}
 use Rattle.flux_journal.specs.steps.Cuts.{HasNone, IsCut, IsNumber}
@@ -43,6 +44,22 @@ line_first text front behind cut = record {
   shorter = omega (arith, ap length cut.laid, length-append front (10 ∷ behind));
 }
 
+-- a byte more makes at most one line more
+line_more : (b : ℕ) (t : Bool) (pieces : List (List ℕ)) (n : ℕ) → 0 < length pieces → length (without_empty_last pieces) ≤ n
+    → length (without_empty_last (cond t ([] ∷ pieces) (onto_first b pieces))) ≤ n + 1
+line_more b true pieces n some few = omega (arith, few, ap length (keeps_first [] pieces some))
+line_more b false [] n some few = absurd (omega arith)
+line_more b false (piece ∷ []) n some few = omega arith
+line_more b false ([] ∷ next ∷ pieces) n some few = omega (arith, few)
+line_more b false ((c ∷ piece) ∷ next ∷ pieces) n some few = omega (arith, few)
+
+-- a text has at most as many lines as bytes
+pub lines_few : (text : List ℕ) → length (lines_of text) ≤ length text
+lines_few [] = omega arith
+lines_few (b ∷ text) =
+    let more : length (lines_of (b ∷ text)) ≤ length text + 1 = line_more b (is_line_end b) (slice_split is_line_end text) (length text) (some_split text) (lines_few text) in
+    omega (arith, more)
+
 one_piece : (text : List ℕ) → 0 < length text → without_empty_last (text ∷ []) ≡ text ∷ []
 one_piece [] some = absurd (omega arith)
 one_piece (b ∷ text) some = refl
@@ -71,7 +88,7 @@ counted_all text rest count so over = omega (arith, so.counted, ap length (no_li
 
 -- ---- entries
 
-lines_more : (p : Program) (lines more : List (List ℕ)) (entries others : List Entry) → AreEntryLines p lines entries → AreEntryLines p more others → AreEntryLines p (lines ++ more) (entries ++ others)
+pub lines_more : (p : Program) (lines more : List (List ℕ)) (entries others : List Entry) → AreEntryLines p lines entries → AreEntryLines p more others → AreEntryLines p (lines ++ more) (entries ++ others)
 lines_more p [] more [] others one two = two
 lines_more p [] more (e ∷ entries) others one two = absurd one
 lines_more p (l ∷ lines) more [] others one two = absurd one
@@ -146,24 +163,53 @@ head_no_number line counts flows rest number laid cut is none events h =
     let parts = counts_cut line counts flows rest laid cut events h in
     none events (omega (arith, h.fits), append_cancel_left (codes "events ") number (decimal events) (sym is ∙ parts.1))
 
-pub head_is : (line counts flows rest number : List ℕ) (limit n events : ℕ) → limit ≡ 4294967295 → line ≡ head_word ++ counts → IsCut 32 counts flows rest → rest ≡ codes "events " ++ number → IsNumber limit flows n → IsNumber 18446744073709551615 number events → IsHeadFor line events
+pub head_is : (line counts flows rest number : List ℕ) (limit n events : ℕ) → limit ≡ 4294967295 → line ≡ head_word ++ counts → IsCut 32 counts flows rest → rest ≡ codes "events " ++ number → IsNumber limit flows n → IsNumber 18446744073709551615 number events → IsHeadLine line n events
 head_is line counts flows rest number limit n events limit_is laid cut is first second = record {
-  flows = n;
   small = omega (arith, first.0, limit_is);
   fits = omega (arith, second.0);
   is = laid ∙ ap (λ (t : List ℕ). head_word ++ t) (cut.laid ∙ ap (λ (t : List ℕ). t ++ 32 ∷ rest) first.1 ∙ ap (λ (t : List ℕ). decimal n ++ 32 ∷ t) (is ∙ ap (λ (t : List ℕ). codes "events " ++ t) second.1)
       ∙ sym (append_assoc (decimal n) (codes " events ") (decimal events)));
 }
 
-pub none_so : {P Q : Type 0} (r : Option ℕ) → IfNone r P → (P → Q) → IfNone r Q
+-- a head line for two numbers is one for so many events
+pub line_for : (line : List ℕ) (flows events : ℕ) → IsHeadLine line flows events → IsHeadFor line events
+line_for line flows events h = record { flows = flows; small = h.small; fits = h.fits; is = h.is }
+
+pub none_so : {X : Type 0} {P Q : Type 0} (r : Option X) → IfNone r P → (P → Q) → IfNone r Q
 none_so None h f = f h
-none_so (Some n) h f = tt
+none_so (Some x) h f = tt
+
+pub no_line : (line : List ℕ) → NoHead line → (flows events : ℕ) → IsHeadLine line flows events → ⊥
+no_line line none flows events h = none events (line_for line flows events h)
+
+pub head_back : (line : List ℕ) (events : ℕ) → ((flows own : ℕ) → IsHeadLine line flows own → ⊥) → IsHeadFor line events → ⊥
+head_back line events none h = none h.flows events (record { small = h.small; fits = h.fits; is = h.is })
+
+-- a head line has two numbers
+head_once : (line : List ℕ) (a b c d : ℕ) → IsHeadLine line a b → IsHeadLine line c d → (a ≡ c) × (b ≡ d)
+head_once line a b c d h k =
+    let first : IsHeadFor line b = record { flows = a; small = h.small; fits = h.fits; is = h.is } in
+    let second : IsHeadFor line d = record { flows = c; small = k.small; fits = k.fits; is = k.is } in
+    let e : head_counts a b ≡ head_counts c d = append_cancel_left head_word (head_counts a b) (head_counts c d) (sym (head_laid line b first) ∙ head_laid line d second) in
+    let same = same_cut 32 (decimal a) (decimal c) (codes "events " ++ decimal b) (codes "events " ++ decimal d) (number_clean a (omega (arith, h.small))) (number_clean c (omega (arith, k.small))) e in (
+      one_number 4294967295 a c (omega arith) (omega (arith, h.small)) (omega (arith, k.small)) same.front,
+      one_number 18446744073709551615 b d (omega arith) (omega (arith, h.fits)) (omega (arith, k.fits)) (append_cancel_left (codes "events ") (decimal b) (decimal d) same.rest),
+    )
+
+pub head_told : (line : List ℕ) (r : Option Head) → IfSome r (λ head. IsHeadLine line head.flows head.events) → IfNone r (NoHead line) → (flows events : ℕ) → IsHeadLine line flows events
+    → r ≡ Some (record { flows = flows; events = events })
+head_told line None found none flows events h = absurd (no_line line none flows events h)
+head_told line (Some head) found none flows events h =
+    let same = head_once line head.flows head.events flows events found h in
+    let first : head.flows ≡ flows = same.0 in
+    let second : head.events ≡ events = same.1 in
+    ap Some (ap (λ (n : ℕ). record { flows = n; events = head.events }) first ∙ ap (λ (n : ℕ). record { flows = flows; events = n }) second)
 
 one_head : (line : List ℕ) (a b : ℕ) → IsHeadFor line a → IsHeadFor line b → a ≡ b
 one_head line a b h k =
-    let e : head_counts h.flows a ≡ head_counts k.flows b = append_cancel_left head_word (head_counts h.flows a) (head_counts k.flows b) (sym (head_laid line a h) ∙ head_laid line b k) in
-    let same = same_cut 32 (decimal h.flows) (decimal k.flows) (codes "events " ++ decimal a) (codes "events " ++ decimal b) (number_clean h.flows (omega (arith, h.small))) (number_clean k.flows (omega (arith, k.small))) e in
-    one_number 18446744073709551615 a b (omega arith) (omega (arith, h.fits)) (omega (arith, k.fits)) (append_cancel_left (codes "events ") (decimal a) (decimal b) same.rest)
+    let first : IsHeadLine line h.flows a = record { small = h.small; fits = h.fits; is = h.is } in
+    let second : IsHeadLine line k.flows b = record { small = k.small; fits = k.fits; is = k.is } in
+    let same = head_once line h.flows a k.flows b first second in same.1
 
 pub head_test : (line : List ℕ) (told events : ℕ) → IsHeadFor line told → (eqb told events ≡ true → IsHeadFor line events) × (IsHeadFor line events → eqb told events ≡ true)
 head_test line told events h = (
@@ -235,7 +281,7 @@ headed_some (b ∷ text) is = omega arith
 
 -- ---- one answer
 
-entries_once : (p : Program) → IsNamed p → (lines : List (List ℕ)) (xs ys : List Entry) → AreEntryLines p lines xs → AreEntryLines p lines ys → xs ≡ ys
+pub entries_once : (p : Program) → IsNamed p → (lines : List (List ℕ)) (xs ys : List Entry) → AreEntryLines p lines xs → AreEntryLines p lines ys → xs ≡ ys
 entries_once p named [] [] [] one two = refl
 entries_once p named [] [] (y ∷ ys) one two = absurd two
 entries_once p named [] (x ∷ xs) ys one two = absurd one

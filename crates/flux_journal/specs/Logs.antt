@@ -1,4 +1,5 @@
--- A journal in a log: its lines, with the number of bytes that a call emits in place of the bytes.
+-- A batch in a log: its number and its items, and the lines of its journal, with the number of bytes that a call emits in
+-- place of the bytes.
 use Rattle.std.specs.Prelude.{ℕ, List, [], ◌∷◌, ◌++◌, length, codes}
 use Rattle.std.specs.List.{flat_map}
 use Rattle.std.specs.Fmt.{decimal}
@@ -8,7 +9,8 @@ use Rattle.flow_model.specs.declared.journals.Event.{Event}
 use Rattle.flow_model.specs.declared.journals.Event.TheVariants.{Take, Wait, Enter, Choose, Call, Exit, Drop, End}
 use Rattle.flow_model.specs.declared.journals.Entry.{Entry}
 use Rattle.flow_model.specs.declared.journals.Journal.{Journal}
-use Rattle.flux_model.specs.Texts.{node_name, printed_values}
+use Rattle.flux_model.specs.declared.items.Item.{Item}
+use Rattle.flux_model.specs.Texts.{node_name, printed_values, printed_item}
 use Rattle.flow_model.specs.Texts.{printed_result, printed_put, printed_event}
 
 -- how many bytes are emitted, where there are any
@@ -36,3 +38,15 @@ logged_entry p entry = decimal entry.flow.0 ++ codes " " ++ logged_event p entry
 
 abbrev pub printed_log : Program → Journal → List ℕ
 printed_log p journal = flat_map (logged_entry p) journal.entries
+
+-- an item's line
+abbrev pub item_line : Program → Item → List ℕ
+item_line p item = printed_item p item ++ codes "\n"
+
+-- a batch: its number and how many items it has, these, and its journal
+abbrev pub batch_line : ℕ → ℕ → List ℕ
+batch_line number count = codes "batch " ++ decimal number ++ codes " " ++ decimal count
+
+abbrev pub printed_batch : Program → ℕ → List Item → Journal → List ℕ
+printed_batch p number items journal =
+    batch_line number (length items) ++ codes "\n" ++ flat_map (item_line p) items ++ printed_log p journal

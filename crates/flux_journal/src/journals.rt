@@ -1,6 +1,6 @@
 //! A journal read.
 
-ghost use Rattle.std.specs.Prelude.{◌≡◌, ◌<◌, ◌≤◌, ◌^◌, ◌↔◌, ℕ, IsTrue, IfSome, IfNone, Ok, Err, length};
+ghost use Rattle.std.specs.Prelude.{◌≡◌, ◌<◌, ◌≤◌, ◌^◌, ℕ, Ok, Err, length};
 ghost use Rattle.flow_model.specs.declared.journals.Journal.{Journal};
 ghost use Rattle.flux_model.specs.Names.{IsNamed};
 ghost use Rattle.flow_model.specs.Texts.{printed_journal};
@@ -8,63 +8,16 @@ ghost use Rattle.flux_model.specs.Numbered.{IsNumbered};
 ghost use Rattle.flux_journal.specs.declared.faults.JournalFault.TheVariants as faults;
 ghost use Rattle.flux_journal.specs.Formats.{printed_journal_2};
 ghost use Rattle.flux_journal.specs.Entries.{AreEntriesOf};
-ghost use Rattle.flux_journal.specs.Journals.{lines_of, is_headed, IsWellHeaded, ReadsAs, IsBadLine, HasCause, IsOrMemory};
-ghost use Rattle.flux_journal.specs.steps.Lines.{IsFirstLine, IsHeadFor, AreEntriesRead};
+ghost use Rattle.flux_journal.specs.Journals.{lines_of, IsWellHeaded, ReadsAs, IsBadLine, HasCause, IsOrMemory};
+ghost use Rattle.flux_journal.specs.steps.Lines.{AreEntriesRead};
 
-use crate::cuts::{behind, cut, read_number};
 use crate::faults::{JournalFault, LineFault};
 use crate::lines::Reader;
+use crate::texts::{count_lines, is_head, is_headed, split_line};
 use flow_model::Journal;
 use flux_model::Program;
 use flux_values::List;
 use std::alloc::Global;
-
-/// The first line of a text, and what stands behind its LF.
-fn split_line(text: &[u8]) -> (&[u8], &[u8])
-    requires { 0 < length text.now }
-    ensures { IsFirstLine text.now result.0.now result.1.now }
-{
-    match cut(b'\n', text) {
-        Some(parts) => parts,
-        None => (text, &[]),
-    }
-}
-
-/// How many lines a text has.
-fn count_lines(text: &[u8]) -> u64
-    ensures { result ≡ length (lines_of text.now) }
-{
-    let mut rest = text;
-    let mut count = 0;
-    'lines: while !rest.is_empty() {
-        let (_, behind) = split_line(rest);
-        count += 1;
-        rest = behind;
-    }
-    count
-}
-
-/// The number of events that a head line tells.
-fn read_head(line: &[u8]) -> Option<u64>
-    ensures found { IfSome result (IsHeadFor line.now) }
-    ensures none { IfNone result ((events : ℕ) → IsHeadFor line.now events → ⊥) }
-{
-    let counts = behind(b"flux journal 2 flows ", line)?;
-    let (flows, rest) = cut(b' ', counts)?;
-    let number = behind(b"events ", rest)?;
-    let _flows = read_number(flows, u64::from(u32::MAX))?;
-    read_number(number, u64::MAX)
-}
-
-/// Whether a line is a head line for so many events.
-fn is_head(line: &[u8], events: u64) -> bool
-    ensures { IsTrue result ↔ IsHeadFor line.now events }
-{
-    match read_head(line) {
-        Some(told) => told == events,
-        None => false,
-    }
-}
 
 /// The entries of lines, the first of which has this number.
 fn read_entries(
@@ -93,13 +46,6 @@ fn read_entries(
         rest = behind;
     }
     Ok(Journal { entries })
-}
-
-/// Whether a text is of format 2.
-fn is_headed(text: &[u8]) -> bool
-    ensures { result ≡ is_headed text.now }
-{
-    text.starts_with(b"flux journal".as_slice())
 }
 
 /// The journal that a text reads as, in either format, or its first bad line.

@@ -16,9 +16,11 @@ mod lines;
 mod names;
 mod outcomes;
 mod printing;
+mod texts;
 
 pub use faults::{JournalFault, LineFault};
 pub use journals::read_journal;
 pub use laws::text_law;
-pub use lines::read_line;
-pub use printing::{print_item, print_journal, print_journal_2, print_log};
+pub use lines::{LineReader, read_line};
+pub use printing::{print_batch, print_item, print_journal, print_journal_2, print_log};
+pub use texts::{Head, Lines, is_headed, read_head};

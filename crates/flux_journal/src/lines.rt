@@ -24,6 +24,7 @@ use flow_model::{CallMade, Entry, Event, Outcome};
 use flux_model::{FlowNo, Names, NodeNo, Program};
 use flux_values::Memory;
 use std::alloc::Global;
+use std::marker::Model;
 
 /// The word that an event's text begins with.
 #[derive(Clone, Copy, Debug)]
@@ -63,7 +64,7 @@ fn read_word(bytes: &[u8]) -> Option<Word>
     }
 }
 
-/// What a program's lines are read by.
+/// A program with its nodes' names, by which its lines are read.
 #[derive(Drop)]
 pub struct Reader<'a> {
     alloc: Global,
@@ -213,6 +214,53 @@ pub fn read_line(alloc: Global, program: &Program, line: &[u8]) -> Result<Entry,
     ensures bad { ((entry : Entry) → IsEntryLine program.now line.now entry → ⊥)
         → IsLineOrMemory (Err faults.BadLine) result }
 {
-    let reader = Reader::new(alloc, program)?;
-    reader.entry(line)
+    LineReader::new(alloc, program)?.read_line(line)
+}
+
+/// What the lines of a program's journal are read by, one after the other. It is made once for a journal, since it has the
+/// program's names by hash. Contracts see it as the program.
+#[derive(Drop)]
+pub struct LineReader<'a> {
+    reader: Reader<'a>,
+}
+
+impl<'a> Model for LineReader<'a> {
+    ghost use Rattle.flux_model.specs.declared.programs.Program.{Program};
+    ghost use Rattle.flux_model.specs.contracts.programs.Program as program;
+
+    ghost Value = { Program };
+
+    ghost coded = { program.the_row.coded };
+
+    ghost use Rattle.flux_model.specs.Names.{IsNamed};
+    ghost use Rattle.flux_journal.specs.steps.Named.{IsReady};
+
+    ghost view = { λ r. r.reader.program.now };
+
+    ghost invariant = { λ r. IsReady r.reader.program.now r.reader.names };
+}
+
+impl<'a> LineReader<'a> {
+    pub fn new(alloc: Global, program: &'a Program) -> Result<LineReader<'a>, Memory>
+        requires numbered { IsNumbered program.now }
+        requires named { IsNamed program.now }
+        ensures { IfOk result (λ reader. reader ≡ program.now) }
+    {
+        Ok(LineReader {
+            reader: Reader::new(alloc, program)?,
+        })
+    }
+
+    /// The entry that a line spells. The line comes without its LF.
+    pub fn read_line(&self, line: &[u8]) -> Result<Entry, LineFault>
+        // Each answer has its cause.
+        ensures cause { HasLineCause self.now line.now result }
+        // Each cause has its answer, but for want of memory.
+        ensures entry { (entry : Entry) → IsEntryLine self.now line.now entry
+            → IsLineOrMemory (Ok entry) result }
+        ensures bad { ((entry : Entry) → IsEntryLine self.now line.now entry → ⊥)
+            → IsLineOrMemory (Err faults.BadLine) result }
+    {
+        self.reader.entry(line)
+    }
 }

@@ -7,7 +7,7 @@ ghost use Rattle.flux_values.specs.Texts.{printed_value, printed_text};
 ghost use Rattle.flux_model.specs.Texts.{node_name, class_name, source_name, printed_item, printed_values, comma_separated, printed_mode};
 ghost use Rattle.flow_model.specs.Texts.{printed_key, printed_session, printed_result, printed_put, printed_change, printed_emission, printed_call, printed_exit, printed_end, printed_event, printed_entry, printed_journal};
 ghost use Rattle.flux_journal.specs.Formats.{head_line, printed_journal_2};
-ghost use Rattle.flux_journal.specs.Logs.{printed_sent, logged_call, logged_event, logged_entry, printed_log};
+ghost use Rattle.flux_journal.specs.Logs.{printed_sent, logged_call, logged_event, logged_entry, printed_log, item_line, printed_batch};
 ghost use Rattle.flux_journal.specs.steps.Listed.{called};
 
 use flow_model::{CallMade, Entry, Event, Journal, Key, Outcome};
@@ -45,9 +45,26 @@ pub fn print_log(alloc: Global, program: &Program, journal: &Journal) -> Result<
     ensures { IfOk result (λ printed. printed ≡ printed_log program.now journal.now) }
 {
     let mut out = Bytes::new(alloc);
-    for entry in journal.entries.as_slice() {
-        append_logged(alloc, &mut out, program, entry)?;
-    }
+    append_log(alloc, &mut out, program, journal.entries.as_slice())?;
+    Ok(out)
+}
+
+/// The text of a batch in a log: `batch`, its number and how many items it has, the items, and its journal.
+pub fn print_batch(
+    alloc: Global,
+    program: &Program,
+    number: u32,
+    items: &[Item],
+    journal: &Journal,
+) -> Result<Bytes, Memory>
+    ensures { IfOk result (λ printed. printed ≡ printed_batch program.now number items.now journal.now) }
+{
+    let mut out = Bytes::new(alloc);
+    append_counted(alloc, &mut out, b"batch ", number as u64)?;
+    append_counted(alloc, &mut out, b" ", items.len() as u64)?;
+    out.append(b"\n")?;
+    append_items(alloc, &mut out, program, items)?;
+    append_log(alloc, &mut out, program, journal.entries.as_slice())?;
     Ok(out)
 }
 
@@ -56,10 +73,56 @@ pub fn print_item(alloc: Global, program: &Program, item: &Item) -> Result<Bytes
     ensures { IfOk result (λ printed. printed ≡ printed_item program.now item.now) }
 {
     let mut out = Bytes::new(alloc);
+    append_item(alloc, &mut out, program, item)?;
+    Ok(out)
+}
+
+fn append_item(alloc: Global, out: &mut Bytes, program: &Program, item: &Item) -> Result<(), Memory>
+    ensures { OnOk result (out.new ≡ out.old ++ printed_item program.now item.now) }
+{
     out.append(source_name(program, item.source))?;
     out.append(b" ")?;
-    append_values(alloc, &mut out, item.values.as_slice())?;
-    Ok(out)
+    append_values(alloc, out, item.values.as_slice())
+}
+
+fn append_item_line(
+    alloc: Global,
+    out: &mut Bytes,
+    program: &Program,
+    item: &Item,
+) -> Result<(), Memory>
+    ensures { OnOk result (out.new ≡ out.old ++ item_line program.now item.now) }
+{
+    append_item(alloc, out, program, item)?;
+    out.append(b"\n")
+}
+
+fn append_items(
+    alloc: Global,
+    out: &mut Bytes,
+    program: &Program,
+    items: &[Item],
+) -> Result<(), Memory>
+    ensures { OnOk result (out.new ≡ out.old ++ flat_map (item_line program.now) items.now) }
+{
+    for item in items {
+        append_item_line(alloc, out, program, item)?;
+    }
+    Ok(())
+}
+
+fn append_log(
+    alloc: Global,
+    out: &mut Bytes,
+    program: &Program,
+    entries: &[Entry],
+) -> Result<(), Memory>
+    ensures { OnOk result (out.new ≡ out.old ++ flat_map (logged_entry program.now) entries.now) }
+{
+    for entry in entries {
+        append_logged(alloc, out, program, entry)?;
+    }
+    Ok(())
 }
 
 fn append_head(alloc: Global, out: &mut Bytes, flows: u32, events: u64) -> Result<(), Memory>

@@ -1,1 +1,2 @@
-mod Consumed
+pub mod Consumed
+pub mod Writes

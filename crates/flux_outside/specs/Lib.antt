@@ -1,5 +1,6 @@
 pub mod Causes
 pub mod Sinks
+pub mod Streams
 pub mod Stores
 pub mod Folders
 pub mod MemoryFolders

@@ -1,7 +1,7 @@
 -- What is told of answers of std: files that were opened, folders, their entries, and errors.
 use Rattle.std.specs.Prelude.{◌≡◌, Bool, true, false, List, ℕ, [], Option, Some, None}
 use Rattle.std.specs.declared.io.ErrorKind.{ErrorKind}
-use Rattle.std.specs.declared.io.ErrorKind.TheVariants.{NotFound, NotADirectory, OutOfMemory}
+use Rattle.std.specs.declared.io.ErrorKind.TheVariants.{NotFound, NotADirectory, OutOfMemory, Interrupted}
 use Rattle.std.specs.declared.fs.attrs.FileType.{FileType}
 use Rattle.std.specs.Fs.{IsDir, IsFile}
 use Rattle.flux_outside.specs.declared.faults.StoreFault.{StoreFault}
@@ -10,6 +10,8 @@ use Rattle.flux_outside.specs.declared.folders.NextDoc.{NextDoc}
 use Rattle.flux_outside.specs.declared.folders.NextDoc.TheVariants as docs
 use Rattle.flux_outside.specs.declared.stores.File.{File}
 use Rattle.flux_outside.specs.declared.stores.File.TheVariants as files
+use Rattle.flux_outside.specs.declared.told.Counted.{Counted}
+use Rattle.flux_outside.specs.declared.told.Counted.TheVariants as counted
 use Rattle.flux_outside.specs.declared.system.EntryKind.{EntryKind}
 use Rattle.flux_outside.specs.declared.system.EntryKind.TheVariants as kinds
 
@@ -35,3 +37,8 @@ abbrev pub doc_of : List ℕ → File → Option NextDoc
 doc_of name (files.Found body) = Some (docs.Doc name body)
 doc_of name files.Longer = Some docs.Longer
 doc_of name files.Missing = None
+
+-- a read or a write that a signal interrupted did nothing, and is no failure; every other error is one
+abbrev pub why_no_count : ErrorKind → Counted
+why_no_count Interrupted = counted.Interrupted
+why_no_count kind = counted.Failed kind

@@ -35,7 +35,7 @@ impl From<Failed> for StoreFault {
 }
 
 /// Counts a failure. The count stops at its type's end.
-pub(crate) fn count(faults: &mut u64) -> Failed
+pub fn count_failure(faults: &mut u64) -> Failed
     ensures counted { faults.new ≡ one_fault_more faults.old }
     ensures later { faults.old ≤ faults.new }
     ensures rose { Rose faults.old faults.new }

@@ -4,7 +4,7 @@ ghost use Rattle.std.specs.Prelude.{◌≡◌, ◌≤◌, ◌<◌, ◌↔◌, []
 
 use crate::asked::AskedNames;
 use crate::calls::Calls;
-use crate::faults::{Failed, StoreFault, count};
+use crate::faults::{Failed, StoreFault, count_failure};
 use crate::sinks::Sink;
 use crate::stores::{File, Store};
 use flux_values::{Bytes, List, Memory};
@@ -86,11 +86,11 @@ impl Sink for MemorySink {
         let refused = self.calls.count();
         let taken = bytes.len().min(self.piece);
         if refused || taken > self.room - self.written.len() {
-            return Err(count(&mut self.faults));
+            return Err(count_failure(&mut self.faults));
         }
         match self.written.extend_from_slice(&bytes[..taken]) {
             Ok(()) => Ok(taken),
-            Err(_) => Err(count(&mut self.faults)),
+            Err(_) => Err(count_failure(&mut self.faults)),
         }
     }
 }
@@ -172,7 +172,7 @@ impl Store for MemoryStore {
     {
         self.asked.add(name);
         if self.calls.count() {
-            return Err(count(&mut self.faults).into());
+            return Err(count_failure(&mut self.faults).into());
         }
         match self.find(alloc, name, max) {
             Ok(file) => Ok(file),

@@ -4,7 +4,7 @@ ghost use Rattle.std.specs.Prelude.{◌≡◌, ◌≤◌, [], length};
 
 use crate::asked::AskedNames;
 use crate::calls::Calls;
-use crate::faults::{Failed, StoreFault, count};
+use crate::faults::{Failed, StoreFault, count_failure};
 use crate::folders::{Folder, NextDoc};
 use crate::memory::FileBytes;
 use flux_values::{Bytes, List};
@@ -75,7 +75,7 @@ impl Folder for MemoryFolder {
     {
         self.asked.add(dir);
         if self.calls.count() {
-            return Err(count(&mut self.faults));
+            return Err(count_failure(&mut self.faults));
         }
         let found = self.dir.as_bytes() == dir;
         if found {
@@ -96,7 +96,7 @@ impl Folder for MemoryFolder {
         ensures called { FolderWasCalled self.old self.new }
     {
         if self.calls.count() {
-            return Err(count(&mut self.faults).into());
+            return Err(count_failure(&mut self.faults).into());
         }
         if self.next >= self.docs.len() {
             return Ok(NextDoc::NoMore);

@@ -6,17 +6,26 @@ ghost use Rattle.flux_outside.specs.Causes.{HasStoreCause};
 ghost use Rattle.flux_outside.specs.Stores.{FitsIn};
 ghost use Rattle.flux_outside.specs.Readers.{IsFileOf, TakesAtMost};
 
-use crate::faults::{Failed, StoreFault, count};
+use crate::faults::{Failed, StoreFault, count_failure};
+use crate::interrupted::write_on;
 use crate::sinks::Sink;
 use crate::stores::{File, Store};
 use crate::system::{NotOpened, OpenFile, SystemFiles};
 use flux_values::Bytes;
 use std::alloc::Global;
-use std::io::{Read, Write};
+use std::io::{Read, Stderr, Stdout, Write};
 use std::rt::Files;
 
 /// How many bytes are read at once.
 const BLOCK: usize = 8192;
+
+/// A stream of std that hands each write to the system before it answers. So no byte that it took can be lost later without
+/// a fault, as one that stands in a buffer can.
+pub trait Unbuffered: Write {}
+
+impl Unbuffered for Stdout {}
+
+impl Unbuffered for Stderr {}
 
 /// A stream of std, as standard output.
 #[derive(Drop)]
@@ -33,7 +42,7 @@ impl<W> RealSink<W> {
     }
 }
 
-impl<W: Write> Sink for RealSink<W> {
+impl<W: Unbuffered> Sink for RealSink<W> {
     ghost use Rattle.std.specs.Prelude.{None};
     ghost use Rattle.std.specs.Io.KnownBytes.{WriteAppends};
     ghost use Rattle.flux_outside.specs.Causes.{HasCause};
@@ -50,9 +59,9 @@ impl<W: Write> Sink for RealSink<W> {
         // What std says that its stream has gained is the piece that was taken.
         ensures stream { WriteAppends (W.contents self.old.stream) (W.contents self.new.stream) result bytes.now }
     {
-        match self.stream.write(bytes) {
+        match write_on(&mut self.stream, bytes) {
             Ok(taken) if taken > 0 || bytes.is_empty() => Ok(taken),
-            _ => Err(count(&mut self.faults)),
+            _ => Err(count_failure(&mut self.faults)),
         }
     }
 }
@@ -75,7 +84,9 @@ impl<R> RealStore<R> {
 }
 
 impl<R: Files> Store for RealStore<R> {
-    ghost use Rattle.std.specs.Prelude.{None};
+    ghost use Rattle.std.specs.Prelude.{None, Err};
+    ghost use Rattle.std.specs.Str.{IsUtf8};
+    ghost use Rattle.flux_outside.specs.Stores.{AskedFor};
 
     ghost files = { λ _. None };
 
@@ -83,7 +94,13 @@ impl<R: Files> Store for RealStore<R> {
 
     ghost faults = { λ store. store.files.faults };
 
-    fn read_file(&mut self, alloc: Global, name: &[u8], max: usize) -> Result<File, StoreFault> {
+    fn read_file(&mut self, alloc: Global, name: &[u8], max: usize) -> Result<File, StoreFault>
+        ensures asked { AskedFor self.old.files.asked.names self.new.files.asked.names name.now }
+        ensures limit { IfOk result (FitsIn max) }
+        ensures cause { HasStoreCause self.old.files.faults self.new.files.faults result }
+        // A name that is no UTF-8 can't be opened.
+        ensures text { (IsUtf8 name.now → ⊥) → result ≡ Err StoreFault.Failed }
+    {
         let opened = self.files.open(name);
         read_opened(&mut self.files, alloc, opened, max)
     }

@@ -1,6 +1,7 @@
 //! The folders of the system: a thin adapter, which tells nothing of what they hold.
 
-ghost use Rattle.std.specs.Prelude.{◌≡◌, ◌++◌, ◌∷◌, [], ℕ, List, true, IfOk, IfSome, OnOk};
+ghost use Rattle.std.specs.Prelude.{◌≡◌, ◌++◌, ◌∷◌, [], ℕ, List, true, IfOk, IfSome, OnOk, OnErr};
+ghost use Rattle.std.specs.Option.{option_map};
 ghost use Rattle.flux_outside.specs.Causes.{HasCause, HasStoreCause};
 ghost use Rattle.flux_outside.specs.Folders.{DocFits};
 ghost use Rattle.flux_outside.specs.Told.{doc_of};
@@ -39,6 +40,8 @@ pub struct RealFolder<R: Files + AllocGlobal + Clone + Drop> {
     /// How many subfolders were found.
     found: usize,
     listing: Option<Listing<R>>,
+    /// The entry that is looked at. It stays until its document was given, so that a refusal loses none.
+    entry: Option<DirEntry<R, Global>>,
 }
 
 /// A folder whose entries are being read.
@@ -99,6 +102,25 @@ fn joined(alloc: Global, front: &[u8], back: &[u8]) -> Result<Bytes, Memory>
     Ok(name)
 }
 
+/// The name of an entry of a folder, relative to the outermost one.
+fn name_of<R: Files + AllocGlobal + Clone + Drop>(
+    alloc: Global,
+    listing: &Option<Listing<R>>,
+    entry: &DirEntry<R, Global>,
+) -> Result<Bytes, Memory>
+    ensures { IfSome listing.now (λ listing.
+        IfOk result (λ name. (rest : List ℕ) × (name ≡ listing.prefix ++ rest))) }
+{
+    match listing {
+        Some(listing) => joined(
+            alloc,
+            listing.prefix.as_bytes(),
+            entry.file_name().as_bytes(),
+        ),
+        None => Bytes::copy(alloc, entry.file_name().as_bytes()),
+    }
+}
+
 impl<R: Files + AllocGlobal + Clone + Drop> RealFolder<R> {
     /// No folder is open yet. Room for a path is reserved here, so that opening takes no memory.
     pub fn new(alloc: Global, runtime: R) -> Result<RealFolder<R>, Memory>
@@ -115,26 +137,32 @@ impl<R: Files + AllocGlobal + Clone + Drop> RealFolder<R> {
             pending: List::new(alloc),
             found: 0,
             listing: None,
+            entry: None,
         })
     }
 
-    /// Begins a walk through a folder.
+    /// Begins a walk through a folder. A path that there is no room for is a fault.
     fn begin(&mut self, dir: &[u8]) -> Result<(), Failed>
+        ensures root { OnOk result (self.new.root.items ≡ dir.now) }
         ensures fresh { OnOk result (self.new.fresh ≡ true) }
         ensures pending { OnOk result (self.new.pending ≡ []) }
         ensures found { OnOk result (self.new.found ≡ 0) }
+        ensures between { OnOk result ((self.new.listing ≡ None) × (self.new.entry ≡ None)) }
+        ensures stands { OnErr result (self.new ≡ record self.old { files = self.new.files }) }
         ensures asked { self.new.asked ≡ self.old.asked }
         ensures cause { HasCause self.old.files.faults self.new.files.faults result }
     {
+        if dir.len() > self.root.capacity() {
+            return Err(self.files.fail());
+        }
         self.root.clear();
+        let _ = self.root.extend_from_slice(dir);
         self.pending = List::new(self.alloc);
         self.found = 0;
         self.listing = None;
+        self.entry = None;
         self.fresh = true;
-        match self.root.extend_from_slice(dir) {
-            Ok(()) => Ok(()),
-            Err(_) => Err(self.files.fail()),
-        }
+        Ok(())
     }
 
     /// A path: the folder's, and a name in it.
@@ -146,79 +174,83 @@ impl<R: Files + AllocGlobal + Clone + Drop> RealFolder<R> {
         Ok(path)
     }
 
+    /// One step. Refused, the walk stands where it stood: no entry is lost but one that the system didn't give.
     fn step(&mut self, alloc: Global) -> Result<Step, StoreFault>
+        ensures stands { OnErr result (self.new ≡ record self.old { files = self.new.files; listing = self.new.listing }) }
+        ensures prefix { OnErr result (option_map (λ listing. listing.prefix) self.new.listing
+            ≡ option_map (λ listing. listing.prefix) self.old.listing) }
         ensures asked { self.new.asked ≡ self.old.asked }
         ensures cause { HasStoreCause self.old.files.faults self.new.files.faults result }
     {
-        let entry = match &mut self.listing {
-            None => return self.list_next(alloc),
-            Some(listing) => self.files.next_entry(&mut listing.entries)?,
-        };
-        match entry {
-            Some(entry) => self.look_at(alloc, &entry),
-            None => {
-                self.listing = None;
-                Ok(Step::On)
-            }
+        if self.entry.is_some() {
+            return self.look_at(alloc);
         }
+        let Some(mut listing) = self.listing.take() else {
+            return self.list_next(alloc);
+        };
+        let entry = self.files.next_entry(&mut listing.entries);
+        self.listing = Some(listing);
+        self.entry = entry?;
+        if self.entry.is_none() {
+            self.listing = None;
+        }
+        Ok(Step::On)
     }
 
     /// Goes on with the folder itself, or with the next subfolder.
     fn list_next(&mut self, alloc: Global) -> Result<Step, StoreFault>
+        ensures stands { OnErr result (self.new ≡ record self.old { files = self.new.files }) }
         ensures asked { self.new.asked ≡ self.old.asked }
         ensures cause { HasStoreCause self.old.files.faults self.new.files.faults result }
     {
         let prefix = if self.fresh {
             Bytes::new(alloc)
         } else {
-            match self.pending.pop() {
-                Some(prefix) => prefix,
+            match self.pending.last() {
+                Some(prefix) => Bytes::copy(alloc, prefix.as_bytes())?,
                 None => return Ok(Step::Over),
             }
         };
-        self.fresh = false;
         let path = self.path_of(alloc, prefix.as_bytes())?;
         let entries = self.files.read_folder(path.as_bytes())?;
+        if self.fresh {
+            self.fresh = false;
+        } else {
+            let _ = self.pending.pop();
+        }
         self.listing = Some(Listing { prefix, entries });
         Ok(Step::On)
     }
 
-    fn look_at(&mut self, alloc: Global, entry: &DirEntry<R, Global>) -> Result<Step, StoreFault>
+    /// What the entry is that is looked at. A file stays the entry until it was read.
+    fn look_at(&mut self, alloc: Global) -> Result<Step, StoreFault>
+        ensures stands { OnErr result (self.new ≡ record self.old { files = self.new.files }) }
         ensures asked { self.new.asked ≡ self.old.asked }
         ensures cause { HasStoreCause self.old.files.faults self.new.files.faults result }
     {
+        let Some(entry) = &self.entry else {
+            return Ok(Step::On);
+        };
         let kind = self.files.kind_of(entry)?;
-        let mut name = self.name_of(alloc, entry)?;
+        let mut name = name_of(alloc, &self.listing, entry)?;
         match kind {
-            EntryKind::File => Ok(Step::File(name)),
-            EntryKind::Folder if self.found >= SUBFOLDER_LIMIT => Ok(Step::TooMany),
+            EntryKind::File => return Ok(Step::File(name)),
+            EntryKind::Folder if self.found >= SUBFOLDER_LIMIT => return Ok(Step::TooMany),
             EntryKind::Folder => {
                 name.append(b"/")?;
                 self.pending.add(name)?;
                 self.found += 1;
-                Ok(Step::On)
             }
-            EntryKind::Other => Ok(Step::On),
+            EntryKind::Other => {}
         }
+        self.entry = None;
+        Ok(Step::On)
     }
 
-    /// The name of an entry, relative to the folder.
-    fn name_of(&self, alloc: Global, entry: &DirEntry<R, Global>) -> Result<Bytes, Memory>
-        ensures { IfSome self.now.listing (λ listing.
-            IfOk result (λ name. (rest : List ℕ) × (name ≡ listing.prefix ++ rest))) }
-    {
-        match &self.listing {
-            Some(listing) => joined(
-                alloc,
-                listing.prefix.as_bytes(),
-                entry.file_name().as_bytes(),
-            ),
-            None => Bytes::copy(alloc, entry.file_name().as_bytes()),
-        }
-    }
-
-    /// A document, by its name. A file that isn't there any more is a fault.
+    /// The document of the entry that is looked at, by its name. A file that isn't there any more is a fault.
     fn read(&mut self, alloc: Global, name: Bytes, max: usize) -> Result<NextDoc, StoreFault>
+        ensures stands { OnErr result (self.new ≡ record self.old { files = self.new.files }) }
+        ensures longer { result ≡ Ok NextDoc.Longer → self.new ≡ record self.old { files = self.new.files } }
         ensures asked { self.new.asked ≡ self.old.asked }
         ensures limit { IfOk result (DocFits max) }
         ensures cause { HasStoreCause self.old.files.faults self.new.files.faults result }
@@ -227,14 +259,20 @@ impl<R: Files + AllocGlobal + Clone + Drop> RealFolder<R> {
         let opened = self.files.open(path.as_bytes());
         let file = read_opened(&mut self.files, alloc, opened, max)?;
         match doc_of(name, file) {
-            Some(doc) => Ok(doc),
+            Some(NextDoc::Longer) => Ok(NextDoc::Longer),
+            Some(doc) => {
+                self.entry = None;
+                Ok(doc)
+            }
             None => Err(self.files.fail().into()),
         }
     }
 }
 
 impl<R: Files + AllocGlobal + Clone + Drop> Folder for RealFolder<R> {
-    ghost use Rattle.std.specs.Prelude.{None};
+    ghost use Rattle.std.specs.Prelude.{None, Ok, true, false, IsErr};
+    ghost use Rattle.std.specs.Str.{IsUtf8};
+    ghost use Rattle.flux_outside.specs.Stores.{AskedFor};
 
     ghost folders = { λ _. None };
 
@@ -244,7 +282,15 @@ impl<R: Files + AllocGlobal + Clone + Drop> Folder for RealFolder<R> {
 
     ghost faults = { λ folder. folder.files.faults };
 
-    fn open(&mut self, dir: &[u8]) -> Result<bool, Failed> {
+    fn open(&mut self, dir: &[u8]) -> Result<bool, Failed>
+        ensures asked { AskedFor self.old.asked.names self.new.asked.names dir.now }
+        ensures cause { HasCause self.old.files.faults self.new.files.faults result }
+        // Where no folder was opened, the walk stands where it stood.
+        ensures stands { OnErr result (self.new ≡ record self.old { files = self.new.files; asked = self.new.asked }) }
+        ensures absent { result ≡ Ok false → self.new ≡ record self.old { files = self.new.files; asked = self.new.asked } }
+        ensures opened { result ≡ Ok true → (self.new.root.items ≡ dir.now) × (self.new.fresh ≡ true) × (self.new.pending ≡ []) }
+        ensures text { (IsUtf8 dir.now → ⊥) → IsErr result }
+    {
         self.asked.add(dir);
         if self.files.is_folder(dir)? {
             self.begin(dir)?;

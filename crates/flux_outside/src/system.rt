@@ -1,6 +1,6 @@
 //! The files of the system: each is opened and read here alone, where names are noted and failures counted.
 
-ghost use Rattle.std.specs.Prelude.{◌≡◌, ◌≤◌, [], Err};
+ghost use Rattle.std.specs.Prelude.{◌≡◌, ◌≤◌, [], Err, IsErr};
 ghost use Rattle.std.specs.Str.{IsUtf8};
 ghost use Rattle.std.specs.Io.{ReadsAtMost};
 ghost use Rattle.std.specs.Io.KnownBytes.{ReadConsumes};
@@ -10,7 +10,8 @@ ghost use Rattle.flux_outside.specs.Opening.{CountsOpening};
 ghost use Rattle.flux_outside.specs.Told.{fault_of};
 
 use crate::asked::AskedNames;
-use crate::faults::{Failed, StoreFault, count};
+use crate::faults::{Failed, StoreFault, count_failure};
+use crate::interrupted::read_on;
 use crate::told::{entry_told, fault_of, folder_told, kind_told, opened};
 use std::alloc::Global;
 use std::fs;
@@ -58,7 +59,7 @@ impl<R> SystemFiles<R> {
         ensures later { self.old.faults ≤ self.new.faults }
         ensures rose { Rose self.old.faults self.new.faults }
     {
-        count(&mut self.faults)
+        count_failure(&mut self.faults)
     }
 
     /// The fault for an error of the system, which is counted where it is a failure.
@@ -70,7 +71,7 @@ impl<R> SystemFiles<R> {
     {
         let fault = fault_of(kind);
         if let StoreFault::Failed = fault {
-            let _ = count(&mut self.faults);
+            let _ = count_failure(&mut self.faults);
         }
         fault
     }
@@ -86,7 +87,7 @@ impl<R> SystemFiles<R> {
         }
     }
 
-    /// Reads on in a file.
+    /// Reads on in a file. What a signal interrupts is tried again.
     pub fn read<F: Read>(
         &mut self,
         file: &mut OpenFile<F>,
@@ -97,9 +98,9 @@ impl<R> SystemFiles<R> {
         ensures asked { self.new.asked ≡ self.old.asked }
         ensures cause { HasStoreCause self.old.faults self.new.faults result }
     {
-        match file.reader.read(buffer) {
+        match read_on(&mut file.reader, buffer) {
             Ok(count) => Ok(count),
-            Err(e) => Err(self.refuse(e.kind())),
+            Err(kind) => Err(self.refuse(kind)),
         }
     }
 }
@@ -118,7 +119,7 @@ impl<R: Files> SystemFiles<R> {
             Err(_) => Err(NotOpened::Failed),
         };
         if let Err(NotOpened::Failed) = &answer {
-            let _ = count(&mut self.faults);
+            let _ = count_failure(&mut self.faults);
         }
         answer
     }
@@ -127,15 +128,16 @@ impl<R: Files> SystemFiles<R> {
 impl<R: Files> SystemFiles<R> {
     /// Whether there is a folder of a name. It takes no memory.
     pub fn is_folder(&mut self, name: &[u8]) -> Result<bool, Failed>
+        ensures text { (IsUtf8 name.now → ⊥) → IsErr result }
         ensures asked { self.new.asked ≡ self.old.asked }
         ensures cause { HasCause self.old.faults self.new.faults result }
     {
         let Ok(path) = str::from_utf8(name) else {
-            return Err(count(&mut self.faults));
+            return Err(count_failure(&mut self.faults));
         };
         match folder_told(&fs::metadata(&self.runtime, path)) {
             Some(is) => Ok(is),
-            None => Err(count(&mut self.faults)),
+            None => Err(count_failure(&mut self.faults)),
         }
     }
 }
@@ -143,11 +145,12 @@ impl<R: Files> SystemFiles<R> {
 impl<R: Files + AllocGlobal + Clone + Drop> SystemFiles<R> {
     /// The entries of a folder.
     pub fn read_folder(&mut self, name: &[u8]) -> Result<ReadDir<R, Global>, StoreFault>
+        ensures text { (IsUtf8 name.now → ⊥) → result ≡ Err StoreFault.Failed }
         ensures asked { self.new.asked ≡ self.old.asked }
         ensures cause { HasStoreCause self.old.faults self.new.faults result }
     {
         let Ok(path) = str::from_utf8(name) else {
-            return Err(count(&mut self.faults).into());
+            return Err(count_failure(&mut self.faults).into());
         };
         match fs::read_dir(&self.runtime, path) {
             Ok(entries) => Ok(entries),

@@ -4,7 +4,7 @@ ghost use Rattle.std.specs.Prelude.{◌≡◌, ◌↔◌, IsTrue, Some, None, Ok
 ghost use Rattle.std.specs.IoError.{error_kind};
 ghost use Rattle.std.specs.Fs.{file_type, IsDir};
 ghost use Rattle.flux_outside.specs.Opening.{why_not};
-ghost use Rattle.flux_outside.specs.Told.{folder_for, fault_of, IsKindOf};
+ghost use Rattle.flux_outside.specs.Told.{folder_for, fault_of, why_no_count, IsKindOf};
 
 use crate::faults::StoreFault;
 use crate::system::{EntryKind, NotOpened, OpenFile};
@@ -78,6 +78,36 @@ pub fn kind_told(answer: &io::Result<FileType>) -> Result<EntryKind, ErrorKind>
         Ok(kind) if kind.is_dir() => Ok(EntryKind::Folder),
         Ok(_) => Ok(EntryKind::Other),
         Err(e) => Err(e.kind()),
+    }
+}
+
+/// What a read or a write of std came to.
+#[derive(Clone, Copy, Debug)]
+pub enum Counted {
+    /// It took or gave so many bytes.
+    Took(usize),
+    /// A signal interrupted it, so nothing was done.
+    Interrupted,
+    Failed(ErrorKind),
+}
+
+fn why_no_count(kind: ErrorKind) -> Counted
+    ensures { result ≡ why_no_count kind }
+{
+    match kind {
+        ErrorKind::Interrupted => Counted::Interrupted,
+        kind => Counted::Failed(kind),
+    }
+}
+
+/// What a read or a write came to: only what a signal interrupted may be tried again.
+pub fn count_told(answer: io::Result<usize>) -> Counted
+    ensures took { IfOk answer (λ count. result ≡ Counted.Took count) }
+    ensures failed { IfErr answer (λ e. result ≡ why_no_count (error_kind e)) }
+{
+    match answer {
+        Ok(count) => Counted::Took(count),
+        Err(e) => why_no_count(e.kind()),
     }
 }
 

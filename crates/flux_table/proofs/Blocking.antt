@@ -16,7 +16,7 @@ none_holds : (held : Held) → None ≡ Some held → ⊥
 none_holds held e = subst (λ (o : Option Held). elim o as (λ _. Type 0) [ None ↦ Unit {0} | Some x ↦ ⊥ ]) e tt
 
 -- a flow doesn't stand before itself
-stands_apart : (line : List Waiter) (flow : ℕ) (waiter : Waiter) → Contains (line_before line flow) waiter → waiter.flow.0 ≢ flow
+pub stands_apart : (line : List Waiter) (flow : ℕ) (waiter : Waiter) → Contains (line_before line flow) waiter → waiter.flow.0 ≢ flow
 stands_apart line flow waiter stands same =
     let front = prefix_len (λ w. not (is_of flow w)) line in
     let within : stands.0 < front = omega (arith, stands.1, length-take-le front line (prefix_len-le-length (λ w. not (is_of flow w)) line)) in

@@ -33,6 +33,16 @@ pub record Blocks (held : Holding) (line : List Waiter) (other flow : ℕ) (mode
   pub apart : other ≢ flow
   pub cause : HoldsAgainst held other mode ⊎ StandsAgainst (line_before line flow) other mode
 
+-- of these: a flow that holds the key in conflict
+pub record IsHeldAgainst (held : Holding) (other flow : ℕ) (mode : Mode) : Type 0 where
+  pub free : held flow ≡ None
+  pub holds : HoldsAgainst held other mode
+
+-- and one that stands there in conflict, before the flow or with the flow not there
+pub record IsAhead (held : Holding) (line : List Waiter) (other flow : ℕ) (mode : Mode) : Type 0 where
+  pub free : held flow ≡ None
+  pub stands : StandsAgainst (line_before line flow) other mode
+
 -- the lowest of the flows that are so, and none where no flow is
 abbrev pub IsLowestOf : (ℕ → Type 0) → Option FlowNo → Type 0
 IsLowestOf Is None = (flow : ℕ) → Is flow → ⊥

@@ -2,7 +2,7 @@
 
 ghost use Rattle.std.specs.Prelude.{◌≡◌, ◌++◌, ◌∷◌, [], ◌↔◌, IfOk, OnOk, OnErr, Some, None, IsTrue};
 ghost use Rattle.flux_table.specs.Locks.{held_by, StandsNowhere};
-ghost use Rattle.flux_table.specs.Blockers.{Blocks, HoldsAgainst, IsLowestOf};
+ghost use Rattle.flux_table.specs.Blockers.{Blocks, HoldsAgainst, IsHeldAgainst, IsAhead, IsLowestOf};
 ghost use Rattle.flux_table.specs.Changes.{one_more, one_less, with_held, line_without};
 
 use crate::lines::{Line, lower};
@@ -86,6 +86,27 @@ impl Lock {
                 self.holder_against(mode),
                 self.line.lowest_against(flow, mode),
             ),
+        }
+    }
+
+    /// The lowest-numbered holder in conflict with a mode, where this flow doesn't hold the key.
+    pub fn held_against(&self, flow: FlowNo, mode: Mode) -> Option<FlowNo>
+        ensures { IsLowestOf (λ other. IsHeldAgainst (held_by self.now.holders) other flow.0 mode) result }
+    {
+        match self.holders.get(&flow) {
+            Some(_) => None,
+            None => self.holder_against(mode),
+        }
+    }
+
+    /// The lowest-numbered flow in conflict with a mode that stands ahead of a flow.
+    pub fn ahead(&self, flow: FlowNo, mode: Mode) -> Option<FlowNo>
+        ensures { IsLowestOf (λ other.
+            IsAhead (held_by self.now.holders) self.now.line other flow.0 mode) result }
+    {
+        match self.holders.get(&flow) {
+            Some(_) => None,
+            None => self.line.lowest_against(flow, mode),
         }
     }
 

@@ -2,7 +2,7 @@
 
 ghost use Rattle.std.specs.Prelude.{◌≡◌, [], IfOk, OnOk, OnErr, IsSome, option_map};
 ghost use Rattle.flux_table.specs.Tables.{holders_of, lines_of};
-ghost use Rattle.flux_table.specs.Blockers.{Blocks, IsLowestOf, MayTake, MayWait};
+ghost use Rattle.flux_table.specs.Blockers.{Blocks, IsHeldAgainst, IsAhead, IsLowestOf, MayTake, MayWait};
 ghost use Rattle.flux_table.specs.Changes.{Takes, Waits, Releases, blocker_in, Follows};
 
 use crate::locks::{Lock, Waiter};
@@ -106,6 +106,21 @@ impl Table {
             result }
     {
         self.locks.get(&key)?.blocker(flow, mode)
+    }
+
+    /// The lowest-numbered flow that holds a key in conflict, where this flow doesn't hold it.
+    pub fn held_against(&self, flow: FlowNo, key: Key, mode: Mode) -> Option<FlowNo>
+        ensures { IsLowestOf (λ other. IsHeldAgainst (holders_of self.now key) other flow.0 mode) result }
+    {
+        self.locks.get(&key)?.held_against(flow, mode)
+    }
+
+    /// The lowest-numbered flow that stands in a key's line in conflict, ahead of this flow.
+    pub fn ahead(&self, flow: FlowNo, key: Key, mode: Mode) -> Option<FlowNo>
+        ensures { IsLowestOf (λ other.
+            IsAhead (holders_of self.now key) (lines_of self.now key) other flow.0 mode) result }
+    {
+        self.locks.get(&key)?.ahead(flow, mode)
     }
 
     /// The flows that wait for a key, first come first.

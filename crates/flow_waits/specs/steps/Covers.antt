@@ -11,7 +11,7 @@ use Rattle.flow_model.specs.Events.{IsLive}
 use Rattle.flux_laws.specs.Going.{IsBlocked}
 use Rattle.flux_laws.specs.Hoisted.{is_writer}
 use Rattle.flux_table.specs.declared.locks.Waiter.{Waiter}
-use Rattle.flow_core.specs.declared.cores.stops.Stop.{Stop}
+use Rattle.flow_state.specs.declared.stops.Stop.{Stop}
 use Rattle.flow_waits.specs.Turns.{IsBefore, IsFirstFrom, IsInLine}
 use Rattle.flow_waits.specs.steps.Staying.{IsFresh}
 use Rattle.flow_waits.specs.steps.Waking.{has, IsMore, IsLess, IsEarliest, Rooms, room_at, IsMoreAt, IsLessAt}
@@ -77,7 +77,8 @@ pub record Lags (setup : Setup) (entries : List Entry) (pools : Pools) (from : �
   pub was : ℕ
   pub covers : Covers setup before pools was
   pub ready : IsReady pools flow.0
-  pub later : (one other : ℕ) → IsReady pools one → flow.0 ≢ one → IsBefore was one other → IsBefore from one other
+  pub later : (one other : ℕ) (key : Key) (mode : Mode) → IsReady pools one → IsFresh setup before one key mode
+      → flow.0 ≢ one → IsBefore was one other → IsBefore from one other
 
 -- ---- changes
 

@@ -4,7 +4,7 @@ use Rattle.flux_driver.specs.declared.statuses.Status.{Status}
 use Rattle.flux_driver.specs.declared.statuses.Status.TheVariants as statuses
 use Rattle.flux_driver.specs.declared.refusals.Refusal.{Refusal}
 use Rattle.flux_driver.specs.declared.refusals.Refusal.TheVariants.{Read}
-use Rattle.flux_driver.specs.Worlds.{Stream, Wrote, Broke, WroteOrBroke}
+use Rattle.flux_outside.specs.Streams.{Stream, Wrote, Broke, WroteOrBroke}
 use Rattle.flux_driver.specs.Causes.{write_line}
 use Rattle.flux_driver.specs.steps.Refusals.{status_of, line_of}
 

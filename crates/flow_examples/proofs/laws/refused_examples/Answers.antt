@@ -1,6 +1,7 @@
 use Rattle.flow_examples.proofs.Held.{takes_apart, sections_apart}
 use Rattle.flow_examples.proofs.Waiting.{own_take, only_blocked, once, not_passed, cycle_found}
 use Rattle.flow_examples.proofs.Legality.{answers_refused, begun_not_whole}
+use Rattle.flow_examples.proofs.Orders.{first_begins, turns_last, listed_first, lowest_first}
 use Rattle.flow_examples.proofs.laws.refused_examples.Goals as goal
 
 pub returns : goal.returns
@@ -14,4 +15,8 @@ returns c = record {
   cycles = cycle_found;
   answers = answers_refused;
   begun = begun_not_whole;
+  round = first_begins;
+  turns = turns_last;
+  listed = listed_first;
+  lowest = lowest_first;
 }

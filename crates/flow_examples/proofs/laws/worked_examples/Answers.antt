@@ -2,6 +2,7 @@ use Rattle.std.proofs.Common.{refl}
 use Rattle.flow_examples.proofs.Held.{may_follow, keys_differ}
 use Rattle.flow_examples.proofs.Waiting.{may_wait}
 use Rattle.flow_examples.proofs.Legality.{failed_whole}
+use Rattle.flow_examples.proofs.Rounds.{goes_round}
 use Rattle.std.specs.FinMap.{gets}
 use Rattle.flow_examples.proofs.laws.worked_examples.Goals as goal
 
@@ -18,4 +19,5 @@ returns c = record {
   takes_may_follow = may_follow;
   may_wait = may_wait;
   failed_is_whole = failed_whole;
+  goes_round = goes_round;
 }

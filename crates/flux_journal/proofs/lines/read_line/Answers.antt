@@ -1,9 +1,8 @@
-use Rattle.std.proofs.Common.{subst}
-use Rattle.flux_journal.specs.Journals.{HasLineCause}
-use Rattle.flux_journal.proofs.Once.{answers_entry}
+use Rattle.std.proofs.Common.{sym, subst}
+use Rattle.flux_model.specs.declared.programs.Program.{Program}
+use Rattle.flux_journal.specs.Spelled.{IsEntryLine}
 use Rattle.flux_journal.proofs.lines.read_line.Goals as goal
 
 pub returns-clause-entry : goal.returns-clause-entry
-returns-clause-entry c =
-    let cause = subst (λ p. HasLineCause p c.args.line.now c.entry.result) c.in_ok-reader.ensures.same c.entry.ensures in
-    answers_entry c.args.program.now c.requires.named c.args.line.now c.entry.result cause
+returns-clause-entry c entry is =
+    c.read_line-2.ensures.entry entry (subst (λ (p : Program). IsEntryLine p c.args.line.now entry) (sym c.in_ok-new.ensures) is)

@@ -1,6 +1,15 @@
 use Rattle.flow_core.specs.steps.Fields.{core_of}
+use Rattle.flow_core.proofs.Moved.{begun-in, begun-within}
 use Rattle.flow_core.proofs.Sequels.{finish-on, finish-leaves}
 use Rattle.flow_core.proofs.cores.Core.finish.Goals as goal
+
+pub answer-requires-2-clause-flow : goal.answer-requires-2-clause-flow
+answer-requires-2-clause-flow g c =
+    let begun = c.in_ok-has_begun.ensures.0 c.if-not-branch.false in
+    begun-within g.L.Meaning.meaning c.self.inside.fields c.self.invariant c.flow-flow.result
+    c.inputs-inputs.result.now
+    (begun-in g.L.Meaning.meaning c.self.inside.fields c.self.invariant c.flow-flow.result c.inputs-inputs.result.now
+    begun)
 
 pub returns-clause-on : goal.returns-clause-on
 returns-clause-on g c =

@@ -1,5 +1,4 @@
 use Rattle.flow_core.specs.steps.Fields.{core_of}
-use Rattle.flow_core.proofs.OnFields.{kept-of}
 use Rattle.flow_core.proofs.Comes.{comes-if_ok}
 use Rattle.flow_core.proofs.Sequels.{step-on, step-leaves}
 use Rattle.flow_core.proofs.cores.Core.step.Goals as goal
@@ -11,7 +10,7 @@ pub returns-clause-each : goal.returns-clause-each
 returns-clause-each g c =
     rw (← c.self.view_is)
     (comes-if_ok g.L.Meaning.meaning (core_of c.self.inside.fields) (core_of c.step.new.self) c.args.flow
-    (kept-of g.L.Meaning.meaning c.self.inside.fields c.self.invariant)
+    c.self.invariant.kept
     (rw (← c.self.view_is) at c.requires) c.step.result c.step.ensures.ok)
 
 pub returns-clause-on : goal.returns-clause-on

@@ -1,10 +1,12 @@
-use Rattle.flow_core.proofs.Asked.{not-at_call}
-use Rattle.flow_core.proofs.Called.{begun-in}
+use Rattle.flow_core.proofs.Moved.{begun-in, finished-running}
 use Rattle.flow_core.proofs.fields.Fields.answer.Goals as goal
 
-pub unreachable-requires : goal.unreachable-requires
-unreachable-requires g c =
-    let inputs = c.args.inputs.now in
-    let begun = begun-in g.L.Meaning.meaning c.args.self.now c.requires.fields c.args.flow inputs c.requires.begun in
-    not-at_call g.L.Meaning.meaning c.args.self.now c.requires.fields c.args.flow c.requires.flow c.next.result
-    c.next.ensures c.in_default.not-Call (inputs.node, inputs.args, begun.next)
+pub answer-requires-clause-next : goal.answer-requires-clause-next
+answer-requires-clause-next g c =
+    begun-in g.L.Meaning.meaning c.args.self.now c.requires.fields c.args.flow c.args.inputs.now c.requires.begun
+
+pub returns-in-Ok-clause-fields : goal.returns-in-Ok-clause-fields
+returns-in-Ok-clause-fields g c =
+    finished-running g.L.Meaning.meaning c.args.self.now c.requires.fields c.args.flow c.args.inputs.now
+    c.requires.begun c.args.answer.now c.answer.new.self c.in-Ok.ensures.ok c.write.new.journal
+    (rw (c.in_ok-entry.ensures, c.as_slice-args.ensures) at c.in_ok-write.ensures.ok)

@@ -1,44 +1,7 @@
-use Rattle.std.proofs.Common.{refl}
-use Rattle.flow_core.specs.declared.places.Place.{Place}
-use Rattle.flow_core.proofs.OnFields.{may-advance, quiet-moved, no-call, moved-makes, moved-goes_on}
+use Rattle.flow_core.proofs.Moved.{go-running}
 use Rattle.flow_core.proofs.fields.Fields.go.Goals as goal
 
-pub make-requires : goal.make-requires
-make-requires g c =
-    may-advance g.L.Meaning.meaning c.args.self.now c.requires.fields c.args.flow c.args.event c.requires.coming
-    c.index_mut-place.result.now c.index_mut-place.ensures.value
-
-pub returns-clause-fields : goal.returns-clause-fields
-returns-clause-fields g c =
-    let r = c.args.self.now in
-    let place = c.index_mut-place.result.now in
-    let read = c.index_mut-place.ensures.value in
-    let new : Place = record {
-      local = c.make.new.local;
-      session = place.session;
-      begun = place.begun;
-      stands = place.stands;
-    } in
-    moved-goes_on g.L.Meaning.meaning r c.requires.fields c.args.flow c.args.event c.requires.coming place read new
-    r.table c.make.new.journal r.live c.in_ok-make.ensures.added refl
-    (quiet-moved g.L.Meaning.meaning r c.requires.fields c.args.flow c.args.event c.requires.coming place read new
-    c.in_ok-make.ensures.made refl refl refl c.requires.quiet
-    (no-call g.L.Meaning.meaning r c.requires.fields c.args.flow c.args.event c.requires.coming place read))
-    c.requires.goes_on refl
-
-pub returns-clause-ok : goal.returns-clause-ok
-returns-clause-ok g c =
-    let r = c.args.self.now in
-    let place = c.index_mut-place.result.now in
-    let read = c.index_mut-place.ensures.value in
-    let new : Place = record {
-      local = c.make.new.local;
-      session = place.session;
-      begun = place.begun;
-      stands = place.stands;
-    } in
-    moved-makes g.L.Meaning.meaning r c.requires.fields c.args.flow c.args.event c.requires.coming place read new
-    r.table c.make.new.journal r.live c.in_ok-make.ensures.added refl
-    (quiet-moved g.L.Meaning.meaning r c.requires.fields c.args.flow c.args.event c.requires.coming place read new
-    c.in_ok-make.ensures.made refl refl refl c.requires.quiet
-    (no-call g.L.Meaning.meaning r c.requires.fields c.args.flow c.args.event c.requires.coming place read))
+pub returns-in-Ok-clause-fields : goal.returns-in-Ok-clause-fields
+returns-in-Ok-clause-fields g c =
+    go-running g.L.Meaning.meaning c.args.self.now c.requires.fields c.args.flow c.args.event c.requires.may
+    c.make.new.self c.in-Ok.ensures.ok c.write.new.journal c.in_ok-write.ensures.ok

@@ -1,15 +1,40 @@
-use Rattle.std.proofs.Common.{refl}
-use Rattle.flow_core.proofs.Asked.{ended-is, drop-coming}
+use Rattle.flow_model.specs.declared.journals.Event.TheVariants as events
+use Rattle.flow_core.specs.States.{setup_in}
+use Rattle.flow_core.specs.steps.Fields.{core_of}
+use Rattle.flow_core.proofs.Moved.{free-beside}
 use Rattle.flow_core.proofs.fields.Fields.step.Goals as goal
 
-pub give-requires-clause-coming : goal.give-requires-clause-coming
-give-requires-clause-coming g c =
-    drop-coming g.L.Meaning.meaning c.args.self.now c.requires.fields c.args.flow c.requires.flow _ c.in-Drop.ensures
-    c.in-Drop.class refl c.key-key.result c.key-key.ensures
+pub go-requires-clause-may : goal.go-requires-clause-may
+go-requires-clause-may g c = record {
+  next = c.in-Enter.ensures.is;
+  free = free-beside (setup_in g.L.Meaning.meaning (core_of c.args.self.now)) c.args.self.now.state.entries
+      c.args.flow.0 (events.Enter c.in-Enter.node) c.in-Enter.ensures.is (λ key mode e. cc);
+}
 
-pub returns-in-Ended-clause-ok : goal.returns-in-Ended-clause-ok
-returns-in-Ended-clause-ok g c = (
-  ended-is g.L.Meaning.meaning c.args.self.now c.requires.fields c.args.flow
-      c.requires.flow _ c.in-Ended.ensures refl,
-  refl,
-)
+pub go-requires-in-Choose-clause-may : goal.go-requires-in-Choose-clause-may
+go-requires-in-Choose-clause-may g c = record {
+  next = c.in-Choose.ensures.is;
+  free = free-beside (setup_in g.L.Meaning.meaning (core_of c.args.self.now)) c.args.self.now.state.entries
+      c.args.flow.0 (events.Choose c.in-Choose.number) c.in-Choose.ensures.is (λ key mode e. cc);
+}
+
+pub go-requires-in-Exit-clause-may : goal.go-requires-in-Exit-clause-may
+go-requires-in-Exit-clause-may g c = record {
+  next = c.in-Exit.ensures.is;
+  free = free-beside (setup_in g.L.Meaning.meaning (core_of c.args.self.now)) c.args.self.now.state.entries
+      c.args.flow.0 (events.Exit c.in-Exit.node c.in-Exit.outcome) c.in-Exit.ensures.is (λ key mode e. cc);
+}
+
+pub go-requires-in-Drop-clause-may : goal.go-requires-in-Drop-clause-may
+go-requires-in-Drop-clause-may g c = record {
+  next = c.in-Drop.ensures.is;
+  free = free-beside (setup_in g.L.Meaning.meaning (core_of c.args.self.now)) c.args.self.now.state.entries
+      c.args.flow.0 (events.Drop c.in-Drop.key) c.in-Drop.ensures.is (λ key mode e. cc);
+}
+
+pub go-requires-in-End-clause-may : goal.go-requires-in-End-clause-may
+go-requires-in-End-clause-may g c = record {
+  next = c.in-End.ensures.is;
+  free = free-beside (setup_in g.L.Meaning.meaning (core_of c.args.self.now)) c.args.self.now.state.entries
+      c.args.flow.0 (events.End c.in-End.outcome) c.in-End.ensures.is (λ key mode e. cc);
+}

@@ -1,34 +1,22 @@
-use Rattle.std.proofs.Common.{true, refl}
-use Rattle.flow_core.specs.declared.places.Place.{Place}
-use Rattle.flow_core.proofs.OnFields.{may-stand, stood-already, stands-running, stands-waited}
+use Rattle.flow_model.specs.declared.journals.Event.TheVariants.{Take}
+use Rattle.flux_laws.proofs.NextEvents.{next-item}
+use Rattle.flow_core.specs.States.{setup_in}
+use Rattle.flow_core.specs.steps.Fields.{core_of}
+use Rattle.flow_core.proofs.Moved.{stood, wait-running}
 use Rattle.flow_core.proofs.fields.Fields.wait.Goals as goal
 
-pub returns-then-place-clause-ok : goal.returns-then-place-clause-ok
-returns-then-place-clause-ok g c =
-    stood-already g.L.Meaning.meaning c.args.self.now c.requires.fields c.args.flow c.args.key c.args.mode
-    c.requires.coming c.index_mut-place.result.now c.index_mut-place.ensures.value
-    c.args.holder c.requires.blocked c.if-place.true
+pub stands-requires : goal.stands-requires
+stands-requires g c =
+    next-item (setup_in g.L.Meaning.meaning (core_of c.args.self.now)) c.args.self.now.state.entries c.args.flow.0
+    (Take c.args.key c.args.mode) c.requires.next
 
-pub stand-requires : goal.stand-requires
-stand-requires g c =
-    may-stand g.L.Meaning.meaning c.args.self.now c.requires.fields c.args.flow c.args.key c.args.mode c.requires.coming
-    c.index_mut-place.result.now c.index_mut-place.ensures.value
-    c.args.holder c.requires.blocked c.if-place.false
+pub returns-then-stands-clause-ok : goal.returns-then-stands-clause-ok
+returns-then-stands-clause-ok g c =
+    stood g.L.Meaning.meaning c.args.self.now c.requires.fields c.args.flow c.args.key c.args.mode c.requires.next
+    c.args.holder c.requires.blocked (rw c.if-stands.true at c.stands.ensures)
 
-pub returns-clause-fields : goal.returns-clause-fields
-returns-clause-fields g c =
-    let place = c.index_mut-place.result.now in
-    let new : Place = record { local = place.local; session = place.session; begun = place.begun; stands = true } in
-    stands-running g.L.Meaning.meaning c.args.self.now c.requires.fields c.args.flow c.args.key c.args.mode
-    c.requires.coming place c.index_mut-place.ensures.value
-    c.args.holder c.requires.blocked c.if-place.false new refl refl refl refl c.stand.new.table
-    c.in_ok-stand.ensures.waits c.stand.new.journal c.in_ok-stand.ensures.added
-
-pub returns-clause-ok : goal.returns-clause-ok
-returns-clause-ok g c =
-    let place = c.index_mut-place.result.now in
-    let new : Place = record { local = place.local; session = place.session; begun = place.begun; stands = true } in
-    stands-waited g.L.Meaning.meaning c.args.self.now c.requires.fields c.args.flow c.args.key c.args.mode
-    c.requires.coming place c.index_mut-place.ensures.value
-    c.args.holder c.requires.blocked c.if-place.false new refl refl refl refl c.stand.new.table
-    c.in_ok-stand.ensures.waits c.stand.new.journal c.in_ok-stand.ensures.added
+pub returns-in-Ok-clause-fields : goal.returns-in-Ok-clause-fields
+returns-in-Ok-clause-fields g c =
+    wait-running g.L.Meaning.meaning c.args.self.now c.requires.fields c.args.flow c.args.key c.args.mode
+    c.requires.next c.args.holder c.requires.blocked c.wait.new.self c.in-Ok.ensures.ok c.write.new.journal
+    c.in_ok-write.ensures.ok

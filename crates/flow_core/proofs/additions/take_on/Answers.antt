@@ -1,6 +1,0 @@
-use Rattle.flow_core.proofs.Tables.{taken-some}
-use Rattle.flow_core.proofs.additions.take_on.Goals as goal
-
-pub release-requires : goal.release-requires
-release-requires g c = taken-some c.args.table.now c.take.new.table c.args.flow.0 c.args.key c.args.mode
-    c.in_ok-take.ensures.takes

@@ -1,9 +1,0 @@
-use Rattle.std.proofs.Common.{subst, sym}
-use Rattle.flow_core.specs.Lines.{IsLineAt}
-use Rattle.flow_core.proofs.Stops.{line-is}
-use Rattle.flow_core.proofs.fields.Fields.line.Goals as goal
-
-pub returns : goal.returns
-returns g c =
-    subst (IsLineAt c.args.self.now.journal.entries c.args.key) (sym c.line.ensures)
-    (line-is g.L.Meaning.meaning c.args.self.now c.requires c.args.key)

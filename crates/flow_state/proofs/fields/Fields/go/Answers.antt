@@ -1,0 +1,34 @@
+use Rattle.std.proofs.Common.{refl}
+use Rattle.flow_state.specs.declared.places.Place.{Place}
+use Rattle.flow_state.proofs.OnFields.{may-advance, quiet-moved, no-call, moved-makes, moved-goes_on}
+use Rattle.flow_state.proofs.fields.Fields.go.Goals as goal
+
+pub advance-requires : goal.advance-requires
+advance-requires g c =
+    may-advance g.L.Meaning.meaning c.args.self.now c.requires.fields c.args.flow c.args.event c.requires.coming
+    c.index_mut-place.result.now c.index_mut-place.ensures.value
+
+pub returns-clause-fields : goal.returns-clause-fields
+returns-clause-fields g c =
+    let r = c.args.self.now in
+    let place = c.index_mut-place.result.now in
+    let read = c.index_mut-place.ensures.value in
+    let new : Place = record { local = c.advance.new.local; session = place.session; stands = place.stands } in
+    moved-goes_on g.L.Meaning.meaning r c.requires.fields c.args.flow c.args.event c.requires.coming place read new
+    r.table c.add.new.self r.live c.add.ensures
+    (quiet-moved g.L.Meaning.meaning r c.requires.fields c.args.flow c.args.event c.requires.coming place read new
+    c.in_ok-advance.ensures.ok refl refl c.requires.quiet
+    (no-call g.L.Meaning.meaning r c.requires.fields c.args.flow c.args.event c.requires.coming place read))
+    c.requires.goes_on refl
+
+pub returns-clause-ok : goal.returns-clause-ok
+returns-clause-ok g c =
+    let r = c.args.self.now in
+    let place = c.index_mut-place.result.now in
+    let read = c.index_mut-place.ensures.value in
+    let new : Place = record { local = c.advance.new.local; session = place.session; stands = place.stands } in
+    moved-makes g.L.Meaning.meaning r c.requires.fields c.args.flow c.args.event c.requires.coming place read new
+    r.table c.add.new.self r.live c.add.ensures
+    (quiet-moved g.L.Meaning.meaning r c.requires.fields c.args.flow c.args.event c.requires.coming place read new
+    c.in_ok-advance.ensures.ok refl refl c.requires.quiet
+    (no-call g.L.Meaning.meaning r c.requires.fields c.args.flow c.args.event c.requires.coming place read))

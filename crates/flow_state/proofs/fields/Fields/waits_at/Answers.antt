@@ -1,0 +1,28 @@
+use Rattle.std.proofs.Common.{refl, None, Some}
+use Rattle.flow_state.proofs.Asked.{not-taking, asks-rightly, lowest-is, none-blocked, some-blocked}
+use Rattle.flow_state.proofs.fields.Fields.waits_at.Goals as goal
+
+pub returns-in_default : goal.returns-in_default
+returns-in_default g c = not-taking g.L.Meaning.meaning c.args.self.now c.requires.fields c.args.flow c.requires.flow
+    c.next.result c.next.ensures c.in_default.not-Take
+
+pub holder-requires : goal.holder-requires
+holder-requires g c =
+    asks-rightly g.L.Meaning.meaning c.args.self.now c.requires.fields c.args.flow c.requires.flow _ c.in-Take.ensures _
+    _ refl c.key-key.result c.key-key.ensures
+
+pub returns-in-None : goal.returns-in-None
+returns-in-None g c =
+    none-blocked g.L.Meaning.meaning c.args.self.now c.requires.fields c.args.flow c.requires.flow _ c.in-Take.ensures _
+    _ refl c.key-key.result c.key-key.ensures
+    (lowest-is g.L.Meaning.meaning c.args.self.now c.requires.fields c.args.flow c.requires.flow _ c.in-Take.ensures _ _
+    refl c.key-key.result c.key-key.ensures None c.in-None.ensures)
+
+pub returns-in-Some : goal.returns-in-Some
+returns-in-Some g c =
+    some-blocked g.L.Meaning.meaning c.args.self.now c.requires.fields c.args.flow c.requires.flow _ c.in-Take.ensures _
+    _ refl c.key-key.result c.key-key.ensures
+    c.in-Some.field-0.0
+    (let low = lowest-is g.L.Meaning.meaning c.args.self.now c.requires.fields c.args.flow c.requires.flow _
+    c.in-Take.ensures _ _ refl c.key-key.result c.key-key.ensures (Some c.in-Some.field-0) c.in-Some.ensures
+    in low.0)

@@ -1,0 +1,4 @@
+use Rattle.flow_state.proofs.states.State.ahead.Goals as goal
+
+pub returns : goal.returns
+returns g c = rw (← c.self.view_is) c.ahead.ensures

@@ -1,0 +1,10 @@
+use Rattle.flux_laws.proofs.NextEvents.{call-item}
+use Rattle.flow_state.specs.States.{setup_at}
+use Rattle.flow_state.proofs.states.State.answer.Goals as goal
+
+pub answer-requires-clause-flow : goal.answer-requires-clause-flow
+answer-requires-clause-flow g c =
+    let inputs = c.args.inputs.now in
+    let within = call-item (setup_at g.L.Meaning.meaning c.args.self.now) c.args.self.now.entries c.args.flow.0
+    inputs.node inputs.args c.requires.next.next in
+    rw (← c.self.view_is) at within

@@ -1,0 +1,7 @@
+pub mod Places
+pub mod Table
+pub mod Cells
+pub mod Fields
+pub mod Starts
+pub mod Reads
+pub mod Tales

@@ -1,0 +1,12 @@
+//! What calls are given.
+
+use flux_model::NodeNo;
+use flux_values::{Cell, List, Value};
+
+/// What a call of a node is given: values, and the cells that the node uses, in order.
+#[derive(Debug, Drop)]
+pub struct Inputs {
+    pub node: NodeNo,
+    pub args: List<Value>,
+    pub cells: List<Cell>,
+}

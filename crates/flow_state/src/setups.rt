@@ -1,0 +1,81 @@
+//! What a state is made of.
+
+ghost use Rattle.std.specs.Prelude.{◌≡◌, Some, IsSome, OnOk, OnErr, slice_get};
+ghost use Rattle.std.specs.Arc.{arc_value};
+ghost use Rattle.flux_plan.specs.Moves.{next_in, IsReached, Advances, IsAnswered};
+ghost use Rattle.flow_state.specs.steps.Places.{matches_by, plan_of_item, HasPlan, MayAdvance, MayAnswer};
+
+use flux_cells::Cells;
+use flux_library::Library;
+use flux_model::{FlowNo, Item, Program};
+use flux_plan::{Local, Next, VerifiedPlan, advance, answered, next};
+use flux_values::{Answer, List, Memory};
+use std::sync::Arc;
+
+/// What flows run in: a program with a plan for each of its source lines, an item for each flow, the cells at the
+/// start, and the library.
+#[derive(Drop)]
+pub struct Setup<L: Library> {
+    pub program: Arc<Program>,
+    pub plans: Arc<List<VerifiedPlan>>,
+    pub items: List<Item>,
+    pub opening: Cells,
+    pub library: Arc<L>,
+}
+
+impl<L: Library> Setup<L> {
+    /// The plan that a flow goes by.
+    fn plan(&self, flow: FlowNo) -> &VerifiedPlan
+        requires { IsSome (plan_of_item (arc_value self.now.plans) (slice_get self.now.items flow.0)) }
+        ensures { plan_of_item (arc_value self.now.plans) (slice_get self.now.items flow.0)
+            ≡ Some result.now }
+    {
+        let Some(item) = self.items.get(flow.0 as usize) else {
+            unreachable!()
+        };
+        let Some(plan) = self.plans.get(item.source.0 as usize) else {
+            unreachable!()
+        };
+        plan
+    }
+
+    /// What comes next at a flow's place.
+    pub fn next(&self, flow: FlowNo, local: &Local) -> Next
+        requires { let matches = matches_by (L.meaning (arc_value self.now.library))
+            (arc_value self.now.program) in
+            HasPlan (arc_value self.now.plans) self.now.items flow.0
+            (λ plan. IsReached plan matches local.now) }
+        ensures { let matches = matches_by (L.meaning (arc_value self.now.library))
+            (arc_value self.now.program) in
+            HasPlan (arc_value self.now.plans) self.now.items flow.0
+            (λ plan. next_in plan matches local.now ≡ Some result) }
+    {
+        next(&self.program, self.plan(flow), local, &*self.library)
+    }
+
+    /// Makes the event that comes next at a flow's place.
+    pub fn advance(&self, flow: FlowNo, local: &mut Local) -> Result<(), Memory>
+        requires { let matches = matches_by (L.meaning (arc_value self.now.library))
+            (arc_value self.now.program) in
+            HasPlan (arc_value self.now.plans) self.now.items flow.0
+            (λ plan. MayAdvance plan matches local.old) }
+        ensures ok { let matches = matches_by (L.meaning (arc_value self.now.library))
+            (arc_value self.now.program) in
+            OnOk result (HasPlan (arc_value self.now.plans) self.now.items flow.0
+            (λ plan. Advances plan matches local.old local.new)) }
+        ensures err { OnErr result (local.new ≡ local.old) }
+    {
+        advance(&self.program, self.plan(flow), local, &*self.library)
+    }
+
+    /// Takes the answer of the call that comes next at a flow's place.
+    pub fn answered(&self, flow: FlowNo, local: &mut Local, answer: &Answer) -> Result<(), Memory>
+        requires { HasPlan (arc_value self.now.plans) self.now.items flow.0
+            (λ plan. MayAnswer plan local.old) }
+        ensures ok { OnOk result (HasPlan (arc_value self.now.plans) self.now.items flow.0
+            (λ plan. IsAnswered plan local.old answer.now local.new)) }
+        ensures err { OnErr result (local.new ≡ local.old) }
+    {
+        answered(self.plan(flow), local, answer)
+    }
+}

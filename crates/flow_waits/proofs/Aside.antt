@@ -1,0 +1,450 @@
+-- Flows that are set aside for a look: what is covered with them, and who is found.
+use Rattle.std.proofs.Common.{◌≡◌, ◌≢◌, ◌<◌, ◌⊎◌, inl, inr, ℕ, Bool, true, false, not, ◌||◌, ◌&&◌, eqb, List, [], ◌∷◌, ◌++◌, length, Option, Some, None, refl, sym, ap, subst, ◌∙◌, append_assoc, length-append, arith}
+use Rattle.std.specs.Prelude.{IsSome, IsTrue, ◌↔◌, MatchOption}
+use Rattle.std.specs.List.{list_any, AllByRecursion}
+use Rattle.std.specs.Option.{is_some}
+use Rattle.std.proofs.lemmas.Bool.{cases_eq, eqb-true, false≢true}
+use Rattle.std.proofs.lemmas.List.Folds.{list_any-append}
+use Rattle.flux_values.specs.declared.answers.Mode.{Mode}
+use Rattle.flux_values.specs.declared.answers.Mode.TheVariants.{Reader, Writer}
+use Rattle.flux_values.specs.declared.values.Value.{Value}
+use Rattle.flux_values.specs.Meanings.{LibraryMeaning}
+use Rattle.flux_model.specs.declared.items.FlowNo.{FlowNo}
+use Rattle.flux_model.specs.declared.programs.NodeNo.{NodeNo}
+use Rattle.flow_model.specs.declared.journals.CallMade.{CallMade}
+use Rattle.flow_model.specs.declared.journals.Entry.{Entry}
+use Rattle.flow_model.specs.declared.journals.Event.{Event}
+use Rattle.flow_model.specs.declared.journals.Event.TheVariants.{Take, Wait, Call, Drop}
+use Rattle.flow_model.specs.declared.journals.Key.{Key}
+use Rattle.flow_model.specs.Setup.{Setup}
+use Rattle.flow_model.specs.Events.{CallIsNext, IsLive}
+use Rattle.flow_model.specs.Legal.{IsLegal}
+use Rattle.flux_laws.specs.Going.{IsBlocked, CanGoOn, IsAtCall}
+use Rattle.flux_laws.specs.Growth.{has_ended}
+use Rattle.flux_laws.proofs.Fronts.{fronts_are_legal}
+use Rattle.flux_laws.proofs.LastMoves.{entries_are_moves}
+use Rattle.flux_laws.proofs.NextEvents.{call-item}
+use Rattle.flow_state.specs.declared.stops.Stop.{Stop}
+use Rattle.flow_state.proofs.Ended.{call-goes_on, not-true}
+use Rattle.flow_state.proofs.Tables.{not-both}
+use Rattle.flow_core.specs.States.{CoreState, setup_in, begun_by, IsKept}
+use Rattle.flow_waits.specs.Idle.{IsIdle, IsFirstIdle, NoneIsIdle}
+use Rattle.flow_waits.specs.Turns.{IsBefore}
+use Rattle.flow_waits.specs.steps.Staying.{IsFresh}
+use Rattle.flow_waits.specs.steps.Waking.{has, IsMore, IsLess, IsEarliest, IsMoreAt}
+use Rattle.flow_waits.specs.steps.Covers.{Pools, rooms_for, IsReady, IsParked, IsBehind, IsInRoom, IsCovered, Covers, Lags, HasRoom, Parks}
+use Rattle.flow_waits.specs.steps.Aside.{beside, HasSame, AreAside, IsIdleChosen, IsCallEntry, CallsKeepCovers}
+use Rattle.flow_waits.proofs.Ending.{live-is}
+use Rattle.flow_waits.proofs.Membership.{none_has, more_cases, more_there, more_own, less_there, less_own, less_kept}
+use Rattle.flow_waits.proofs.Orders.{before-itself, before-then, before-turned}
+use Rattle.flow_waits.proofs.Choosing.{without_ended, parked}
+use Rattle.flow_waits.proofs.Told.{told-other}
+use Rattle.flow_waits.proofs.Woken.{covered-more}
+
+-- ---- members of both
+
+has-both : (a b : List ℕ) (flow : ℕ) → has (a ++ b) flow ≡ (has a flow || has b flow)
+has-both a b flow = list_any-append (λ number. eqb flow number) a b
+
+either : (a b : List ℕ) (flow : ℕ) → has (a ++ b) flow ≡ true → (has a flow ≡ true) ⊎ (has b flow ≡ true)
+either a b flow is = by (has a flow) refl (sym (has-both a b flow) ∙ is)
+  where
+    by : (one : Bool) → has a flow ≡ one → (one || has b flow) ≡ true → (has a flow ≡ true) ⊎ (has b flow ≡ true)
+    by true e there = inl e
+    by false e there = inr there
+
+right : (a b : List ℕ) (flow : ℕ) → has b flow ≡ true → has (a ++ b) flow ≡ true
+right a b flow is = has-both a b flow ∙ by (has a flow)
+  where
+    by : (one : Bool) → (one || has b flow) ≡ true
+    by true = refl
+    by false = is
+
+left : (a b : List ℕ) (flow : ℕ) → has a flow ≡ true → has (a ++ b) flow ≡ true
+left a b flow is = has-both a b flow ∙ ap (λ one. one || has b flow) is
+
+-- one less of the second is one less of both, where the first has it not
+less-both : (a old new : List ℕ) (flow : ℕ) → IsLess old new flow → (has a flow ≡ true → ⊥)
+    → IsLess (a ++ old) (a ++ new) flow
+less-both a old new flow less away other =
+    has-both a new other ∙ ap (λ b. has a other || b) (less other) ∙ by (eqb flow other) refl (has a other) refl
+    ∙ ap (λ b. not (eqb flow other) && b) (sym (has-both a old other))
+  where
+    by : (same : Bool) → eqb flow other ≡ same → (there : Bool) → has a other ≡ there
+        → (there || (not same && has old other)) ≡ (not same && (there || has old other))
+    by true e true is = absurd (away (ap (has a) (eqb-true flow other e) ∙ is))
+    by true e false is = refl
+    by false e there is = refl
+
+-- ---- the same flows
+
+module _ (setup : Setup) (entries : List Entry) (old new : Pools) (from : ℕ) (same : HasSame old new) where
+  rooms : (mode : Mode) → rooms_for new mode ≡ rooms_for old mode
+  rooms Reader = same.readers_
+  rooms Writer = same.writers_
+
+  back : (key : Key) (mode : Mode) (flow : ℕ) → IsParked new key mode flow → IsParked old key mode flow
+  back key mode flow parked = rw (rooms mode) at parked
+
+  stay : (key : Key) (mode : Mode) (flow : ℕ) → IsParked old key mode flow → IsParked new key mode flow
+  stay key mode flow parked = rw (rooms mode) parked
+
+  pub covers-same : Covers setup entries old from → Covers setup entries new from
+  covers-same covers = record {
+    each = λ flow live. covered-more setup entries old new from flow (λ other ready. same.ready_ other ∙ ready)
+        (λ key mode there. inl (stay key mode flow there)) (covers.each flow live);
+    fresh = λ key mode flow there. covers.fresh key mode flow (back key mode flow there);
+    apart = λ key mode flow there ready. covers.apart key mode flow (back key mode flow there)
+        (sym (same.ready_ flow) ∙ ready);
+    exist = λ flow ready. covers.exist flow (sym (same.ready_ flow) ∙ ready);
+  }
+
+-- ---- a flow that leaves those that are looked at
+
+room-beside : (old new : Pools) (aside : List ℕ) (flow : ℕ) (key : Key) (mode : Mode) (stands : Bool)
+    → HasRoom old new flow key mode stands → HasRoom (beside old aside) (beside new aside) flow key mode stands
+room-beside old new aside flow key mode true room = room
+room-beside old new aside flow key mode false (more, others) = (
+  by mode more,
+  λ other apart. both other
+      (others other apart),
+)
+  where
+    by : (m : Mode) → IsMoreAt (rooms_for old m) (rooms_for new m) key flow
+        → IsMoreAt (rooms_for (beside old aside) m) (rooms_for (beside new aside) m) key flow
+    by Reader is = is
+    by Writer is = is
+
+    both : (m : Mode) → rooms_for new m ≡ rooms_for old m
+        → rooms_for (beside new aside) m ≡ rooms_for (beside old aside) m
+    both Reader is = is
+    both Writer is = is
+
+parks-beside : (old new : Pools) (aside : List ℕ) (flow : ℕ) (stop : Stop) → Parks old new flow stop
+    → (has aside flow ≡ true → ⊥) → Parks (beside old aside) (beside new aside) flow stop
+parks-beside old new aside flow stop parks away = record {
+  less = less-both aside old.ready new.ready flow parks.less away;
+  fewer = λ ready. by (either aside old.ready flow ready);
+  room = room-beside old new aside flow stop.key stop.mode stop.stands parks.room;
+}
+  where
+    by : (has aside flow ≡ true) ⊎ IsReady old flow → length (aside ++ new.ready) < length (aside ++ old.ready)
+    by (inl there) = absurd (away there)
+    by (inr ready) =
+        let fewer = parks.fewer ready in
+        let a = length-append aside new.ready in
+        let b = length-append aside old.ready in
+        omega (arith, fewer, a, b)
+
+-- ---- a look
+
+-- a flow of which that is denied has no begun call
+pub idle-of : {X : Type 0} (o : Option X) (b : Bool) → IsTrue b ↔ IsSome o → b ≡ false → o ≡ None
+idle-of None b both is_not = refl
+idle-of (Some x) b both is_not = absurd (false≢true (sym is_not ∙ both.1 refl))
+
+module _ {L : Type 0} (meaning : L → LibraryMeaning) (core : CoreState L) (kept : IsKept meaning core) (from : ℕ) where
+  abbrev setup : Setup
+  setup = setup_in meaning core
+
+  -- a flow with a begun call is at it
+  at-call : (flow : ℕ) → IsSome (begun_by core flow) → IsAtCall setup core.entries flow
+  at-call flow some = by (begun_by core flow) refl some
+    where
+      by : (o : Option _) → begun_by core flow ≡ o → IsSome o → IsAtCall setup core.entries flow
+      by None is none = absurd (false≢true none)
+      by (Some inputs) is some_ = let call = kept.calls flow inputs is in (inputs.node, inputs.args, call.next)
+
+  not-fresh : (flow : ℕ) (key : Key) (mode : Mode) → IsSome (begun_by core flow)
+      → IsFresh setup core.entries flow key mode → ⊥
+  not-fresh flow key mode some fresh =
+      let (node, args, call) = at-call flow some in
+      not-both setup core.entries flow (Take key mode) node args fresh.next call
+
+  not-blocked : (flow : ℕ) → IsSome (begun_by core flow) → IsBlocked setup core.entries flow → ⊥
+  not-blocked flow some (other, waits) =
+      let (node, args, call) = at-call flow some in
+      not-both setup core.entries flow (Take waits.key waits.mode) node args waits.next call
+
+  none-begun : (flow : ℕ) → IsSome (begun_by core flow) → begun_by core flow ≡ None → ⊥
+  none-begun flow some none = false≢true (sym (ap is_some none) ∙ some)
+
+  not-ended : (flow : ℕ) → flow < length setup.items → IsSome (begun_by core flow)
+      → has_ended core.entries flow ≡ true → ⊥
+  not-ended flow within some ended =
+      let (node, args, call) = at-call flow some in
+      call-goes_on setup core.entries kept.legal flow within node args call ended
+
+  module _ (old : Pools) (aside : List ℕ) (are : AreAside meaning core old aside from) where
+    -- nobody is aside at first
+    pub not-aside : (flow : ℕ) → IsReady old flow → has aside flow ≡ true → ⊥
+    not-aside flow ready there = are.apart flow there ready
+
+    fewer-apart : (new : Pools) (flow : ℕ) → IsLess old.ready new.ready flow → (other : ℕ) → has aside other ≡ true
+        → IsReady new other → ⊥
+    fewer-apart new flow less other there ready = are.apart other there
+        (less_there old.ready new.ready flow less other ready)
+
+    pub aside-exist : (flow : ℕ) → IsReady old flow → flow < length setup.items
+    aside-exist flow ready = let covers = are.covers in covers.exist flow (right aside old.ready flow ready)
+
+    -- one that has ended is no longer looked at
+    pub aside-ended : (new : Pools) (flow : ℕ) → IsReady old flow → IsLess old.ready new.ready flow
+        → new.readers ≡ old.readers → new.writers ≡ old.writers → (IsLive setup core.entries flow → ⊥)
+        → AreAside meaning core new aside from
+    aside-ended new flow ready less readers writers ended = record {
+      covers = without_ended setup core.entries (beside old aside) (beside new aside) from flow are.covers
+          (less-both aside old.ready new.ready flow less (not-aside flow ready)) readers writers ended;
+      begun = are.begun;
+      apart = fewer-apart new flow less;
+    }
+
+    -- one that is blocked is parked
+    pub aside-parked : (new : Pools) (flow : ℕ) (stop : Stop) → IsReady old flow → Parks old new flow stop
+        → ((covers : Covers setup core.entries (beside old aside) from)
+        → Parks (beside old aside) (beside new aside) flow stop → Covers setup core.entries (beside new aside) from)
+        → AreAside meaning core new aside from
+    aside-parked new flow stop ready parks told = record {
+      covers = told are.covers (parks-beside old new aside flow stop parks (not-aside flow ready));
+      begun = are.begun;
+      apart = fewer-apart new flow parks.less;
+    }
+
+    -- one whose call is begun is set aside
+    pub aside-more : (new : Pools) (more : List ℕ) (flow : ℕ) → IsReady old flow → IsLess old.ready new.ready flow
+        → new.readers ≡ old.readers → new.writers ≡ old.writers → IsMore aside more flow
+        → IsSome (begun_by core flow) → AreAside meaning core new more from
+    aside-more new more flow ready less readers writers added some = record {
+      covers = covers-same setup core.entries (beside old aside) (beside new more) from (record {
+        ready_ = members;
+        readers_ = readers;
+        writers_ = writers;
+      }) are.covers;
+      begun = λ other there. begun other (more_cases aside more flow added other there);
+      apart = λ other there now. apart other (more_cases aside more flow added other there) now;
+    }
+      where
+        members : (other : ℕ) → has (more ++ new.ready) other ≡ has (aside ++ old.ready) other
+        members other = has-both more new.ready other ∙ (λ i. added other i || less other i)
+            ∙ by (eqb flow other) refl (has aside other) ∙ sym (has-both aside old.ready other)
+          where
+            by : (same : Bool) → eqb flow other ≡ same → (there : Bool)
+                → ((same || there) || (not same && has old.ready other)) ≡ (there || has old.ready other)
+            by true e true = refl
+            by true e false = sym (subst (λ f. has old.ready f ≡ true) (eqb-true flow other e) ready)
+            by false e there = refl
+
+        begun : (other : ℕ) → (flow ≡ other) ⊎ (has aside other ≡ true) → IsSome (begun_by core other)
+        begun other (inl same) = subst (λ f. IsSome (begun_by core f)) same some
+        begun other (inr there) = are.begun other there
+
+        apart : (other : ℕ) → (flow ≡ other) ⊎ (has aside other ≡ true) → IsReady new other → ⊥
+        apart other (inl same) now = less_own old.ready new.ready flow less (subst (IsReady new) (sym same) now)
+        apart other (inr there) now = fewer-apart new flow less other there now
+
+    -- who is found
+    module _ (flow : FlowNo) (earliest : IsEarliest old.ready from flow.0) (can : CanGoOn setup core.entries flow.0)
+        (idle : begun_by core flow.0 ≡ None) where
+      none-ready : (other : ℕ) → IsReady old other → IsBefore from other flow.0 → ⊥
+      none-ready other ready before = by (cases_eq flow.0 other)
+        where
+          by : (flow.0 ≡ other) ⊎ (flow.0 ≡ other → ⊥) → ⊥
+          by (inl same) = before-itself from flow.0 (subst (λ f. IsBefore from f flow.0) (sym same) before)
+          by (inr apart) = before-turned from flow.0 other (earliest.first other ready apart) before
+
+      none-before : (other : ℕ) → IsIdle meaning core other → IsBefore from other flow.0 → ⊥
+      none-before other is before = let goes = is.can in let covers = are.covers in by (covers.each other goes.live)
+        where
+          looked : (third : ℕ) → IsReady (beside old aside) third → begun_by core third ≡ None
+              → IsBefore from third flow.0 → ⊥
+          looked third ready none earlier = told (either aside old.ready third ready)
+            where
+              told : (has aside third ≡ true) ⊎ IsReady old third → ⊥
+              told (inl there) = none-begun third (are.begun third there) none
+              told (inr there) = none-ready third there earlier
+
+          behind-fresh : (key : Key) (mode : Mode) → IsBehind setup core.entries (beside old aside) from key mode other
+              → ⊥
+          behind-fresh key mode behind = told (either aside old.ready behind.other behind.ready)
+            where
+              told : (has aside behind.other ≡ true) ⊎ IsReady old behind.other → ⊥
+              told (inl there) = not-fresh behind.other key mode (are.begun behind.other there) behind.fresh
+              told (inr there) = none-ready behind.other there
+                  (before-then from behind.other other flow.0 behind.before before)
+
+          cause : (key : Key) (mode : Mode) → IsBlocked setup core.entries other ⊎ IsBehind setup core.entries
+              (beside old aside) from key mode other → ⊥
+          cause key mode (inl blocked) = let goes = is.can in goes.free blocked
+          cause key mode (inr behind) = behind-fresh key mode behind
+
+          by : IsCovered setup core.entries (beside old aside) from other → ⊥
+          by (inl ready) = looked other ready is.idle before
+          by (inr (inl line)) = let goes = is.can in goes.free line.blocked
+          by (inr (inr room)) = cause room.key room.mode room.cause
+
+      pub idle-chosen : IsIdleChosen meaning core (beside old aside) from flow
+      idle-chosen = record {
+        first = record { is = record { can = can; idle = idle }; first = none-before };
+        ready = right aside old.ready flow.0 earliest.is;
+        earliest = λ other ready none apart. by other none apart (either aside old.ready other ready);
+      }
+        where
+          by : (other : ℕ) → begun_by core other ≡ None → flow.0 ≢ other
+              → (has aside other ≡ true) ⊎ IsReady old other → IsBefore from flow.0 other
+          by other none apart (inl there) = absurd (none-begun other (are.begun other there) none)
+          by other none apart (inr there) = earliest.first other there apart
+
+    -- where nobody is looked at, nobody is idle
+    pub none-idle : old.ready ≡ [] → NoneIsIdle meaning core
+    none-idle empty flow is = let goes = is.can in let covers = are.covers in by (covers.each flow goes.live)
+      where
+        looked : (third : ℕ) → IsReady (beside old aside) third → IsSome (begun_by core third)
+        looked third ready = told (either aside old.ready third ready)
+          where
+            told : (has aside third ≡ true) ⊎ IsReady old third → IsSome (begun_by core third)
+            told (inl there) = are.begun third there
+            told (inr there) = absurd (none_has old.ready third empty there)
+
+        cause : (key : Key) (mode : Mode) → IsBlocked setup core.entries flow ⊎ IsBehind setup core.entries
+            (beside old aside) from key mode flow → ⊥
+        cause key mode (inl blocked) = let goes = is.can in goes.free blocked
+        cause key mode (inr behind) = not-fresh behind.other key mode (looked behind.other behind.ready) behind.fresh
+
+        by : IsCovered setup core.entries (beside old aside) from flow → ⊥
+        by (inl ready) = none-begun flow (looked flow ready) is.idle
+        by (inr (inl line)) = let goes = is.can in goes.free line.blocked
+        by (inr (inr room)) = cause room.key room.mode room.cause
+
+  -- nobody is aside at first
+  pub aside-none : (pools : Pools) (aside : List ℕ) → aside ≡ [] → Covers setup core.entries pools from
+      → AreAside meaning core pools aside from
+  aside-none pools aside empty covers = record {
+    covers = subst (λ a. Covers setup core.entries (beside pools a) from) (sym empty) covers;
+    begun = λ flow there. absurd (none_has aside flow empty there);
+    apart = λ flow there ready. none_has aside flow empty there;
+  }
+
+-- ---- and all are looked at again
+
+module _ {L : Type 0} (meaning : L → LibraryMeaning) (core : CoreState L) (from : ℕ) (old new : Pools)
+    (aside : List ℕ) (are : AreAside meaning core old aside from) (same : HasSame (beside old aside) new) where
+  pub again-covers : Covers (setup_in meaning core) core.entries new from
+  again-covers = covers-same (setup_in meaning core) core.entries (beside old aside) new from same are.covers
+
+  pub again-chosen : (flow : FlowNo) → IsIdleChosen meaning core (beside old aside) from flow
+      → IsIdleChosen meaning core new from flow
+  again-chosen flow chosen = record {
+    first = chosen.first;
+    ready = same.ready_ flow.0 ∙ chosen.ready;
+    earliest = λ other ready. chosen.earliest other (sym (same.ready_ other) ∙ ready);
+  }
+
+  pub again-found : (found : Option FlowNo) → MatchOption found (NoneIsIdle meaning core)
+      (IsIdleChosen meaning core (beside old aside) from) → MatchOption found (NoneIsIdle meaning core)
+      (IsIdleChosen meaning core new from)
+  again-found None none = none
+  again-found (Some flow) chosen = again-chosen flow chosen
+
+-- ---- one flow more is looked at again
+
+pub again-more : (old new : Pools) (aside fewer : List ℕ) (flow : ℕ) (start : Pools)
+    → HasSame start (beside old aside) → has aside flow ≡ true → IsMore old.ready new.ready flow
+    → IsLess aside fewer flow → new.readers ≡ old.readers → new.writers ≡ old.writers
+    → HasSame start (beside new fewer)
+again-more old new aside fewer flow start same there more less readers writers = record {
+  ready_ = λ other. members other ∙ same.ready_ other;
+  readers_ = readers ∙ same.readers_;
+  writers_ = writers ∙ same.writers_;
+}
+  where
+    members : (other : ℕ) → has (fewer ++ new.ready) other ≡ has (aside ++ old.ready) other
+    members other = has-both fewer new.ready other ∙ (λ i. less other i || more other i)
+        ∙ by (eqb flow other) refl (has aside other) refl (has old.ready other)
+        ∙ sym (has-both aside old.ready other)
+      where
+        by : (own : Bool) → eqb flow other ≡ own → (was : Bool) → has aside other ≡ was → (ready : Bool)
+            → ((not own && was) || (own || ready)) ≡ (was || ready)
+        by true e true is ready = refl
+        by true e false is ready = absurd (false≢true (sym is ∙ ap (has aside) (sym (eqb-true flow other e)) ∙ there))
+        by false e was is ready = refl
+
+pub again-none : (start new : Pools) (aside : List ℕ) → aside ≡ [] → HasSame start (beside new aside)
+    → HasSame start new
+again-none start new aside empty same = subst (λ a. HasSame start (beside new a)) empty same
+
+pub same-itself : (pools : Pools) → HasSame pools pools
+same-itself pools = record { ready_ = λ flow. refl; readers_ = refl; writers_ = refl }
+
+-- ---- calls that others finish
+
+call-no_take : (made : CallMade) (key : Key) (mode : Mode) → Call made ≡ Take key mode → ⊥
+call-no_take made key mode e = cc
+
+call-no_drop : (made : CallMade) (key : Key) → Call made ≡ Drop key → ⊥
+call-no_drop made key e = cc
+
+module _ (setup : Setup) (entries : List Entry) (flow : FlowNo) (made : CallMade) (pools : Pools) (from : ℕ)
+    (covers : Covers setup entries pools from)
+    (legal : IsLegal setup (entries ++ record { flow = flow; event = Call made } ∷ [])) where
+  call-next : CallIsNext setup entries flow.0 made.node made.args
+  call-next = let may = entries_are_moves setup entries flow (Call made) legal in may.next
+
+  call-live : IsLive setup entries flow.0
+  call-live =
+      let within = call-item setup entries flow.0 made.node made.args call-next in
+      let before = fronts_are_legal setup entries (record { flow = flow; event = Call made } ∷ []) legal in
+      live-is setup entries flow.0 within (not-true (has_ended entries flow.0)
+      (call-goes_on setup entries before flow.0 within made.node made.args call-next))
+
+  call-ready : IsReady pools flow.0
+  call-ready = by (covers.each flow.0 call-live)
+    where
+      unblocked : IsBlocked setup entries flow.0 → ⊥
+      unblocked (other, waits) =
+          not-both setup entries flow.0 (Take waits.key waits.mode) made.node made.args waits.next call-next
+
+      in-room : IsInRoom setup entries pools from flow.0 → ⊥
+      in-room room =
+          let fresh = covers.fresh room.key room.mode flow.0 room.parked in
+          not-both setup entries flow.0 (Take room.key room.mode) made.node made.args fresh.next call-next
+
+      by : IsCovered setup entries pools from flow.0 → IsReady pools flow.0
+      by (inl ready) = ready
+      by (inr (inl line)) = absurd (unblocked line.blocked)
+      by (inr (inr room)) = absurd (in-room room)
+
+  call-lags : Lags setup (entries ++ record { flow = flow; event = Call made } ∷ []) pools from
+  call-lags = record {
+    before = entries;
+    flow = flow;
+    event = Call made;
+    added = refl;
+    was = from;
+    covers = covers;
+    ready = call-ready;
+    later = λ one other key mode ready fresh apart before. before;
+  }
+
+  call-keeps : Covers setup (entries ++ record { flow = flow; event = Call made } ∷ []) pools from
+  unfolding call-lags
+  call-keeps = told-other setup (entries ++ record { flow = flow; event = Call made } ∷ []) legal pools from call-lags
+      (λ key mode e. call-no_take made key mode e) (λ key e. call-no_drop made key e)
+
+pub calls_keep_covers : CallsKeepCovers
+calls_keep_covers setup entries [] pools from covers legal calls =
+    subst (λ es. Covers setup es pools from) (by entries) covers
+  where
+    by : (es : List Entry) → es ≡ es ++ []
+    by [] = refl
+    by (e ∷ es) = ap (λ more. e ∷ more) (by es)
+calls_keep_covers setup entries (entry ∷ more) pools from covers legal (call, calls) =
+    let made = call.made in
+    let one : Entry = record { flow = entry.flow; event = Call made } in
+    let same : entry ≡ one = λ i. record { flow = entry.flow; event = call.is i } in
+    let split : entries ++ entry ∷ more ≡ (entries ++ one ∷ []) ++ more =
+    ap (λ e. entries ++ e ∷ more) same ∙ sym (append_assoc entries (one ∷ []) more) in
+    let whole = subst (IsLegal setup) split legal in
+    let first = fronts_are_legal setup (entries ++ one ∷ []) more whole in
+    subst (λ es. Covers setup es pools from) (sym split)
+    (calls_keep_covers setup (entries ++ one ∷ []) more pools from
+    (call-keeps setup entries entry.flow made pools from covers first) whole calls)

@@ -1,0 +1,54 @@
+-- Flows that are set aside for a look, since their calls are begun.
+use Rattle.std.specs.Prelude.{◌≡◌, ◌≢◌, ℕ, true, None, IsSome, List, ◌++◌}
+use Rattle.std.specs.List.{AllByRecursion}
+use Rattle.flux_values.specs.Meanings.{LibraryMeaning}
+use Rattle.flux_model.specs.declared.items.FlowNo.{FlowNo}
+use Rattle.flow_model.specs.declared.journals.CallMade.{CallMade}
+use Rattle.flow_model.specs.declared.journals.Entry.{Entry}
+use Rattle.flow_model.specs.declared.journals.Event.TheVariants.{Call}
+use Rattle.flow_model.specs.Setup.{Setup}
+use Rattle.flow_model.specs.Legal.{IsLegal}
+use Rattle.flow_core.specs.States.{CoreState, setup_in, begun_by}
+use Rattle.flow_waits.specs.Idle.{IsFirstIdle}
+use Rattle.flow_waits.specs.Turns.{IsBefore}
+use Rattle.flow_waits.specs.steps.Waking.{has}
+use Rattle.flow_waits.specs.steps.Covers.{Pools, IsReady, Covers}
+
+-- pools with some flows beside those that are looked at
+abbrev pub beside : Pools → List ℕ → Pools
+beside pools aside =
+    record { ready = aside ++ pools.ready; readers = pools.readers; writers = pools.writers }
+
+-- the same flows are looked at, and the same are in rooms
+pub record HasSame (old new : Pools) : Type 0 where
+  pub ready_ : (flow : ℕ) → has new.ready flow ≡ has old.ready flow
+  pub readers_ : new.readers ≡ old.readers
+  pub writers_ : new.writers ≡ old.writers
+
+-- those that are aside have begun calls, and aren't looked at; with them all flows are covered
+pub record AreAside {L : Type 0} (meaning : L → LibraryMeaning) (core : CoreState L) (pools : Pools)
+    (aside : List ℕ) (from : ℕ) : Type 0 where
+  pub covers : Covers (setup_in meaning core) core.entries (beside pools aside) from
+  pub begun : (flow : ℕ) → has aside flow ≡ true → IsSome (begun_by core flow)
+  pub apart : (flow : ℕ) → has aside flow ≡ true → IsReady pools flow → ⊥
+
+-- a flow is the first that can go on and has no begun call; it is looked at, before all others that have none
+pub record IsIdleChosen {L : Type 0} (meaning : L → LibraryMeaning) (core : CoreState L) (pools : Pools)
+    (from : ℕ) (flow : FlowNo) : Type 0 where
+  pub first : IsFirstIdle meaning core from flow
+  pub ready : IsReady pools flow.0
+  pub earliest : (other : ℕ) → IsReady pools other → begun_by core other ≡ None → flow.0 ≢ other
+      → IsBefore from flow.0 other
+
+-- ---- a law
+
+-- an entry is a call
+pub record IsCallEntry (entry : Entry) : Type 0 where
+  pub made : CallMade
+  pub is : entry.event ≡ Call made
+
+-- candidates that cover all flows still do where calls were finished since
+abbrev pub CallsKeepCovers : Type 0
+CallsKeepCovers = (setup : Setup) (entries more : List Entry) (pools : Pools) (from : ℕ)
+    → Covers setup entries pools from → IsLegal setup (entries ++ more) → AllByRecursion IsCallEntry more
+    → Covers setup (entries ++ more) pools from

@@ -1,0 +1,47 @@
+-- A buffer that is filled from a link.
+use Rattle.std.proofs.Common.{◌≡◌, ℕ, ◌+◌, ◌≤◌, true, List, [], ◌++◌, length, length-append, take, Option, Some, None, refl, sym, ap, ◌∙◌, arith, subst}
+use Rattle.std.specs.Prelude.{IfSome}
+use Rattle.std.proofs.Math.Seq.{take-append-add, take-append-le}
+use Rattle.std.proofs.lemmas.List.{length-take-le}
+use Rattle.std.specs.Io.KnownBytes.{Consumes, IsAtEnd}
+use Rattle.flux_outside.proofs.Consumed.{consumes_more}
+use Rattle.flux_batches.specs.declared.framing.Framing.{Framing}
+use Rattle.flux_batches.specs.Texts.{ends, least_front, has_front, trimmed, limit_of, text_of}
+use Rattle.flux_batches.proofs.Fronts.{text-found, text-full, text-all}
+
+-- a front, and a part that was read behind it
+pub filled-is : (buffer part rest : List ℕ) (filled count : ℕ) → filled ≤ length buffer → count ≤ length part → take (filled + count) (take filled buffer ++ (part ++ rest)) ≡ take filled buffer ++ take count part
+filled-is buffer part rest filled count has fits =
+    let size : length (take filled buffer) ≡ filled = length-take-le filled buffer has in
+    ap (λ n. take (n + count) (take filled buffer ++ (part ++ rest))) (sym size)
+    ∙ take-append-add (take filled buffer) (part ++ rest) count ∙ ap (λ l. take filled buffer ++ l) (take-append-le count part rest fits)
+
+pub filled-more : (before mid after : Option (List ℕ)) (buffer part rest : List ℕ) (filled count : ℕ) → filled ≤ length buffer → count ≤ length part → Consumes before mid (take filled buffer) → Consumes mid after (take count part)
+    → Consumes before after (take (filled + count) (take filled buffer ++ (part ++ rest)))
+filled-more before mid after buffer part rest filled count has fits first second =
+    let P : List ℕ → Type 0 = λ l. Consumes before after l in
+    subst P (sym (filled-is buffer part rest filled count has fits)) (consumes_more before mid after (take filled buffer) (take count part) first second)
+
+pub filled-fits : (buffer part rest : List ℕ) (filled count : ℕ) → filled ≤ length buffer → count ≤ length part → filled + count ≤ length (take filled buffer ++ (part ++ rest))
+filled-fits buffer part rest filled count has fits =
+    omega (arith, length-append (take filled buffer) (part ++ rest), length-append part rest, length-take-le filled buffer has, fits)
+
+-- ---- what was read, where links tell what they have
+
+pub read-found : (framing : Framing) (before after : Option (List ℕ)) (xs : List ℕ) → Consumes before after xs → length xs ≤ limit_of framing → has_front (ends framing) [] xs ≡ true
+    → IfSome before (λ left. trimmed framing (least_front (ends framing) xs) ≡ text_of framing left)
+read-found framing None after xs is fits has = tt
+read-found framing (Some left) None xs is fits has = absurd is
+read-found framing (Some left) (Some ys) xs is fits has = text-found framing xs ys left is fits has
+
+pub read-full : (framing : Framing) (before after : Option (List ℕ)) (xs : List ℕ) → Consumes before after xs → length xs ≡ limit_of framing
+    → IfSome before (λ left. trimmed framing (least_front (ends framing) xs) ≡ text_of framing left)
+read-full framing None after xs is full = tt
+read-full framing (Some left) None xs is full = absurd is
+read-full framing (Some left) (Some ys) xs is full = text-full framing xs ys left is full
+
+pub read-all : (framing : Framing) (before after : Option (List ℕ)) (xs : List ℕ) → Consumes before after xs → length xs ≤ limit_of framing → IsAtEnd after
+    → IfSome before (λ left. trimmed framing (least_front (ends framing) xs) ≡ text_of framing left)
+read-all framing None after xs is fits end = tt
+read-all framing (Some left) None xs is fits end = absurd is
+read-all framing (Some left) (Some ys) xs is fits end = text-all framing xs ys left is fits end

@@ -1,0 +1,6 @@
+mod Fronts
+mod Filled
+mod HeldLemmas
+mod Pieces
+mod Giving
+mod GatheredLemmas

@@ -1,0 +1,4 @@
+pub mod Texts
+pub mod Links
+pub mod Replies
+pub mod Gathered

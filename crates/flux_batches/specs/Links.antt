@@ -1,0 +1,65 @@
+-- Links that were read, and what they sent.
+use Rattle.std.specs.Prelude.{◌≡◌, ℕ, ◌+◌, pos, List, [], ◌∷◌, ◌++◌, Option, IfSome}
+use Rattle.flux_values.specs.declared.values.Value.TheVariants as values
+use Rattle.flux_model.specs.declared.items.Item.{Item}
+use Rattle.flux_outside.specs.Causes.{Rose}
+use Rattle.flux_outside.specs.Streams.{Stream}
+use Rattle.flux_batches.specs.declared.framing.Framing.{Framing}
+use Rattle.flux_batches.specs.declared.reading.Sent.{Sent}
+use Rattle.flux_batches.specs.declared.reading.Sent.TheVariants.{Text, Failed, Memory}
+use Rattle.flux_batches.specs.declared.reading.Held.{Held}
+use Rattle.flux_batches.specs.Texts.{text_of}
+
+-- what is seen of a link: the bytes left to read and all bytes written, where they are told, and its count of faults
+pub record Seen : Type 0 where
+  pub left : Option (List ℕ)
+  pub written : Option (List ℕ)
+  pub faults : ℕ
+
+-- the stream that its client is written
+abbrev pub stream_of : Seen → Stream
+stream_of link = record { written = link.written; faults = link.faults }
+
+-- a link was read: its text is that of what it had, or its count rose; nothing was written
+abbrev pub IsSent : Framing → Seen → Seen → Sent → Type 0
+IsSent framing before after (Text text) =
+    IfSome before.left (λ left. text ≡ text_of framing left) × (after.faults ≡ before.faults) × (after.written ≡ before.written)
+IsSent framing before after Failed = Rose before.faults after.faults × (after.written ≡ before.written)
+IsSent framing before after Memory = after.written ≡ before.written
+
+-- links were read in order, and these are left to read
+abbrev pub AreHeld : {K : Type 0} → (K → Seen) → Framing → List K → List (Held K) → List K → Type 0
+AreHeld see framing links [] left = links ≡ left
+AreHeld see framing [] (held ∷ rest) left = ⊥
+AreHeld see framing (link ∷ links) (held ∷ rest) left =
+    IsSent framing (see link) (see held.link) held.sent × AreHeld see framing links rest left
+
+-- ---- items
+
+-- a link's item: its number and its text
+abbrev pub link_item : ℕ → List ℕ → Item
+link_item number text = record {
+  source = record { 0 = 0 };
+  values = values.Int (pos number) ∷ values.Text text ∷ [];
+}
+
+-- a link whose reading failed has none
+abbrev pub item_sent : ℕ → Sent → List Item
+item_sent number (Text text) = link_item number text ∷ []
+item_sent number Failed = []
+item_sent number Memory = []
+
+-- the items of links, which are numbered from a number on
+abbrev pub items_from : {K : Type 0} → ℕ → List (Held K) → List Item
+items_from number [] = []
+items_from number (held ∷ rest) = item_sent number held.sent ++ items_from (number + 1) rest
+
+-- there was memory for each text
+abbrev pub IsRead : Sent → Type 0
+IsRead (Text text) = Unit {0}
+IsRead Failed = Unit {0}
+IsRead Memory = ⊥
+
+abbrev pub AreRead : {K : Type 0} → List (Held K) → Type 0
+AreRead [] = Unit {0}
+AreRead (held ∷ rest) = IsRead held.sent × AreRead rest

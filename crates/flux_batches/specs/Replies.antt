@@ -1,0 +1,58 @@
+-- Replies, and links that were answered.
+use Rattle.std.specs.Prelude.{◌≡◌, ℕ, ◌+◌, nat_eq, if◌then◌else◌, List, [], ◌∷◌, ◌++◌, Option}
+use Rattle.std.specs.Option.{option_map}
+use Rattle.flow_model.specs.declared.journals.Event.{Event}
+use Rattle.flow_model.specs.declared.journals.Event.TheVariants.{Take, Wait, Enter, Choose, Call, Exit, Drop, End}
+use Rattle.flow_model.specs.declared.journals.Entry.{Entry}
+use Rattle.flux_outside.specs.Streams.{WroteOrBroke}
+use Rattle.flux_batches.specs.declared.reading.Sent.{Sent}
+use Rattle.flux_batches.specs.declared.reading.Sent.TheVariants.{Text, Failed, Memory}
+use Rattle.flux_batches.specs.declared.reading.Held.{Held}
+use Rattle.flux_batches.specs.Links.{Seen, stream_of}
+
+-- what an event emits: a call what it answers, and no other anything
+abbrev pub emitted : Event → List ℕ
+emitted (Call made) = made.answer.emits
+emitted (Take key mode) = []
+emitted (Wait key mode) = []
+emitted (Enter node) = []
+emitted (Choose place) = []
+emitted (Exit node outcome) = []
+emitted (Drop key) = []
+emitted (End outcome) = []
+
+-- the reply of a flow: what its calls emit, in order
+abbrev pub reply_of : ℕ → List Entry → List ℕ
+reply_of flow [] = []
+reply_of flow (entry ∷ entries) =
+    (if nat_eq entry.flow.0 flow then emitted entry.event else []) ++ reply_of flow entries
+
+-- a link with an item is written its flow's reply, or a front of it where its count rose; every other is written nothing
+abbrev pub IsAnswered : List Entry → ℕ → Seen → Seen → Sent → Type 0
+IsAnswered entries flow before after (Text text) = WroteOrBroke (stream_of before) (stream_of after) (reply_of flow entries)
+IsAnswered entries flow before after Failed = stream_of after ≡ stream_of before
+IsAnswered entries flow before after Memory = stream_of after ≡ stream_of before
+
+-- the flow of the next link with an item
+abbrev pub flow_behind : ℕ → Sent → ℕ
+flow_behind flow (Text text) = flow + 1
+flow_behind flow Failed = flow
+flow_behind flow Memory = flow
+
+-- links were answered in order, from a flow on, and given back as these; those are left
+abbrev pub AreAnswered : {K : Type 0} → (K → Seen) → List Entry → ℕ → List (Held K) → List K → List (Held K) → Type 0
+AreAnswered see entries flow helds [] left = helds ≡ left
+AreAnswered see entries flow [] (back ∷ backs) left = ⊥
+AreAnswered see entries flow (held ∷ rest) (back ∷ backs) left =
+    IsAnswered entries flow (see held.link) (see back) held.sent × AreAnswered see entries (flow_behind flow held.sent) rest backs left
+
+-- a door has taken back these links beside those before, where it tells them
+abbrev pub TakesBack : {L : Type 0} → Option (List L) → Option (List L) → List L → Type 0
+TakesBack before after links = after ≡ option_map (λ held. held ++ links) before
+
+-- all links were answered, and given back to the door
+pub record HasAnswered {L : Type 0} (see : L → Seen) (entries : List Entry) (helds : List (Held L))
+    (before after : Option (List L)) : Type 0 where
+  pub backs : List L
+  pub taken : TakesBack before after backs
+  pub answered : AreAnswered see entries 0 helds backs []

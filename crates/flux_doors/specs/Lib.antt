@@ -1,0 +1,4 @@
+pub mod Doors
+pub mod Arrivals
+pub mod Memory
+pub mod steps

@@ -1,0 +1,36 @@
+//! Links to clients.
+
+ghost use Rattle.std.specs.Prelude.{◌≡◌, ℕ, List, Option};
+ghost use Rattle.std.specs.Io.{ReadsAtMost};
+ghost use Rattle.std.specs.Io.KnownBytes.{ReadConsumes};
+ghost use Rattle.flux_outside.specs.Causes.{HasCause};
+ghost use Rattle.flux_outside.specs.Sinks.{TakesSome, gained};
+
+use flux_outside::Failed;
+
+/// Gives the bytes that a client sends, and takes those of the reply.
+pub trait Link {
+    /// The bytes left to read, where they are told.
+    ghost left: { Self → Option (List ℕ) };
+
+    /// All bytes written so far, where they are told.
+    ghost written: { Self → Option (List ℕ) };
+
+    /// How often the link has failed.
+    ghost faults: { Self → ℕ };
+
+    /// Reads some of the bytes that are left, and answers how many. It reads none into a buffer that has room only at
+    /// their end.
+    fn read(&mut self, buffer: &mut [u8]) -> Result<usize, Failed>
+        ensures bound { ReadsAtMost result buffer.new }
+        ensures bytes { ReadConsumes (left self.old) (left self.new) result buffer.new }
+        ensures written { written self.new ≡ written self.old }
+        ensures cause { HasCause (faults self.old) (faults self.new) result };
+
+    /// Writes a front of the bytes, and answers how many bytes that was. To take none of some bytes is a fault.
+    fn write(&mut self, bytes: &[u8]) -> Result<usize, Failed>
+        ensures bound { TakesSome result bytes.now }
+        ensures bytes { written self.new ≡ gained (written self.old) result bytes.now }
+        ensures left { left self.new ≡ left self.old }
+        ensures cause { HasCause (faults self.old) (faults self.new) result };
+}

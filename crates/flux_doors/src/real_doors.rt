@@ -1,0 +1,115 @@
+//! A door over a real socket: a thin adapter, which tells nothing of the links to come.
+
+ghost use Rattle.std.specs.Prelude.{◌≡◌, ◌≤◌};
+ghost use Rattle.flux_doors.specs.Doors.{HasAcceptCause};
+
+use crate::arrivals::{Arrival, arrival_of};
+use crate::doors::Door;
+use crate::real_links::RealLink;
+use flux_outside::{Failed, count_failure};
+use std::net::{Ipv4Addr, Net, OpenListener, SocketAddr};
+use std::time::Clock;
+
+/// How many clients that went away are passed over in one accept.
+const TRIES: u32 = 1_000_000;
+
+/// A port of this machine alone, 127.0.0.1.
+#[derive(Drop)]
+pub struct RealDoor<R: Net + Clock + Copy> {
+    runtime: R,
+    listener: Option<R::Listener>,
+    out: usize,
+    faults: u64,
+    late: u64,
+}
+
+/// Why an accept gave no answer.
+struct Refused;
+
+impl<R: Net + Clock + Copy> RealDoor<R> {
+    /// A door that isn't open yet.
+    pub fn new(runtime: R) -> RealDoor<R>
+        ensures { (result.out ≡ 0) × (result.faults ≡ 0) × (result.late ≡ 0) }
+    {
+        RealDoor {
+            runtime,
+            listener: None,
+            out: 0,
+            faults: 0,
+            late: 0,
+        }
+    }
+
+    /// The next client. A first accept waits for one; a later one doesn't.
+    fn next_link(&self, first: bool) -> Result<Option<RealLink<R>>, Refused> {
+        let Some(listener) = &self.listener else {
+            return Err(Refused);
+        };
+        if listener.set_nonblocking(!first).is_err() {
+            return Err(Refused);
+        }
+        for _ in 0..TRIES {
+            match arrival_of(listener.accept()) {
+                Arrival::Link((stream, _)) => {
+                    return match RealLink::new(self.runtime, stream) {
+                        Some(link) => Ok(Some(link)),
+                        None => Err(Refused),
+                    };
+                }
+                Arrival::Gone => {}
+                Arrival::NoneReady if !first => return Ok(None),
+                Arrival::NoneReady | Arrival::Failed => return Err(Refused),
+            }
+        }
+        Err(Refused)
+    }
+}
+
+impl<R: Net + Clock + Copy> Door for RealDoor<R> {
+    ghost use Rattle.std.specs.Prelude.{None};
+
+    type Link = RealLink<R>;
+
+    ghost to_come = { λ _. None };
+
+    ghost taken_back = { λ _. None };
+
+    ghost out = { λ door. door.out };
+
+    ghost faults = { λ door. door.faults };
+
+    ghost late = { λ door. door.late };
+
+    fn open(&mut self, port: u16) -> Result<(), Failed> {
+        match self
+            .runtime
+            .bind(SocketAddr::from((Ipv4Addr::LOCALHOST, port)))
+        {
+            Ok(listener) => {
+                self.listener = Some(listener);
+                Ok(())
+            }
+            Err(_) => Err(count_failure(&mut self.faults)),
+        }
+    }
+
+    fn accept(&mut self, first: bool) -> Result<Option<RealLink<R>>, Failed> {
+        match self.next_link(first) {
+            Ok(Some(link)) => {
+                self.out += 1;
+                Ok(Some(link))
+            }
+            Ok(None) => Ok(None),
+            Err(Refused) => Err(if first {
+                count_failure(&mut self.faults)
+            } else {
+                count_failure(&mut self.late)
+            }),
+        }
+    }
+
+    fn done(&mut self, link: RealLink<R>) {
+        link.close();
+        self.out -= 1;
+    }
+}

@@ -1,0 +1,125 @@
+//! Links over real sockets: thin adapters, which tell nothing of what they hold.
+
+ghost use Rattle.std.specs.Prelude.{◌≡◌, ◌<◌, ◌≤◌, IfSome, length};
+
+use crate::links::Link;
+use flux_outside::{Failed, count_failure, read_on, write_on};
+use std::io::Read;
+use std::net::{Net, OpenStream, Shutdown};
+use std::time::{Clock, Duration};
+
+/// So many seconds after a link was accepted, what it has to read has to be there.
+pub const READ_SECONDS: u64 = 10;
+
+/// So many seconds after the first write, a reply has to be taken.
+pub const REPLY_SECONDS: u64 = 30;
+
+/// So many seconds at most, what a client still sends is read behind the reply, so that it gets the reply.
+const CLOSING_SECONDS: u64 = 1;
+
+/// So many blocks at most are read then.
+const CLOSING_BLOCKS: usize = 256;
+
+/// How many bytes a block has.
+const BLOCK: usize = 4_096;
+
+/// A client over a socket. What it has to send has to be there within `READ_SECONDS` of its accept, and a reply has to be
+/// taken within `REPLY_SECONDS`: later reads and writes fail.
+#[derive(Drop)]
+pub struct RealLink<R: Net + Clock + Copy> {
+    stream: R::Stream,
+    clock: R,
+    /// When it was accepted, and when its reply began.
+    accepted: Duration,
+    replied: Option<Duration>,
+    faults: u64,
+}
+
+impl<R: Net + Clock + Copy> RealLink<R> {
+    /// A link that is accepted now; None where there is no clock.
+    pub(crate) fn new(clock: R, stream: R::Stream) -> Option<RealLink<R>>
+        ensures { IfSome result (λ link. link.faults ≡ 0) }
+    {
+        let accepted = clock.monotonic().ok()?;
+        Some(RealLink {
+            stream,
+            clock,
+            accepted,
+            replied: None,
+            faults: 0,
+        })
+    }
+
+    /// What is left of some seconds; None where they are over, or there is no clock.
+    fn time_left(&self, since: Duration, seconds: u64) -> Option<Duration> {
+        let spent = self.clock.monotonic().ok()?.saturating_sub(since);
+        let left = Duration::from_secs(seconds).saturating_sub(spent);
+        if left.is_zero() { None } else { Some(left) }
+    }
+
+    fn read_in_time(&mut self, since: Duration, seconds: u64, buffer: &mut [u8]) -> Option<usize>
+        ensures bound { IfSome result (λ count. count ≤ length buffer.new) }
+        ensures faults { self.new.faults ≡ self.old.faults }
+        ensures accepted { self.new.accepted ≡ self.old.accepted }
+    {
+        let left = self.time_left(since, seconds)?;
+        self.stream.set_read_timeout(Some(left)).ok()?;
+        read_on(&mut self.stream, buffer).ok()
+    }
+
+    fn write_in_time(&mut self, bytes: &[u8]) -> Option<usize>
+        ensures bound { IfSome result (λ count. count ≤ length bytes.now) }
+        ensures faults { self.new.faults ≡ self.old.faults }
+    {
+        let since = match self.replied {
+            Some(since) => since,
+            None => self.clock.monotonic().ok()?,
+        };
+        self.replied = Some(since);
+        let left = self.time_left(since, REPLY_SECONDS)?;
+        self.stream.set_write_timeout(Some(left)).ok()?;
+        write_on(&mut self.stream, bytes).ok()
+    }
+
+    /// Closes both directions in order: the client is told that nothing more comes, and what it still sends is read up to a
+    /// bound. A socket that is closed with bytes unread would take back what the client hasn't read yet.
+    pub(crate) fn close(mut self) {
+        let Ok(since) = self.clock.monotonic() else {
+            return;
+        };
+        if self.stream.shutdown(Shutdown::Write).is_err() {
+            return;
+        }
+        let mut block = [0u8; BLOCK];
+        for _ in 0..CLOSING_BLOCKS {
+            match self.read_in_time(since, CLOSING_SECONDS, &mut block) {
+                Some(count) if count > 0 => {}
+                _ => return,
+            }
+        }
+    }
+}
+
+impl<R: Net + Clock + Copy> Link for RealLink<R> {
+    ghost use Rattle.std.specs.Prelude.{None};
+
+    ghost left = { λ _. None };
+
+    ghost written = { λ _. None };
+
+    ghost faults = { λ link. link.faults };
+
+    fn read(&mut self, buffer: &mut [u8]) -> Result<usize, Failed> {
+        match self.read_in_time(self.accepted, READ_SECONDS, buffer) {
+            Some(count) => Ok(count),
+            None => Err(count_failure(&mut self.faults)),
+        }
+    }
+
+    fn write(&mut self, bytes: &[u8]) -> Result<usize, Failed> {
+        match self.write_in_time(bytes) {
+            Some(taken) if taken > 0 || bytes.is_empty() => Ok(taken),
+            _ => Err(count_failure(&mut self.faults)),
+        }
+    }
+}

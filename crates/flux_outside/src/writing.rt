@@ -1,0 +1,25 @@
+//! Writing all of some bytes to a sink.
+
+ghost use Rattle.std.specs.Prelude.{◌≤◌, OnOk, OnErr};
+ghost use Rattle.flux_outside.specs.Streams.{Wrote, Broke};
+
+use crate::faults::Failed;
+use crate::sinks::Sink;
+
+/// Writes all of the bytes, in as many calls as the sink needs.
+pub fn write_all<O: Sink>(out: &mut O, bytes: &[u8]) -> Result<(), Failed>
+    ensures later { O.faults out.old ≤ O.faults out.new }
+    ensures wrote { OnOk result (Wrote
+        (record { written = O.written out.old; faults = O.faults out.old })
+        (record { written = O.written out.new; faults = O.faults out.new }) bytes.now) }
+    ensures broke { OnErr result (Broke
+        (record { written = O.written out.old; faults = O.faults out.old })
+        (record { written = O.written out.new; faults = O.faults out.new }) bytes.now) }
+{
+    let mut rest = bytes;
+    while !rest.is_empty() {
+        let count = out.write(rest)?;
+        rest = &rest[count..];
+    }
+    Ok(())
+}

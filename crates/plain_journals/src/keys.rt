@@ -1,0 +1,190 @@
+//! Keys: no flow takes one that another flow bars, no two flows are in sections that conflict, who came first goes first,
+//! and each flow lets all go before its end.
+
+use crate::Plain;
+use crate::rules::{Rule, Wrong, check_that};
+use flow_model::{Entry, Event, Key};
+use flux_model::{ClassNo, FlowNo, Mode, NodeNo};
+use std::alloc::Global;
+
+/// A key that a flow holds, waits for or has in a section, and how.
+#[derive(Clone, Copy, Debug, PartialEq, Eq)]
+struct Claim {
+    flow: FlowNo,
+    key: Key,
+    mode: Mode,
+}
+
+impl Claim {
+    /// Whether two flows can't have both.
+    fn bars(&self, other: &Claim) -> bool {
+        self.flow != other.flow
+            && self.key == other.key
+            && (self.mode == Mode::Writer || other.mode == Mode::Writer)
+    }
+}
+
+/// What flows hold, which of them wait in the order of coming, which sections are open, and who has ended.
+#[derive(Drop)]
+struct Seen {
+    held: Vec<Claim>,
+    waiting: Vec<Claim>,
+    open: Vec<(NodeNo, Claim)>,
+    ended: Vec<FlowNo>,
+}
+
+/// The key of a class for a flow.
+pub fn key_of(plain: Plain, flow: FlowNo, class: ClassNo) -> Key {
+    let is_session = match plain.program.classes.get(class.0 as usize) {
+        Some(class) => class.session,
+        None => false,
+    };
+    let id = match plain.given.get(flow.0 as usize) {
+        Some(given) if is_session => Some(u64::from_ne_bytes(given.number.to_ne_bytes())),
+        _ => None,
+    };
+    Key { class, id }
+}
+
+impl Seen {
+    fn new(alloc: Global) -> Seen {
+        Seen {
+            held: Vec::new(alloc),
+            waiting: Vec::new(alloc),
+            open: Vec::new(alloc),
+            ended: Vec::new(alloc),
+        }
+    }
+
+    fn holds(&self, claim: &Claim) -> bool {
+        self.held
+            .iter()
+            .any(|held| held.flow == claim.flow && held.key == claim.key)
+    }
+
+    /// Whether another flow's hold keeps a claim from being taken.
+    fn is_held_against(&self, claim: &Claim) -> bool {
+        self.held.iter().any(|held| held.bars(claim))
+    }
+
+    /// Whether another flow waits for the key and came first; whoever holds the key needn't care.
+    fn is_late(&self, claim: &Claim) -> bool {
+        let is_behind = self
+            .waiting
+            .iter()
+            .take_while(|waiting| waiting.flow != claim.flow)
+            .any(|waiting| waiting.bars(claim));
+        is_behind && !self.holds(claim)
+    }
+
+    fn is_blocked(&self, claim: &Claim) -> bool {
+        !self.holds(claim) && (self.is_held_against(claim) || self.is_late(claim))
+    }
+
+    fn place_in_line(&self, flow: FlowNo) -> Option<usize> {
+        self.waiting.iter().position(|waiting| waiting.flow == flow)
+    }
+
+    fn take(&mut self, claim: Claim) -> Result<(), Wrong> {
+        let is_free = !self.is_held_against(&claim) && !self.is_late(&claim);
+        check_that(is_free, Rule::Take)?;
+        if let Some(place) = self.place_in_line(claim.flow)
+            && place < self.waiting.len()
+        {
+            let waiting = self.waiting.remove(place);
+            check_that(waiting == claim, Rule::TakeElsewhere)?;
+        }
+        Ok(self.held.push(claim)?)
+    }
+
+    fn wait(&mut self, claim: Claim) -> Result<(), Wrong> {
+        let may = self.is_blocked(&claim) && self.place_in_line(claim.flow).is_none();
+        check_that(may, Rule::Wait)?;
+        Ok(self.waiting.push(claim)?)
+    }
+
+    fn drop_key(&mut self, flow: FlowNo, key: Key) -> Result<(), Wrong> {
+        let place = self
+            .held
+            .iter()
+            .rposition(|held| held.flow == flow && held.key == key);
+        match place {
+            Some(place) if place < self.held.len() => {
+                let _ = self.held.remove(place);
+                Ok(())
+            }
+            _ => Err(Wrong::Breaks(Rule::Drop)),
+        }
+    }
+
+    fn open(&mut self, node: NodeNo, claim: Claim) -> Result<(), Wrong> {
+        let is_barred = self.open.iter().any(|(_, open)| open.bars(&claim));
+        check_that(!is_barred, Rule::Section)?;
+        Ok(self.open.push((node, claim))?)
+    }
+
+    /// A flow comes into a node: a section is open on each key of the constraints that the node itself declares.
+    fn enter(&mut self, plain: Plain, flow: FlowNo, node: NodeNo) -> Result<(), Wrong> {
+        let Some(entered) = plain.program.nodes.get(node.0 as usize) else {
+            return Ok(());
+        };
+        for hold in entered.declared.as_slice() {
+            let key = key_of(plain, flow, hold.class);
+            let mode = hold.mode;
+            self.open(node, Claim { flow, key, mode })?;
+        }
+        Ok(())
+    }
+
+    fn exit(&mut self, flow: FlowNo, node: NodeNo) {
+        self.open
+            .retain(|(entered, claim)| *entered != node || claim.flow != flow);
+    }
+
+    fn end(&mut self, flow: FlowNo) -> Result<(), Wrong> {
+        let holds = self.held.iter().any(|held| held.flow == flow);
+        let is_inside = self.open.iter().any(|(_, open)| open.flow == flow);
+        check_that(!holds && !is_inside, Rule::End)?;
+        Ok(self.ended.push(flow)?)
+    }
+
+    /// An event that neither takes nor waits, of a flow that doesn't wait.
+    fn go(&mut self, plain: Plain, flow: FlowNo, event: &Event) -> Result<(), Wrong> {
+        check_that(self.place_in_line(flow).is_none(), Rule::GoesOn)?;
+        match event {
+            Event::Drop(key) => self.drop_key(flow, *key),
+            Event::Enter(node) => self.enter(plain, flow, *node),
+            Event::Exit(node, _) => {
+                self.exit(flow, *node);
+                Ok(())
+            }
+            Event::End(_) => self.end(flow),
+            _ => Ok(()),
+        }
+    }
+
+    fn see(&mut self, plain: Plain, entry: &Entry) -> Result<(), Wrong> {
+        let flow = entry.flow;
+        check_that(!self.ended.contains(&flow), Rule::GoesOn)?;
+        match &entry.event {
+            Event::Take(key, mode) => {
+                let (key, mode) = (*key, *mode);
+                self.take(Claim { flow, key, mode })
+            }
+            Event::Wait(key, mode) => {
+                let (key, mode) = (*key, *mode);
+                self.wait(Claim { flow, key, mode })
+            }
+            event => self.go(plain, flow, event),
+        }
+    }
+}
+
+/// The entries are those of flows that exclude each other, wait only where they must, and end.
+pub fn check_keys(alloc: Global, plain: Plain, entries: &[Entry]) -> Result<(), Wrong> {
+    let mut seen = Seen::new(alloc);
+    for entry in entries {
+        seen.see(plain, entry)?;
+    }
+    check_that(seen.ended.len() == plain.given.len(), Rule::End)
+}

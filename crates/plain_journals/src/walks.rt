@@ -1,0 +1,260 @@
+//! Walks: the events of each flow, its waits left out, are those of its nodes, one within the other, and then its end.
+
+ghost use Rattle.std.specs.Prelude.{◌<◌, IfOk};
+
+use crate::Plain;
+use crate::keys::key_of;
+use crate::rules::{Rule, Wrong, check_that};
+use flow_model::{Entry, Event, Outcome};
+use flux_model::{Body, Case, FlowNo, HandleArm, Hold, NodeNo};
+use flux_values::{CallResult, Value};
+use std::alloc::Global;
+
+/// How deep calls of `Walker` may stand within each other here.
+const DEPTH: u32 = 64;
+
+/// How a node came out, and the number that it gave, if it came out well and gave one.
+#[derive(Clone, Copy, Debug)]
+struct Way {
+    outcome: Outcome,
+    number: i64,
+}
+
+/// Goes through a flow's own events as its nodes ask for them.
+#[derive(Drop)]
+struct Walker<'a> {
+    plain: Plain<'a>,
+    flow: FlowNo,
+    own: Vec<&'a Event>,
+    at: usize,
+}
+
+fn own_events(alloc: Global, entries: &[Entry], flow: FlowNo) -> Result<Vec<&Event>, Wrong> {
+    let mut own = Vec::new(alloc);
+    for entry in entries {
+        if entry.flow == flow && !matches!(entry.event, Event::Wait(..)) {
+            own.push(&entry.event)?;
+        }
+    }
+    Ok(own)
+}
+
+/// Whether a case matches a number.
+fn is_match(plain: Plain, case: &Case, given: i64) -> bool {
+    let [Some(predicate)] = case.patterns.as_slice() else {
+        return true;
+    };
+    match plain.program.predicates.get(*predicate as usize) {
+        Some(name) if name.as_bytes() == b"IsZero".as_slice() => given == 0,
+        _ => false,
+    }
+}
+
+/// The handler of a code: the first that names it, or else the first that names none.
+fn handler_of(arms: &[HandleArm], code: u16) -> Option<NodeNo> {
+    arms.iter()
+        .find(|arm| arm.codes.as_slice().contains(&code))
+        .or_else(|| arms.iter().find(|arm| arm.codes.is_empty()))
+        .map(|arm| arm.node)
+}
+
+fn way_of(found: &CallResult, given: i64) -> Way {
+    let (outcome, number) = match found {
+        CallResult::Bad(code) => (Outcome::Bad(*code), given),
+        CallResult::Good(values) => match values.as_slice() {
+            [Value::Int(number)] => (Outcome::Good, *number),
+            _ => (Outcome::Good, given),
+        },
+    };
+    Way { outcome, number }
+}
+
+/// One level less.
+fn below(depth: u32) -> Result<u32, Wrong>
+    ensures { IfOk result (λ less. less < depth) }
+{
+    depth.checked_sub(1).ok_or(Wrong::Breaks(Rule::Walk))
+}
+
+impl<'a> Walker<'a> {
+    fn next(&mut self) -> Option<&'a Event> {
+        let event = self.own.get(self.at).copied();
+        self.at = self.at.saturating_add(1);
+        event
+    }
+
+    fn locks(&self, node: NodeNo) -> &'a [Hold] {
+        match self.plain.locks.get(node.0 as usize) {
+            Some(locks) => locks.as_slice(),
+            None => &[],
+        }
+    }
+
+    fn handlers(&self, node: NodeNo) -> &'a [HandleArm] {
+        match self.plain.program.nodes.get(node.0 as usize) {
+            Some(node) => node.on_fail.as_slice(),
+            None => &[],
+        }
+    }
+
+    fn takes(&mut self, locks: &[Hold]) -> Result<(), Wrong> {
+        for hold in locks {
+            let wanted = key_of(self.plain, self.flow, hold.class);
+            let event = self.next();
+            let is_next =
+                matches!(event, Some(Event::Take(key, mode)) if *key == wanted && *mode == hold.mode);
+            check_that(is_next, Rule::Walk)?;
+        }
+        Ok(())
+    }
+
+    fn drops(&mut self, locks: &[Hold]) -> Result<(), Wrong> {
+        for hold in locks.iter().rev() {
+            let wanted = key_of(self.plain, self.flow, hold.class);
+            let event = self.next();
+            let is_next = matches!(event, Some(Event::Drop(key)) if *key == wanted);
+            check_that(is_next, Rule::Walk)?;
+        }
+        Ok(())
+    }
+
+    fn call(&mut self, wanted: NodeNo, given: i64) -> Result<Way, Wrong> {
+        if let Some(Event::Call(call)) = self.next()
+            && call.node == wanted
+            && let [Value::Int(number)] = call.args.as_slice()
+            && *number == given
+        {
+            Ok(way_of(&call.answer.result, given))
+        } else {
+            Err(Wrong::Breaks(Rule::Walk))
+        }
+    }
+
+    fn enter(&mut self, node: NodeNo) -> Result<(), Wrong> {
+        let event = self.next();
+        let is_next = matches!(event, Some(Event::Enter(entered)) if *entered == node);
+        check_that(is_next, Rule::Walk)
+    }
+
+    fn exit(&mut self, node: NodeNo, way: Way) -> Result<(), Wrong> {
+        let event = self.next();
+        let is_next =
+            matches!(event, Some(Event::Exit(left, outcome)) if *left == node && *outcome == way.outcome);
+        check_that(is_next, Rule::Walk)
+    }
+
+    fn end(&mut self, way: Way) -> Result<(), Wrong> {
+        let event = self.next();
+        let is_next = matches!(event, Some(Event::End(outcome)) if *outcome == way.outcome);
+        check_that(is_next && self.next().is_none(), Rule::Walk)
+    }
+
+    /// A case's members, each on what the one before gave, until one doesn't come out well.
+    #[cycle(walking)]
+    fn members(&mut self, depth: u32, members: &[NodeNo], given: i64) -> Result<Way, Wrong> {
+        let depth = below(depth)?;
+        let mut way = Way {
+            outcome: Outcome::Good,
+            number: given,
+        };
+        for member in members {
+            if way.outcome != Outcome::Good {
+                break;
+            }
+            way = self.walk(depth, *member, way.number)?;
+        }
+        Ok(way)
+    }
+
+    /// The first case that matches, or the failure with code 256.
+    #[cycle(walking)]
+    fn choose(&mut self, depth: u32, cases: &[Case], given: i64) -> Result<Way, Wrong> {
+        let depth = below(depth)?;
+        let plain = self.plain;
+        for (place, case) in cases.iter().enumerate() {
+            if is_match(plain, case, given) {
+                let event = self.next();
+                let is_next =
+                    matches!(event, Some(Event::Choose(chosen)) if *chosen as usize == place.saturating_add(1));
+                check_that(is_next, Rule::Walk)?;
+                return self.members(depth, case.members.as_slice(), given);
+            }
+        }
+        Ok(Way {
+            outcome: Outcome::Bad(256),
+            number: given,
+        })
+    }
+
+    #[cycle(walking)]
+    fn body(&mut self, depth: u32, node: NodeNo, given: i64) -> Result<Way, Wrong> {
+        let depth = below(depth)?;
+        if let Some(entered) = self.plain.program.nodes.get(node.0 as usize)
+            && let Body::Abstract(cases) = &entered.body
+        {
+            self.choose(depth, cases.as_slice(), given)
+        } else {
+            self.call(node, given)
+        }
+    }
+
+    /// The handler's walk, where the node failed and has one for the code.
+    #[cycle(walking)]
+    fn handle(&mut self, depth: u32, node: NodeNo, given: i64, way: Way) -> Result<Way, Wrong> {
+        let depth = below(depth)?;
+        if let Outcome::Bad(code) = way.outcome
+            && let Some(handler) = handler_of(self.handlers(node), code)
+        {
+            let handled = self.walk(depth, handler, given)?;
+            return match handled.outcome {
+                Outcome::Good | Outcome::Over => Ok(Way {
+                    outcome: Outcome::Over,
+                    number: given,
+                }),
+                Outcome::Bad(_) => Ok(handled),
+            };
+        }
+        Ok(way)
+    }
+
+    /// The walk of a node on a number.
+    #[cycle(walking)]
+    fn walk(&mut self, depth: u32, node: NodeNo, given: i64) -> Result<Way, Wrong> {
+        let depth = below(depth)?;
+        let locks = self.locks(node);
+        self.takes(locks)?;
+        self.enter(node)?;
+        let way = self.body(depth, node, given)?;
+        self.exit(node, way)?;
+        self.drops(locks)?;
+        self.handle(depth, node, given, way)
+    }
+}
+
+/// The flow's own events are its target's walk, and its end.
+fn check_walk(alloc: Global, plain: Plain, entries: &[Entry], flow: FlowNo) -> Result<(), Wrong> {
+    let given = plain.given.get(flow.0 as usize);
+    let line = given.and_then(|given| plain.program.sources.get(given.source as usize));
+    let (Some(given), Some(line)) = (given, line) else {
+        return Err(Wrong::Breaks(Rule::Flow));
+    };
+    let mut walker = Walker {
+        plain,
+        flow,
+        own: own_events(alloc, entries, flow)?,
+        at: 0,
+    };
+    let way = walker.walk(DEPTH, line.target, given.number)?;
+    walker.end(way)
+}
+
+/// Each flow's own events are one whole walk, and there are no other flows.
+pub fn check_walks(alloc: Global, plain: Plain, entries: &[Entry]) -> Result<(), Wrong> {
+    let flows = u32::try_from(plain.given.len()).map_err(|_| Wrong::Breaks(Rule::Flow))?;
+    let are_flows = entries.iter().all(|entry| entry.flow.0 < flows);
+    check_that(are_flows, Rule::Flow)?;
+    for flow in 0..flows {
+        check_walk(alloc, plain, entries, FlowNo(flow))?;
+    }
+    Ok(())
+}

@@ -1,0 +1,4 @@
+//! Rows of calls.
+
+mod cells;
+mod tables;
