@@ -10,7 +10,7 @@ use Rattle.flow_model.specs.declared.journals.Entry.{Entry}
 use Rattle.flow_model.specs.declared.journals.Event.{Event}
 use Rattle.flow_model.specs.declared.journals.Event.TheVariants as events
 use Rattle.flux_laws.specs.Growth.{has_ended}
-use Rattle.flow_core.specs.declared.calls.Inputs.{Inputs}
+use Rattle.flow_state.specs.declared.inputs.Inputs.{Inputs}
 use Rattle.flow_core.specs.declared.cores.Step.{Step}
 use Rattle.flow_core.specs.declared.cores.Step.TheVariants as steps
 use Rattle.flow_core.specs.declared.cores.Finish.{Finish}

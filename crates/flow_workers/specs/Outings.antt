@@ -6,7 +6,9 @@ use Rattle.flux_model.specs.declared.items.FlowNo.{FlowNo}
 use Rattle.flow_model.specs.declared.journals.Entry.{Entry}
 use Rattle.flux_laws.specs.Going.{IsBlocked}
 use Rattle.flux_laws.specs.Growth.{has_ended}
-use Rattle.flow_core.specs.States.{CoreSetup, CoreState, JobState, DoneState, setup_in, begun_by, library_name}
+use Rattle.flow_state.specs.States.{SetupState}
+use Rattle.flow_state.specs.Calls.{library_name}
+use Rattle.flow_core.specs.States.{CoreState, JobState, DoneState, begun_by}
 use Rattle.flow_core.specs.Runs.{SameSetup}
 use Rattle.flow_workers.specs.declared.outings.Outing.{Outing}
 use Rattle.flow_workers.specs.declared.outings.Outing.TheVariants.{Ended, Waits, Calls, Went, Halted}
@@ -21,7 +23,7 @@ module _ {L : Type 0} where
     pub others : (other : ℕ) → flow.0 ≢ other → begun_by new other ≡ begun_by old other
 
   -- a call in a program, by a library
-  pub record IsCallIn (setup : CoreSetup L) (job : JobState L) : Type 0 where
+  pub record IsCallIn (setup : SetupState L) (job : JobState L) : Type 0 where
     pub program : job.program ≡ setup.program
     pub library : job.library ≡ setup.library
 
