@@ -2,5 +2,6 @@ mod Fronts
 mod Filled
 mod HeldLemmas
 mod Pieces
-mod Giving
+pub mod Giving
 mod GatheredLemmas
+mod ItemLemmas

@@ -1,6 +1,8 @@
 -- Links that were read, and what they sent.
 use Rattle.std.specs.Prelude.{◌≡◌, ℕ, ◌+◌, pos, List, [], ◌∷◌, ◌++◌, Option, IfSome}
+use Rattle.flux_values.specs.declared.values.Kind.TheVariants as kinds
 use Rattle.flux_values.specs.declared.values.Value.TheVariants as values
+use Rattle.flux_model.specs.Items.{AreValues}
 use Rattle.flux_model.specs.declared.items.Item.{Item}
 use Rattle.flux_outside.specs.Causes.{Rose}
 use Rattle.flux_outside.specs.Streams.{Stream}
@@ -42,6 +44,10 @@ link_item number text = record {
   source = record { 0 = 0 };
   values = values.Int (pos number) ∷ values.Text text ∷ [];
 }
+
+-- an item of the first source, of a number and a text
+abbrev pub IsLinkItem : Item → Type 0
+IsLinkItem item = (item.source ≡ record { 0 = 0 }) × AreValues (kinds.Int ∷ kinds.Text ∷ []) item.values
 
 -- a link whose reading failed has none
 abbrev pub item_sent : ℕ → Sent → List Item

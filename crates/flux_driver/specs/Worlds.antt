@@ -5,6 +5,7 @@ use Rattle.flux_outside.specs.Streams.{Stream}
 use Rattle.flux_outside.specs.declared.memory.FileBytes.{FileBytes}
 use Rattle.flux_outside.specs.declared.stores.File.{File}
 use Rattle.flux_outside.specs.declared.stores.File.TheVariants.{Missing, Longer}
+use Rattle.flux_driver.specs.declared.outermost.World.{World}
 
 -- the contents of files by their names, where they are told
 abbrev pub Files : Type 0
@@ -31,6 +32,19 @@ pub record Seen : Type 0 where
   pub folder : Giver
   pub out : Stream
   pub err : Stream
+
+-- what is seen of a world, by what its parts tell: the store's files, the names that it was asked for and its failures;
+-- the same of the folder; and what was written on each stream, with its failures
+abbrev pub seen_by : {S F O E : Type 0} → (S → Files) → (S → List (List ℕ)) → (S → ℕ)
+    → (F → Folders) → (F → List (List ℕ)) → (F → ℕ) → (O → Option (List ℕ)) → (O → ℕ)
+    → (E → Option (List ℕ)) → (E → ℕ) → World S F O E → Seen
+seen_by files asked faults folders asked_folder folder_faults out out_faults err err_faults world = record {
+  told = record { files = files world.store; folders = folders world.folder };
+  store = record { asked = asked world.store; faults = faults world.store };
+  folder = record { asked = asked_folder world.folder; faults = folder_faults world.folder };
+  out = record { written = out world.out; faults = out_faults world.out };
+  err = record { written = err world.err; faults = err_faults world.err };
+}
 
 -- ---- files
 

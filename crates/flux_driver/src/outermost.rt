@@ -3,7 +3,7 @@
 ghost use Rattle.std.specs.Prelude.{◌≡◌, IfOk, IsErr};
 ghost use Rattle.flux_words.specs.Commands.{Command, Spells, NeedsThreads};
 ghost use Rattle.flux_driver.specs.BuiltIn.{built_in};
-ghost use Rattle.flux_driver.specs.Worlds.{Seen};
+ghost use Rattle.flux_driver.specs.Worlds.{Seen, seen_by};
 ghost use Rattle.flux_driver.specs.Top.{HasDone};
 
 use crate::asking::prepare_words;
@@ -38,28 +38,9 @@ pub fn top_alone<S: Store, F: Folder, O: Sink, E: Sink, G: Gate>(
     gate: &G,
 ) -> Status
     requires { (command : Command) → Spells words.now command → NeedsThreads command → ⊥ }
-    ensures { HasDone built_in words.now
-        (record {
-          told = record {
-            files = S.files world.old.store;
-            folders = F.folders world.old.folder;
-          };
-          store = record { asked = S.asked world.old.store; faults = S.faults world.old.store };
-          folder = record { asked = F.asked world.old.folder; faults = F.faults world.old.folder };
-          out = record { written = O.written world.old.out; faults = O.faults world.old.out };
-          err = record { written = E.written world.old.err; faults = E.faults world.old.err };
-        })
-        result
-        (record {
-          told = record {
-            files = S.files world.new.store;
-            folders = F.folders world.new.folder;
-          };
-          store = record { asked = S.asked world.new.store; faults = S.faults world.new.store };
-          folder = record { asked = F.asked world.new.folder; faults = F.faults world.new.folder };
-          out = record { written = O.written world.new.out; faults = O.faults world.new.out };
-          err = record { written = E.written world.new.err; faults = E.faults world.new.err };
-        }) }
+    ensures { let seen = seen_by S.files S.asked S.faults F.folders F.asked F.faults O.written O.faults
+        E.written E.faults in
+        HasDone built_in words.now (seen world.old) result (seen world.new) }
 {
     match prepare_words(alloc, &mut world.store, &mut world.folder, gate, words) {
         Ok(text) => print(&mut world.out, &mut world.err, text.as_bytes()),
@@ -82,28 +63,9 @@ pub fn top<S: Store, F: Folder, O: Sink, E: Sink, G: Gate, Rt: Threads + Wait + 
     world: &mut World<S, F, O, E>,
     gate: &G,
 ) -> Status
-    ensures { HasDone built_in words.now
-        (record {
-          told = record {
-            files = S.files world.old.store;
-            folders = F.folders world.old.folder;
-          };
-          store = record { asked = S.asked world.old.store; faults = S.faults world.old.store };
-          folder = record { asked = F.asked world.old.folder; faults = F.faults world.old.folder };
-          out = record { written = O.written world.old.out; faults = O.faults world.old.out };
-          err = record { written = E.written world.old.err; faults = E.faults world.old.err };
-        })
-        result
-        (record {
-          told = record {
-            files = S.files world.new.store;
-            folders = F.folders world.new.folder;
-          };
-          store = record { asked = S.asked world.new.store; faults = S.faults world.new.store };
-          folder = record { asked = F.asked world.new.folder; faults = F.faults world.new.folder };
-          out = record { written = O.written world.new.out; faults = O.faults world.new.out };
-          err = record { written = E.written world.new.err; faults = E.faults world.new.err };
-        }) }
+    ensures { let seen = seen_by S.files S.asked S.faults F.folders F.asked F.faults O.written O.faults
+        E.written E.faults in
+        HasDone built_in words.now (seen world.old) result (seen world.new) }
 {
     // No runtime that starts threads can be asked for yet.
     let _ = rt;
@@ -131,18 +93,10 @@ pub fn answer<
 ) -> Status
     ensures words { IsErr words → result ≡ Status.Memory }
     ensures world { IsErr world → result ≡ Status.Memory }
-    ensures done { IfOk words (λ given. IfOk world (λ before. (after : Seen) × HasDone built_in given
-        (record {
-          told = record {
-            files = S.files before.store;
-            folders = F.folders before.folder;
-          };
-          store = record { asked = S.asked before.store; faults = S.faults before.store };
-          folder = record { asked = F.asked before.folder; faults = F.faults before.folder };
-          out = record { written = O.written before.out; faults = O.faults before.out };
-          err = record { written = E.written before.err; faults = E.faults before.err };
-        })
-        result after)) }
+    ensures done { let seen = seen_by S.files S.asked S.faults F.folders F.asked F.faults O.written O.faults
+        E.written E.faults in
+        IfOk words (λ given. IfOk world (λ before. (after : Seen)
+        × HasDone built_in given (seen before) result after)) }
 {
     let Ok(words) = words else {
         return Status::Memory;

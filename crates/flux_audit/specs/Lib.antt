@@ -1,0 +1,5 @@
+pub mod Rules
+pub mod Verdicts
+pub mod Printed
+pub mod Laws
+pub mod steps

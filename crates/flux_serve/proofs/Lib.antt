@@ -1,0 +1,3 @@
+mod Unwritten
+mod Driven
+mod OneByOne

@@ -1,0 +1,32 @@
+-- Links that were read, and not written.
+use Rattle.std.proofs.Common.{◌≡◌, ℕ, ◌+◌, ◌≤◌, List, [], ◌∷◌, ◌++◌, length, length-append, map, refl, sym, subst, arith}
+use Rattle.flux_batches.specs.declared.framing.Framing.{Framing}
+use Rattle.flux_batches.specs.declared.reading.Sent.{Sent}
+use Rattle.flux_batches.specs.declared.reading.Sent.TheVariants.{Text, Failed, Memory}
+use Rattle.flux_batches.specs.declared.reading.Held.{Held}
+use Rattle.flux_batches.specs.Links.{Seen, IsSent, AreHeld, item_sent, items_from}
+use Rattle.flux_serve.specs.Ends.{AreUnwritten}
+
+pub unwritten_same : {L : Type 0} → (see : L → Seen) (links : List L) → AreUnwritten see links links
+unwritten_same see [] = tt
+unwritten_same see (link ∷ links) = (refl, unwritten_same see links)
+
+sent_unwritten : (framing : Framing) (before after : Seen) (sent : Sent) → IsSent framing before after sent → after.written ≡ before.written
+sent_unwritten framing before after (Text text) is = is.2
+sent_unwritten framing before after Failed is = is.1
+sent_unwritten framing before after Memory is = is
+
+pub unwritten_held : {L : Type 0} → (see : L → Seen) (framing : Framing) (links : List L) (helds : List (Held L)) → AreHeld see framing links helds [] → AreUnwritten see links (map (λ held. held.link) helds)
+unwritten_held {L} see framing links [] is = let P : List L → Type 0 = λ l. AreUnwritten see l [] in subst P (sym is) tt
+unwritten_held see framing [] (held ∷ helds) is = absurd is
+unwritten_held see framing (link ∷ links) (held ∷ helds) is = (sent_unwritten framing (see link) (see held.link) held.sent is.0, unwritten_held see framing links helds is.1)
+
+few_sent : (number : ℕ) (sent : Sent) → length (item_sent number sent) ≤ 1
+few_sent number (Text text) = omega arith
+few_sent number Failed = omega arith
+few_sent number Memory = omega arith
+
+-- there are no more items than links
+pub few_items : {K : Type 0} → (number : ℕ) (helds : List (Held K)) → length (items_from number helds) ≤ length helds
+few_items number [] = omega arith
+few_items number (held ∷ helds) = omega (arith, length-append (item_sent number held.sent) (items_from (number + 1) helds), few_sent number held.sent, few_items (number + 1) helds)

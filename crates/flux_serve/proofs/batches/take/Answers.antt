@@ -1,0 +1,34 @@
+use Rattle.std.proofs.Common.{ℕ, [], List, Option, refl, sym, ◌∙◌, subst, inl, inr}
+use Rattle.flux_batches.specs.Links.{Seen}
+use Rattle.flux_batches.specs.Replies.{TakesBack}
+use Rattle.flux_batches.specs.Gathered.{AreGathered}
+use Rattle.flux_batches.proofs.Giving.{back_none}
+use Rattle.flux_serve.proofs.Unwritten.{unwritten_same}
+use Rattle.flux_serve.proofs.batches.take.Goals as goal
+
+pub returns-in-Err-Memory-clause-none : goal.returns-in-Err-Memory-clause-none
+returns-in-Err-Memory-clause-none g c log = record {
+  came = [];
+  backs = [];
+  formed = inr refl;
+  back = c.gather.ensures.back ∙ back_none (g.D.Door.taken_back c.args.door.now);
+  unwritten = tt;
+  log_ = refl;
+}
+
+pub returns-in-Err-clause-none : goal.returns-in-Err-clause-none
+returns-in-Err-clause-none g c log =
+    let see : g.row.D-Link.Denot → Seen = λ link. record { left = g.D.Link.Link.left link; written = g.D.Link.Link.written link; faults = g.D.Link.Link.faults link } in
+    let P : Option (List g.row.D-Link.Denot) → Type 0 = λ b. TakesBack b (g.D.Door.taken_back c.give_back.new.door) c.in-Err.links.items in
+    let came = c.in-Err.links.items in
+    let G : List g.row.D-Link.Denot → Type 0 = λ l. AreGathered (g.D.Door.to_come c.args.door.now) (g.D.Door.to_come c.gather.new.door) (g.D.Door.late c.args.door.now) (g.D.Door.late c.gather.new.door) l in
+    let C : Option (List (List g.row.D-Link.Denot)) → Type 0 = λ t. AreGathered (g.D.Door.to_come c.args.door.now) t (g.D.Door.late c.args.door.now) (g.D.Door.late c.gather.new.door) came in
+    let N : ℕ → Type 0 = λ n. AreGathered (g.D.Door.to_come c.args.door.now) (g.D.Door.to_come c.give_back.new.door) (g.D.Door.late c.args.door.now) n came in
+    record {
+      came = c.in-Err.links.items;
+      backs = c.in-Err.links.items;
+      formed = inl (subst N (sym c.give_back.ensures.counts.1) (subst C (sym c.give_back.ensures.kept) (subst G (sym c.in-Err.ensures.unread.0) c.in-Ok.ensures.links)));
+      back = subst P c.gather.ensures.back c.give_back.ensures.back;
+      unwritten = unwritten_same see c.in-Err.links.items;
+      log_ = refl;
+    }

@@ -1,0 +1,27 @@
+use Rattle.std.proofs.Common.{◌≡◌, ◌*◌, ◌≤◌}
+use Rattle.std.specs.Arc.{arc_value}
+use Rattle.flux_cells.specs.Kept.{cells_of}
+use Rattle.flux_serve.proofs.OneByOne.{SoFar}
+use Rattle.flux_serve.proofs.serving.serve.Given as goal
+
+-- the batches so far were served
+abbrev pub invariant-batches : goal.invariant-batches
+invariant-batches g l =
+    SoFar (λ link. record { left = g.D.Link.Link.left link; written = g.D.Link.Link.written link; faults = g.D.Link.Link.faults link })
+    (record { program = arc_value l.served.program; framing = l.served.framing; meaning = g.L.Meaning.meaning (arc_value l.served.library) })
+    (record {
+      to_come = g.D.Door.to_come l.fn.door;
+      taken_back = g.D.Door.taken_back l.fn.door;
+      faults = g.D.Door.faults l.fn.door;
+      late = g.D.Door.late l.fn.door;
+      log = record { written = g.O.Sink.written l.fn.log; faults = g.O.Sink.faults l.fn.log };
+    })
+    (record {
+      to_come = g.D.Door.to_come l.door;
+      taken_back = g.D.Door.taken_back l.door;
+      faults = g.D.Door.faults l.door;
+      late = g.D.Door.late l.door;
+      log = record { written = g.O.Sink.written l.log; faults = g.O.Sink.faults l.log };
+    })
+    l.count l.number (cells_of l.opening)
+    × g.R.Runtime.ready l.runtime × (g.D.Door.out l.door ≡ 0) × (l.number ≤ 64 * l.count)

@@ -1,0 +1,4 @@
+pub mod Served
+pub mod Batches
+pub mod Ends
+pub mod steps

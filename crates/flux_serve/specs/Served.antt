@@ -1,0 +1,37 @@
+-- Programs that can be served.
+use Rattle.std.specs.Prelude.{◌≡◌, ℕ, List, [], ◌∷◌, Some}
+use Rattle.std.specs.List.{slice_get}
+use Rattle.flux_values.specs.Meanings.{LibraryMeaning}
+use Rattle.flux_values.specs.declared.values.Kind.TheVariants.{Int, Text}
+use Rattle.flux_values.specs.declared.meanings.Sig.{Sig}
+use Rattle.flux_values.specs.declared.meanings.Role.{Role}
+use Rattle.flux_values.specs.declared.meanings.Role.TheVariants.{HeadSource, LineSource}
+use Rattle.flux_model.specs.declared.programs.Program.{Program}
+use Rattle.flux_model.specs.declared.programs.SourceLine.{SourceLine}
+use Rattle.flux_model.specs.Kinds.{NodeKinds}
+use Rattle.flux_model.specs.Soundness.{IsSound}
+use Rattle.flux_plan.specs.declared.plans.Plan.{Plan}
+use Rattle.flux_plan.specs.Runs.{ArePlansOf}
+use Rattle.flow_state.specs.Calls.{library_name}
+use Rattle.flux_batches.specs.declared.framing.Framing.{Framing}
+use Rattle.flux_batches.specs.declared.framing.Framing.TheVariants.{Head, Line}
+
+-- the role of a source whose links are read so
+abbrev pub role_of : Framing → Role
+role_of Head = HeadSource
+role_of Line = LineSource
+
+-- a sound program with its plans and exactly one source, which gives a number and a text, and has the role by which
+-- links are read
+pub record CanServe (meaning : LibraryMeaning) (p : Program) (plans : List Plan) (framing : Framing) : Type 0 where
+  pub kinds : ℕ → NodeKinds
+  pub sound : IsSound meaning p kinds
+  pub plans_ : ArePlansOf p plans
+  pub line : SourceLine
+  pub one : p.sources ≡ line ∷ []
+  pub outs : let own = kinds line.node.0 in own.outs ≡ Int ∷ Text ∷ []
+  pub name : List ℕ
+  pub sig : Sig
+  pub named : library_name p line.node ≡ Some name
+  pub known : meaning.node name ≡ Some sig
+  pub role : sig.role ≡ role_of framing

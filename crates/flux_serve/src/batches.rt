@@ -1,0 +1,242 @@
+//! One batch: taken, driven, answered and logged.
+
+ghost use Rattle.std.specs.Prelude.{◌≡◌, ◌+◌, ◌^◌, ◌<◌, ◌≤◌, Err, length, IfOk, IfErr, OnOk, OnErr};
+ghost use Rattle.std.specs.Arc.{arc_value};
+ghost use Rattle.std.specs.VecDeque.{deque_len};
+ghost use Rattle.flow_model.specs.CellsAfter.{cells_after};
+ghost use Rattle.flow_model.specs.Legal.{IsLegal, IsWhole};
+ghost use Rattle.flux_cells.specs.Kept.{cells_of};
+ghost use Rattle.flux_outside.specs.Streams.{Stream, Wrote, Broke};
+ghost use Rattle.flux_journal.specs.Logs.{printed_batch};
+ghost use Rattle.flux_batches.specs.Links.{AreRead, items_from};
+ghost use Rattle.flux_serve.specs.Served.{CanServe};
+ghost use Rattle.flux_serve.specs.Batches.{Service, batch_setup};
+ghost use Rattle.flux_serve.specs.steps.Batches.{IsTaken, IsNone, HasFinished, HasPassed};
+ghost use Rattle.flux_serve.specs.Ends.{HasStopped};
+
+use crate::runs::{Served, run};
+use flow_core::{Gate, Runtime};
+use flow_model::Journal;
+use flux_batches::{
+    Framing, Held, NoBatch, answer_links, gather, give_back, give_back_held, items_of, read_links,
+};
+use flux_cells::Cells;
+use flux_doors::Door;
+use flux_journal::print_batch;
+use flux_library::Library;
+use flux_model::{Item, Program};
+use flux_outside::{Sink, write_all};
+use flux_values::{List, Memory};
+use std::alloc::Global;
+use std::collections::VecDeque;
+use std::marker::Sync;
+use std::sync::Wait;
+use std::thread::Threads;
+
+/// How serving ended.
+#[derive(Clone, Copy, Debug, PartialEq, Eq)]
+pub enum ServeEnd {
+    /// The door is closed.
+    Closed,
+    /// As many batches were served as were wanted.
+    Counted,
+    /// The door failed.
+    Door,
+    /// The log failed.
+    Log,
+    Memory,
+}
+
+/// What a batch came to: its items, its journal, and the cells at its end.
+#[derive(Drop)]
+struct Run {
+    items: List<Item>,
+    journal: Journal,
+    cells: Cells,
+}
+
+/// Takes the links of the next batch, and reads them.
+fn take<D: Door>(
+    alloc: Global,
+    door: &mut D,
+    framing: Framing,
+) -> Result<VecDeque<Held<D::Link>>, ServeEnd>
+    requires { D.out door.old ≡ 0 }
+    ensures taken { IfOk result (λ held. IsTaken
+        (λ link. record { left = D.Link.left link; written = D.Link.written link; faults = D.Link.faults link })
+        framing (D.to_come door.old) (D.to_come door.new) (D.late door.old) (D.late door.new) held.items) }
+    ensures out { IfOk result (λ held. (D.out door.new ≡ deque_len held) × (deque_len held ≤ 64)) }
+    ensures back { OnOk result (D.taken_back door.new ≡ D.taken_back door.old) }
+    ensures steady { OnOk result (D.faults door.new ≡ D.faults door.old) }
+    ensures none_out { OnErr result (D.out door.new ≡ 0) }
+    ensures none { (log : Stream) → IfErr result (λ end. IsNone
+        (λ link. record { left = D.Link.left link; written = D.Link.written link; faults = D.Link.faults link })
+        (record {
+          to_come = D.to_come door.old;
+          taken_back = D.taken_back door.old;
+          faults = D.faults door.old;
+          late = D.late door.old;
+          log = log;
+        })
+        (record {
+          to_come = D.to_come door.new;
+          taken_back = D.taken_back door.new;
+          faults = D.faults door.new;
+          late = D.late door.new;
+          log = log;
+        }) end) }
+{
+    let links = match gather(alloc, door) {
+        Ok(links) => links,
+        Err(NoBatch::Closed) => return Err(ServeEnd::Closed),
+        Err(NoBatch::Door) => return Err(ServeEnd::Door),
+        Err(NoBatch::Memory) => return Err(ServeEnd::Memory),
+    };
+    match read_links(alloc, links, framing) {
+        Ok(held) => Ok(held),
+        Err(links) => {
+            give_back(door, links);
+            Err(ServeEnd::Memory)
+        }
+    }
+}
+
+/// Drives the items of links from the cells that the batch before left.
+fn run_links<K, L: Library, R: Runtime, G: Gate, Rt: Threads + Wait + Sync>(
+    alloc: Global,
+    rt: &Rt,
+    served: &Served<L>,
+    runtime: &mut R,
+    gate: &G,
+    links: &VecDeque<Held<K>>,
+    number: u64,
+    opening: Cells,
+) -> Result<Run, Memory>
+    requires can { CanServe (L.meaning (arc_value served.now.library)) (arc_value served.now.program)
+        (arc_value served.now.plans) served.now.framing }
+    requires ready { R.ready runtime.old }
+    requires few { deque_len links.now ≤ 64 }
+    requires numbers { number + 64 < 2 ^ 63 }
+    ensures again { R.ready runtime.new }
+    ensures items { IfOk result (λ run. run.items ≡ items_from number links.now.items) }
+    ensures read { OnOk result (AreRead links.now.items) }
+    ensures legal { let service : Service = (record { program = arc_value served.now.program; framing = served.now.framing; meaning = L.meaning (arc_value served.now.library) }) in
+        IfOk result (λ run. let journal = run.journal in IsLegal (batch_setup service (cells_of opening) run.items) journal.entries) }
+    ensures whole { let service : Service = (record { program = arc_value served.now.program; framing = served.now.framing; meaning = L.meaning (arc_value served.now.library) }) in
+        IfOk result (λ run. let journal = run.journal in IsWhole (batch_setup service (cells_of opening) run.items) journal.entries) }
+    ensures cells { let service : Service = (record { program = arc_value served.now.program; framing = served.now.framing; meaning = L.meaning (arc_value served.now.library) }) in
+        IfOk result (λ run. let journal = run.journal in cells_of run.cells ≡ cells_after (batch_setup service (cells_of opening) run.items) journal.entries) }
+{
+    let items = items_of(alloc, links, number)?;
+    let kept = items_of(alloc, links, number)?;
+    let (journal, cells) = run(alloc, rt, served, runtime, gate, items, opening)?;
+    Ok(Run {
+        items: kept,
+        journal,
+        cells,
+    })
+}
+
+/// Writes the text of a batch.
+fn write_batch<O: Sink>(
+    alloc: Global,
+    program: &Program,
+    log: &mut O,
+    count: u32,
+    run: &Run,
+) -> Result<(), ServeEnd>
+    ensures wrote { OnOk result (Wrote
+        (record { written = O.written log.old; faults = O.faults log.old })
+        (record { written = O.written log.new; faults = O.faults log.new })
+        (printed_batch program.now count run.now.items run.now.journal)) }
+    ensures ends { IfErr result (λ end. HasFinished end
+        (record { written = O.written log.old; faults = O.faults log.old })
+        (record { written = O.written log.new; faults = O.faults log.new })
+        (printed_batch program.now count run.now.items run.now.journal)) }
+{
+    match print_batch(alloc, program, count, run.items.as_slice(), &run.journal) {
+        Ok(text) => match write_all(log, text.as_bytes()) {
+            Ok(()) => Ok(()),
+            Err(_) => Err(ServeEnd::Log),
+        },
+        Err(_) => Err(ServeEnd::Memory),
+    }
+}
+
+/// Serves the next batch: gives the cells at its end, and the number of the link behind its links.
+pub fn serve_batch<L: Library, D: Door, O: Sink, R: Runtime, G: Gate, Rt: Threads + Wait + Sync>(
+    alloc: Global,
+    rt: &Rt,
+    served: &Served<L>,
+    door: &mut D,
+    log: &mut O,
+    runtime: &mut R,
+    gate: &G,
+    opening: Cells,
+    count: u32,
+    number: u64,
+) -> Result<(Cells, u64), ServeEnd>
+    requires can { CanServe (L.meaning (arc_value served.now.library)) (arc_value served.now.program)
+        (arc_value served.now.plans) served.now.framing }
+    requires ready { R.ready runtime.old }
+    requires out { D.out door.old ≡ 0 }
+    requires numbers { number + 64 < 2 ^ 63 }
+    ensures again { R.ready runtime.new }
+    ensures out { D.out door.new ≡ 0 }
+    ensures bound { IfOk result (λ next. next.1 ≤ number + 64) }
+    ensures passed { let service : Service = (record { program = arc_value served.now.program; framing = served.now.framing; meaning = L.meaning (arc_value served.now.library) }) in
+        IfOk result (λ next. HasPassed
+        (λ link. record { left = D.Link.left link; written = D.Link.written link; faults = D.Link.faults link })
+        service (cells_of opening) count number
+        (record {
+          to_come = D.to_come door.old;
+          taken_back = D.taken_back door.old;
+          faults = D.faults door.old;
+          late = D.late door.old;
+          log = record { written = O.written log.old; faults = O.faults log.old };
+        })
+        (record {
+          to_come = D.to_come door.new;
+          taken_back = D.taken_back door.new;
+          faults = D.faults door.new;
+          late = D.late door.new;
+          log = record { written = O.written log.new; faults = O.faults log.new };
+        })
+        (cells_of next.0) next.1) }
+    ensures stopped { let service : Service = (record { program = arc_value served.now.program; framing = served.now.framing; meaning = L.meaning (arc_value served.now.library) }) in
+        IfErr result (HasStopped
+        (λ link. record { left = D.Link.left link; written = D.Link.written link; faults = D.Link.faults link })
+        service (cells_of opening) count number
+        (record {
+          to_come = D.to_come door.old;
+          taken_back = D.taken_back door.old;
+          faults = D.faults door.old;
+          late = D.late door.old;
+          log = record { written = O.written log.old; faults = O.faults log.old };
+        })
+        (record {
+          to_come = D.to_come door.new;
+          taken_back = D.taken_back door.new;
+          faults = D.faults door.new;
+          late = D.late door.new;
+          log = record { written = O.written log.new; faults = O.faults log.new };
+        })) }
+{
+    let links = match take(alloc, door, served.framing) {
+        Ok(links) => links,
+        Err(end) => return Err(end),
+    };
+    let run = match run_links(alloc, rt, served, runtime, gate, &links, number, opening) {
+        Ok(run) => run,
+        Err(_) => {
+            give_back_held(door, links);
+            return Err(ServeEnd::Memory);
+        }
+    };
+    let next = number + links.len() as u64;
+    answer_links(door, links, run.journal.entries.as_slice());
+    match write_batch(alloc, &served.program, log, count, &run) {
+        Ok(()) => Ok((run.cells, next)),
+        Err(end) => Err(end),
+    }
+}

@@ -1,0 +1,73 @@
+//! Batch after batch.
+
+ghost use Rattle.std.specs.Prelude.{◌≡◌};
+ghost use Rattle.std.specs.Arc.{arc_value};
+ghost use Rattle.flux_serve.specs.Served.{CanServe};
+ghost use Rattle.flux_serve.specs.Batches.{Service};
+ghost use Rattle.flux_serve.specs.Ends.{HasServed};
+
+use crate::batches::{ServeEnd, serve_batch};
+use crate::runs::Served;
+use flow_core::{Gate, Runtime};
+use flux_cells::Cells;
+use flux_doors::Door;
+use flux_library::Library;
+use flux_outside::Sink;
+use std::alloc::Global;
+use std::marker::Sync;
+use std::sync::Wait;
+use std::thread::Threads;
+
+/// Serves so many batches of a door's links, until the door is closed or something fails. Each batch is driven from the cells
+/// that the one before left, answered, and then written on the log.
+pub fn serve<L: Library, D: Door, O: Sink, R: Runtime, G: Gate, Rt: Threads + Wait + Sync>(
+    alloc: Global,
+    rt: &Rt,
+    served: &Served<L>,
+    door: &mut D,
+    log: &mut O,
+    runtime: &mut R,
+    gate: &G,
+    batches: u32,
+) -> ServeEnd
+    requires can { CanServe (L.meaning (arc_value served.now.library)) (arc_value served.now.program)
+        (arc_value served.now.plans) served.now.framing }
+    requires ready { R.ready runtime.old }
+    requires out { D.out door.old ≡ 0 }
+    ensures again { R.ready runtime.new }
+    // Each accepted link has gone back to the door.
+    ensures out { D.out door.new ≡ 0 }
+    ensures served { let service : Service = (record { program = arc_value served.now.program; framing = served.now.framing; meaning = L.meaning (arc_value served.now.library) }) in
+        HasServed
+        (λ link. record { left = D.Link.left link; written = D.Link.written link; faults = D.Link.faults link })
+        service batches
+        (record {
+          to_come = D.to_come door.old;
+          taken_back = D.taken_back door.old;
+          faults = D.faults door.old;
+          late = D.late door.old;
+          log = record { written = O.written log.old; faults = O.faults log.old };
+        })
+        (record {
+          to_come = D.to_come door.new;
+          taken_back = D.taken_back door.new;
+          faults = D.faults door.new;
+          late = D.late door.new;
+          log = record { written = O.written log.new; faults = O.faults log.new };
+        }) result }
+{
+    let mut opening = Cells::new(alloc);
+    let mut number = 0u64;
+    'batches: for count in 0..batches {
+        match serve_batch(
+            alloc, rt, served, door, log, runtime, gate, opening, count, number,
+        ) {
+            Ok((cells, next)) => {
+                opening = cells;
+                number = next;
+            }
+            Err(end) => return end,
+        }
+    }
+    ServeEnd::Counted
+}
