@@ -1,8 +1,8 @@
 -- A core and a seat may cross threads.
 use denote.RattleType.{RattleType}
-use denote.Param.Send.{IsSend, IsSync, sendable, view_send}
-use denote.Param.SendFields.{declared_send}
-use Rattle.std.proofs.Crossing.{send as heap_send, crosses}
+use denote.Param.Send.{IsSend, IsSync, sendable, view_send, view_sync}
+use denote.Param.SendFields.{declared_send, declared_sync}
+use Rattle.std.proofs.Crossing.{send as heap_send, sync as heap_sync, crosses, frees}
 use Rattle.flux_values.specs.declared.meanings.Meaning as meaning
 use Rattle.flow_model.proofs.journals.Journal.TheSendSync.{the_send as journal_send}
 use Rattle.flux_table.proofs.tables.Table.TheSendSync.{the_send as locks_send}
@@ -19,6 +19,11 @@ use Rattle.flow_core.specs.contracts.cores.Core.TheInside as core_fields
 use Rattle.flow_core.specs.contracts.fields.Fields as inner
 use Rattle.flux_library.specs.declared.libraries.Library as library
 use Rattle.flow_hall.specs.contracts.seats.HallSeat as seats
+use Rattle.std.specs.contracts.option.Option as option
+use Rattle.flow_hall.specs.contracts.halls.Hall as halls
+use Rattle.flow_hall.specs.contracts.halls.Hall.TheInside as hall_fields
+use Rattle.atomic_table.proofs.shared.Shared.TheSendSync.{the_sync as shared_sync}
+use Rattle.atomic_table.proofs.send_lease.SendLease.TheSendSync.{the_sync as lease_sync}
 use Rattle.atomic_table.proofs.shared.Seat.TheSendSync.{the_send as table_send}
 
 pub made_send : IsSend made.the_row
@@ -66,3 +71,13 @@ module _ (L : RattleType) (m : meaning.Ghosts L.Denot) where
 pub seat_send : (L : RattleType) (l : library.Ghosts L.Denot) (m : meaning.Ghosts L.Denot) → IsSend L → IsSync L
     → IsSend (seats.the_row L l m)
 seat_send L l m send sync = search (core_send, table_send, sendable) depth 80
+
+pub hall_sync : (L : RattleType) (l : library.Ghosts L.Denot) (m : meaning.Ghosts L.Denot) → IsSend L → IsSync L
+    → IsSync (halls.the_row L l m)
+hall_sync L l m send sync = by (search (core_send, sendable) depth 40)
+  where
+    by : IsSend (option.the_row (core.the_row L m)) → IsSync (halls.the_row L l m)
+    by slot = view_sync (hall_fields.the_row L l m) _ _ _ _ (declared_sync (hall_fields.the_type L l m) (
+      search (shared_sync, lease_sync, heap_sync, heap_send, crosses, sendable) depth 80 fits 100000,
+      tt,
+    ))

@@ -1,7 +1,11 @@
 use denote.Param.Send.{sendable}
-use Rattle.flow_workers.proofs.Crossing.{seat_send}
+use Rattle.std.proofs.Crossing.{send as heap_send, sync as heap_sync, crosses}
+use Rattle.flow_workers.proofs.Crossing.{seat_send, hall_sync}
 use Rattle.rt_pool.proofs.Crossing.{pass_send}
 use Rattle.rt_pool.proofs.workers.shift.Goals as goal
 
 pub map_vec-ended-requires-send-J : goal.map_vec-ended-requires-send-J
 map_vec-ended-requires-send-J g c κs within = search (seat_send, pass_send, sendable) depth 40
+
+pub map_vec-ended-requires-sync-F : goal.map_vec-ended-requires-sync-F
+map_vec-ended-requires-sync-F g c κs within = search (hall_sync, heap_sync, heap_send, crosses, sendable) depth 60
