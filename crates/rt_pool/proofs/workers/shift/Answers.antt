@@ -1,5 +1,6 @@
 use denote.Param.Send.{sendable}
-use Rattle.std.proofs.Crossing.{send as heap_send, sync as heap_sync, crosses}
+use Rattle.std.proofs.Crossing.{sync as heap_sync}
+use Rattle.flow_queue.proofs.queues.FlowQueue.TheSendSync.{the_sync as queue_sync}
 use Rattle.flow_workers.proofs.Crossing.{seat_send, hall_sync}
 use Rattle.rt_pool.proofs.Crossing.{pass_send}
 use Rattle.rt_pool.proofs.workers.shift.Goals as goal
@@ -8,4 +9,4 @@ pub map_vec-ended-requires-send-J : goal.map_vec-ended-requires-send-J
 map_vec-ended-requires-send-J g c κs within = search (seat_send, pass_send, sendable) depth 40
 
 pub map_vec-ended-requires-sync-F : goal.map_vec-ended-requires-sync-F
-map_vec-ended-requires-sync-F g c κs within = search (hall_sync, heap_sync, heap_send, crosses, sendable) depth 60
+map_vec-ended-requires-sync-F g c κs within = search (hall_sync, queue_sync, heap_sync, sendable) depth 60
