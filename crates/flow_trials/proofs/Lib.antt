@@ -1,3 +1,1 @@
 mod Items
-mod Recalled
-mod Lines
