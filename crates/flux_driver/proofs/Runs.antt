@@ -13,7 +13,8 @@ use Rattle.flux_items.specs.declared.rules.ItemRules.{ItemRules}
 use Rattle.flux_items.specs.declared.rules.ItemFault.{ItemFault}
 use Rattle.flux_items.specs.declared.rules.ItemFault.TheVariants as items_
 use Rattle.flux_items.specs.Items.{AreItemsOf}
-use Rattle.flux_items.specs.Faults.{IsFaultOf, IsOrMemory}
+use Rattle.flux_values.specs.Answers.{IsOrMemory}
+use Rattle.flux_items.specs.Faults.{IsFaultOf}
 use Rattle.flux_laws.specs.Hoisted.{locks_of}
 use Rattle.flux_words.specs.declared.values.Runtime.{Runtime}
 use Rattle.flux_driver.specs.declared.running.Wanted.{Wanted}
@@ -64,6 +65,6 @@ pub cause_refused : {X : Type 0} (rules : ItemRules) (text : List ℕ) (fault : 
 cause_refused rules text fault result is cause = passed (AreRefused rules text) (of_items fault) result is (of_items_refused rules text fault cause)
 
 -- items that were read have no fault
-pub fault_kept : (fault : ItemFault) (items : List Item) → IsOrMemory (Err fault) (Ok items) → ⊥
+pub fault_kept : (fault : ItemFault) (items : List Item) → IsOrMemory items_.Memory (Err fault) (Ok items) → ⊥
 fault_kept fault items (inl e) = absurd cc
 fault_kept fault items (inr e) = absurd cc

@@ -17,7 +17,8 @@ use Rattle.flux_items.specs.Lines.{lines_of, IsPassedOver}
 use Rattle.flux_items.specs.Spelled.{SpellsItem}
 use Rattle.flux_items.specs.Rules.{IsNamed, GivesKinds, AreRules, AreWithin, total_size}
 use Rattle.flux_items.specs.Items.{IsItemLine, Gives, GiveEach, GiveItems, AreItemsOf}
-use Rattle.flux_items.specs.Faults.{IsBadItem, HasUnknownSource, HasOtherTypes, IsTooMuch, HasFault, line_of, IsFaultOf, HasCause, IsOrMemory}
+use Rattle.flux_values.specs.Answers.{IsOrMemory}
+use Rattle.flux_items.specs.Faults.{IsBadItem, HasUnknownSource, HasOtherTypes, IsTooMuch, HasFault, line_of, IsFaultOf, HasCause}
 use Rattle.flux_items.specs.steps.Fronts.{past_blanks, Ends}
 use Rattle.flux_items.specs.steps.Values.{IsValueThen, Follow, Close}
 use Rattle.flux_items.proofs.Laid.{begins_first}
@@ -266,12 +267,12 @@ abbrev Answer : Type 0
 Answer = Result (List Item) ItemFault
 
 -- each cause has its answer
-pub answers_items : (rules : ItemRules) → AreRules rules → (text : List ℕ) (r : Answer) → HasCause rules text r → (items : List Item) → AreItemsOf rules items text → IsOrMemory (Ok items) r
+pub answers_items : (rules : ItemRules) → AreRules rules → (text : List ℕ) (r : Answer) → HasCause rules text r → (items : List Item) → AreItemsOf rules items text → IsOrMemory faults.Memory (Ok items) r
 answers_items rules are text (Ok own) cause items all = inl (ap Ok (items_once rules are (lines_of text) own items cause.give all.give))
 answers_items rules are text (Err e) (inl memory) items all = inr (ap Err memory)
 answers_items rules are text (Err e) (inr fault) items all = absurd (no_items_and_fault rules are text items e all fault)
 
-pub answers_fault : (rules : ItemRules) → AreRules rules → (text : List ℕ) (r : Answer) → HasCause rules text r → (fault : ItemFault) → IsFaultOf rules fault text → IsOrMemory (Err fault) r
+pub answers_fault : (rules : ItemRules) → AreRules rules → (text : List ℕ) (r : Answer) → HasCause rules text r → (fault : ItemFault) → IsFaultOf rules fault text → IsOrMemory faults.Memory (Err fault) r
 answers_fault rules are text (Ok own) cause fault is = absurd (no_items_and_fault rules are text own fault cause is)
 answers_fault rules are text (Err e) (inl memory) fault is = inr (ap Err memory)
 answers_fault rules are text (Err e) (inr own) fault is = inl (ap Err (one_fault rules are text e fault own is))

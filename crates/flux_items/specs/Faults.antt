@@ -77,8 +77,3 @@ pub record IsFaultOf (rules : ItemRules) (fault : ItemFault) (text : List ℕ) :
 abbrev pub HasCause : ItemRules → List ℕ → Result (List Item) ItemFault → Type 0
 HasCause rules text (Ok items) = AreItemsOf rules items text
 HasCause rules text (Err fault) = (fault ≡ faults.Memory) ⊎ IsFaultOf rules fault text
-
--- this is the answer, or memory was short
-abbrev pub IsOrMemory :
-    Result (List Item) ItemFault → Result (List Item) ItemFault → Type 0
-IsOrMemory answer result = (result ≡ answer) ⊎ (result ≡ Err faults.Memory)

@@ -1,11 +1,13 @@
 //! The items of a text.
 
 ghost use Rattle.std.specs.Prelude.{◌≡◌, ◌<◌, ◌^◌, List, Ok, Err, slice_index};
+ghost use Rattle.flux_values.specs.Answers.{IsOrMemory};
 ghost use Rattle.flux_model.specs.declared.items.Item.{Item};
 ghost use Rattle.flux_items.specs.declared.rules.ItemFault.{ItemFault};
+ghost use Rattle.flux_items.specs.declared.rules.ItemFault.TheVariants as faults;
 ghost use Rattle.flux_items.specs.Rules.{AreRules};
 ghost use Rattle.flux_items.specs.Items.{AreItemsOf};
-ghost use Rattle.flux_items.specs.Faults.{HasCause, IsFaultOf, IsOrMemory};
+ghost use Rattle.flux_items.specs.Faults.{HasCause, IsFaultOf};
 
 use crate::lines::{LineRead, read_line};
 use crate::names::names_of;
@@ -26,9 +28,9 @@ pub fn read_items(alloc: Global, bytes: &[u8], rules: &ItemRules) -> Result<List
     ensures cause { HasCause rules.now bytes.now result }
     // Each cause has its answer, but for want of memory.
     ensures items { (items : List Item) → AreItemsOf rules.now items bytes.now
-        → IsOrMemory (Ok items) result }
+        → IsOrMemory faults.Memory (Ok items) result }
     ensures fault { (fault : ItemFault) → IsFaultOf rules.now fault bytes.now
-        → IsOrMemory (Err fault) result }
+        → IsOrMemory faults.Memory (Err fault) result }
 {
     read_all(alloc, bytes, rules)
 }

@@ -6,6 +6,7 @@ use Rattle.std.proofs.lemmas.Bool.{cases_order, eqb-true}
 use Rattle.std.proofs.lemmas.Bool.Decides.{nat_tests}
 use Rattle.std.proofs.lemmas.List.{append-nil, length-append, append_cancel_left}
 use Rattle.std.proofs.lemmas.List.Splits.{length-slice_split, slice_split_at, slice_split_none}
+use Rattle.flux_values.specs.Answers.{IsOrMemory}
 use Rattle.flux_model.specs.declared.programs.Program.{Program}
 use Rattle.flow_model.specs.declared.journals.Entry.{Entry}
 use Rattle.flow_model.specs.declared.journals.Journal.{Journal}
@@ -15,7 +16,7 @@ use Rattle.flux_journal.specs.declared.faults.JournalFault.TheVariants as faults
 use Rattle.flux_journal.specs.declared.texts.Head.{Head}
 use Rattle.flux_journal.specs.Formats.{head_line, IsHeadLine}
 use Rattle.flux_journal.specs.Spelled.{IsEntryLine}
-use Rattle.flux_journal.specs.Journals.{is_line_end, without_empty_last, lines_of, is_headed, head_count, event_lines, HasHead, FitsFormat, AreEntryLines, ReadsAs, IsHeadBad, IsEventBad, IsBadLine, HasCause, IsOrMemory, IsWellHeaded}
+use Rattle.flux_journal.specs.Journals.{is_line_end, without_empty_last, lines_of, is_headed, head_count, event_lines, HasHead, FitsFormat, AreEntryLines, ReadsAs, IsHeadBad, IsEventBad, IsBadLine, HasCause, IsWellHeaded}
 use Rattle.flux_journal.specs.steps.Cuts.{HasNone, IsCut, IsNumber}
 use Rattle.flux_journal.specs.steps.Lines.{IsFirstLine, IsHeadFor, IsBadAmong, AreEntriesRead, AreReadSoFar, AreCountedSoFar}
 use Rattle.flux_journal.proofs.Cutting.{same_cut, no_cut, one_number}
@@ -335,12 +336,12 @@ bad_once p text m n (inr a) (inr b) = elim (cases_order (length a.before) (lengt
 ]
 
 -- each cause has its answer
-pub answers_journal : (p : Program) → IsNamed p → (text : List ℕ) (r : Result Journal JournalFault) → HasCause p text r → (journal : Journal) → ReadsAs p text journal → IsOrMemory (Ok journal) r
+pub answers_journal : (p : Program) → IsNamed p → (text : List ℕ) (r : Result Journal JournalFault) → HasCause p text r → (journal : Journal) → ReadsAs p text journal → IsOrMemory faults.Memory (Ok journal) r
 answers_journal p named text (Ok own) cause journal reads = inl (ap Ok (journal_once p named text own journal cause reads))
 answers_journal p named text (Err (faults.BadLine n)) cause journal reads = absurd (not_both p text n journal cause reads)
 answers_journal p named text (Err faults.Memory) cause journal reads = inr refl
 
-pub answers_bad : (p : Program) (text : List ℕ) (r : Result Journal JournalFault) → HasCause p text r → (line : ℕ) → IsBadLine p text line → IsOrMemory (Err (faults.BadLine line)) r
+pub answers_bad : (p : Program) (text : List ℕ) (r : Result Journal JournalFault) → HasCause p text r → (line : ℕ) → IsBadLine p text line → IsOrMemory faults.Memory (Err (faults.BadLine line)) r
 answers_bad p text (Ok own) cause line bad = absurd (not_both p text line own bad cause)
 answers_bad p text (Err (faults.BadLine n)) cause line bad = inl (ap (λ (k : ℕ). Err (faults.BadLine k)) (bad_once p text n line cause bad))
 answers_bad p text (Err faults.Memory) cause line bad = inr refl

@@ -2,6 +2,7 @@
 use Rattle.std.proofs.Common.{◌≡◌, ℕ, ◌<◌, ◌^◌, List, [], ◌∷◌, ◌++◌, length, Ok, Err, Result, codes, refl, sym, ap, ◌∙◌, subst, append_assoc, arith, inl, inr}
 use Rattle.std.specs.Fmt.{decimal}
 use Rattle.std.proofs.lemmas.List.{length-append, append_cancel_left}
+use Rattle.flux_values.specs.Answers.{IsOrMemory}
 use Rattle.flux_values.specs.declared.answers.Mode.{Mode}
 use Rattle.flux_values.specs.declared.answers.Mode.TheVariants.{Reader, Writer}
 use Rattle.flux_model.specs.declared.programs.Program.{Program}
@@ -20,7 +21,7 @@ use Rattle.flux_journal.specs.declared.faults.LineFault.{LineFault}
 use Rattle.flux_journal.specs.declared.faults.LineFault.TheVariants as faults
 use Rattle.flux_journal.specs.declared.lines.Word.TheVariants as words
 use Rattle.flux_journal.specs.Spelled.{IsCallText, IsEventText, IsEntryLine}
-use Rattle.flux_journal.specs.Journals.{HasLineCause, IsLineOrMemory}
+use Rattle.flux_journal.specs.Journals.{HasLineCause}
 use Rattle.flux_journal.specs.steps.Parts.{IsHoldText, IsExitText, IsEndText}
 use Rattle.flux_journal.specs.steps.Events.{word_text, word_of, IsExitRest, IsCallRest, IsRestOf}
 use Rattle.flux_journal.proofs.Cutting.{same_cut, one_number}
@@ -173,7 +174,7 @@ entry_once p named line x y first second =
     ap (λ (n : ℕ). entry_of n x.event) flow ∙ ap (entry_of y.flow.0) event
 
 -- each cause has its answer
-pub answers_entry : (p : Program) → IsNamed p → (line : List ℕ) (r : Result Entry LineFault) → HasLineCause p line r → (entry : Entry) → IsEntryLine p line entry → IsLineOrMemory (Ok entry) r
+pub answers_entry : (p : Program) → IsNamed p → (line : List ℕ) (r : Result Entry LineFault) → HasLineCause p line r → (entry : Entry) → IsEntryLine p line entry → IsOrMemory faults.Memory (Ok entry) r
 answers_entry p named line (Ok own) cause entry is = inl (ap Ok (entry_once p named line own entry cause is))
 answers_entry p named line (Err faults.BadLine) cause entry is = absurd (cause entry is)
 answers_entry p named line (Err faults.Memory) cause entry is = inr refl

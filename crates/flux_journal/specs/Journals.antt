@@ -100,15 +100,8 @@ HasLineCause p line (Ok entry) = IsEntryLine p line entry
 HasLineCause p line (Err line_faults.BadLine) = (entry : Entry) → IsEntryLine p line entry → ⊥
 HasLineCause p line (Err line_faults.Memory) = ⊤
 
--- this is the answer, or memory was short
-abbrev pub IsLineOrMemory : Result Entry LineFault → Result Entry LineFault → Type 0
-IsLineOrMemory answer result = (result ≡ answer) ⊎ (result ≡ Err line_faults.Memory)
-
 -- an answer about a text has its cause
 abbrev pub HasCause : Program → List ℕ → Result Journal JournalFault → Type 0
 HasCause p text (Ok journal) = ReadsAs p text journal
 HasCause p text (Err (faults.BadLine number)) = IsBadLine p text number
 HasCause p text (Err faults.Memory) = ⊤
-
-abbrev pub IsOrMemory : Result Journal JournalFault → Result Journal JournalFault → Type 0
-IsOrMemory answer result = (result ≡ answer) ⊎ (result ≡ Err faults.Memory)

@@ -1,6 +1,7 @@
 //! A journal read.
 
 ghost use Rattle.std.specs.Prelude.{◌≡◌, ◌<◌, ◌≤◌, ◌^◌, ℕ, Ok, Err, length};
+ghost use Rattle.flux_values.specs.Answers.{IsOrMemory};
 ghost use Rattle.flow_model.specs.declared.journals.Journal.{Journal};
 ghost use Rattle.flux_model.specs.Names.{IsNamed};
 ghost use Rattle.flow_model.specs.Texts.{printed_journal};
@@ -8,7 +9,7 @@ ghost use Rattle.flux_model.specs.Numbered.{IsNumbered};
 ghost use Rattle.flux_journal.specs.declared.faults.JournalFault.TheVariants as faults;
 ghost use Rattle.flux_journal.specs.Formats.{printed_journal_2};
 ghost use Rattle.flux_journal.specs.Entries.{AreEntriesOf};
-ghost use Rattle.flux_journal.specs.Journals.{lines_of, IsWellHeaded, ReadsAs, IsBadLine, HasCause, IsOrMemory};
+ghost use Rattle.flux_journal.specs.Journals.{lines_of, IsWellHeaded, ReadsAs, IsBadLine, HasCause};
 ghost use Rattle.flux_journal.specs.steps.Lines.{AreEntriesRead};
 
 use crate::faults::{JournalFault, LineFault};
@@ -59,17 +60,17 @@ pub fn read_journal(alloc: Global, program: &Program, bytes: &[u8]) -> Result<Jo
     ensures cause { HasCause program.now bytes.now result }
     // Each cause has its answer, but for want of memory.
     ensures journal { (journal : Journal) → ReadsAs program.now bytes.now journal
-        → IsOrMemory (Ok journal) result }
+        → IsOrMemory faults.Memory (Ok journal) result }
     ensures bad { (line : ℕ) → IsBadLine program.now bytes.now line
-        → IsOrMemory (Err (faults.BadLine line)) result }
+        → IsOrMemory faults.Memory (Err (faults.BadLine line)) result }
     // A bad head is told without taking memory.
     ensures head { (IsWellHeaded bytes.now → ⊥) → result ≡ Err (faults.BadLine 1) }
     // The printed texts of a journal of the program's entries are read as that journal.
     ensures again { (journal : Journal) → AreEntriesOf program.now journal.entries
-        → bytes.now ≡ printed_journal program.now journal → IsOrMemory (Ok journal) result }
+        → bytes.now ≡ printed_journal program.now journal → IsOrMemory faults.Memory (Ok journal) result }
     ensures again_2 { (journal : Journal) (flows : ℕ) → AreEntriesOf program.now journal.entries
         → length journal.entries < 2 ^ 64 → flows < 2 ^ 32
-        → bytes.now ≡ printed_journal_2 program.now flows journal → IsOrMemory (Ok journal) result }
+        → bytes.now ≡ printed_journal_2 program.now flows journal → IsOrMemory faults.Memory (Ok journal) result }
 {
     read_all(alloc, program, bytes)
 }

@@ -1,6 +1,7 @@
 //! One line of a journal.
 
 ghost use Rattle.std.specs.Prelude.{◌≡◌, ◌≢◌, ℕ, IfOk, IfSome, IfNone, Ok, Err};
+ghost use Rattle.flux_values.specs.Answers.{IsOrMemory};
 ghost use Rattle.flux_model.specs.declared.programs.NodeNo.{NodeNo};
 ghost use Rattle.flow_model.specs.declared.journals.Outcome.{Outcome};
 ghost use Rattle.flow_model.specs.declared.journals.Entry.{Entry};
@@ -8,7 +9,7 @@ ghost use Rattle.flux_model.specs.Names.{IsNamed};
 ghost use Rattle.flux_model.specs.Numbered.{IsNumbered};
 ghost use Rattle.flux_journal.specs.declared.faults.LineFault.TheVariants as faults;
 ghost use Rattle.flux_journal.specs.declared.lines.Word.{Word};
-ghost use Rattle.flux_journal.specs.Journals.{HasLineCause, IsLineOrMemory};
+ghost use Rattle.flux_journal.specs.Journals.{HasLineCause};
 ghost use Rattle.flux_journal.specs.Spelled.{IsEventText, IsEntryLine};
 ghost use Rattle.flux_journal.specs.steps.Named.{IsReady};
 ghost use Rattle.flux_journal.specs.steps.Reading.{IsWholeRead};
@@ -210,9 +211,9 @@ pub fn read_line(alloc: Global, program: &Program, line: &[u8]) -> Result<Entry,
     ensures cause { HasLineCause program.now line.now result }
     // Each cause has its answer, but for want of memory.
     ensures entry { (entry : Entry) → IsEntryLine program.now line.now entry
-        → IsLineOrMemory (Ok entry) result }
+        → IsOrMemory faults.Memory (Ok entry) result }
     ensures bad { ((entry : Entry) → IsEntryLine program.now line.now entry → ⊥)
-        → IsLineOrMemory (Err faults.BadLine) result }
+        → IsOrMemory faults.Memory (Err faults.BadLine) result }
 {
     LineReader::new(alloc, program)?.read_line(line)
 }
@@ -257,9 +258,9 @@ impl<'a> LineReader<'a> {
         ensures cause { HasLineCause self.now line.now result }
         // Each cause has its answer, but for want of memory.
         ensures entry { (entry : Entry) → IsEntryLine self.now line.now entry
-            → IsLineOrMemory (Ok entry) result }
+            → IsOrMemory faults.Memory (Ok entry) result }
         ensures bad { ((entry : Entry) → IsEntryLine self.now line.now entry → ⊥)
-            → IsLineOrMemory (Err faults.BadLine) result }
+            → IsOrMemory faults.Memory (Err faults.BadLine) result }
     {
         self.reader.entry(line)
     }

@@ -17,7 +17,8 @@ use Rattle.flux_values.specs.declared.values.Value.TheVariants as values
 use Rattle.flux_values.specs.declared.texts.TheConstants.{TEXT_LIMIT}
 use Rattle.flux_values.specs.Texts.{hex_digit, printed_byte, printed_text, printed_value, printed_bool}
 use Rattle.flux_values.specs.Reading.{IsValue, BeginsWith, ReadsBack}
-use Rattle.flux_values.specs.Spellings.{minus, with_sign, SpellsByte, SpellEach, SpellsText, Spells, BeginsSpelled, CanGoOn, IsTooLong, IsBadValue, HasCause, IsOrMemory}
+use Rattle.flux_values.specs.Answers.{IsOrMemory}
+use Rattle.flux_values.specs.Spellings.{minus, with_sign, SpellsByte, SpellEach, SpellsText, Spells, BeginsSpelled, CanGoOn, IsTooLong, IsBadValue, HasCause}
 use Rattle.flux_spelling.proofs.Opened.{cut_alike}
 use Rattle.flux_spelling.proofs.Fronts.{begins_head, begins_none, goes_less, as_text}
 use Rattle.flux_spelling.proofs.TextsRead.{closes, nothing_full, Long, long_parts}
@@ -129,7 +130,7 @@ one_bad bytes at place a b = elim (cases_order at place) as (λ _. at ≡ place)
 abbrev Answer : Type 0
 Answer = Result (Value × ℕ) ValueFault
 
-pub answers_value : (r : Answer) (bytes : List ℕ) → HasCause r bytes → (v : Value) (n : ℕ) → BeginsSpelled bytes v n → IsOrMemory (Ok (v, n)) r
+pub answers_value : (r : Answer) (bytes : List ℕ) → HasCause r bytes → (v : Value) (n : ℕ) → BeginsSpelled bytes v n → IsOrMemory faults.Memory (Ok (v, n)) r
 answers_value (Ok read) bytes cause v n begins =
     let o = one_value bytes read.0 v read.1 n cause.begins begins in
     inl (ap (λ (w : Value). Ok (w, read.1)) o.value ∙ ap (λ (m : ℕ). Ok (v, m)) o.long)
@@ -137,13 +138,13 @@ answers_value (Err (faults.BadValue at)) bytes cause v n begins = absurd (cause.
 answers_value (Err (faults.TooLong at)) bytes cause v n begins = absurd (too_long_no_value bytes at v n cause begins)
 answers_value (Err faults.Memory) bytes cause v n begins = inr refl
 
-pub answers_too_long : (r : Answer) (bytes : List ℕ) → HasCause r bytes → (at : ℕ) → IsTooLong bytes at → IsOrMemory (Err (faults.TooLong at)) r
+pub answers_too_long : (r : Answer) (bytes : List ℕ) → HasCause r bytes → (at : ℕ) → IsTooLong bytes at → IsOrMemory faults.Memory (Err (faults.TooLong at)) r
 answers_too_long (Ok read) bytes cause at long = absurd (too_long_no_value bytes at read.0 read.1 long cause.begins)
 answers_too_long (Err (faults.BadValue place)) bytes cause at long = absurd (cause.no_text at long)
 answers_too_long (Err (faults.TooLong place)) bytes cause at long = inl (ap (λ (k : ℕ). Err (faults.TooLong k)) (one_too_long bytes place at cause long))
 answers_too_long (Err faults.Memory) bytes cause at long = inr refl
 
-pub answers_bad : (r : Answer) (bytes : List ℕ) → HasCause r bytes → (at : ℕ) → IsBadValue bytes at → IsOrMemory (Err (faults.BadValue at)) r
+pub answers_bad : (r : Answer) (bytes : List ℕ) → HasCause r bytes → (at : ℕ) → IsBadValue bytes at → IsOrMemory faults.Memory (Err (faults.BadValue at)) r
 answers_bad (Ok read) bytes cause at bad = absurd (bad.no_value read.0 read.1 cause.begins)
 answers_bad (Err (faults.BadValue place)) bytes cause at bad = inl (ap (λ (k : ℕ). Err (faults.BadValue k)) (one_bad bytes place at cause bad))
 answers_bad (Err (faults.TooLong place)) bytes cause at bad = absurd (bad.no_text place cause)

@@ -5,7 +5,8 @@ ghost use Rattle.flux_values.specs.declared.values.Value.{Value};
 ghost use Rattle.flux_values.specs.declared.failures.ValueFault.TheVariants as faults;
 ghost use Rattle.flux_values.specs.Texts.{printed_bool};
 ghost use Rattle.flux_values.specs.Reading.{ReadsBack, BeginsWith};
-ghost use Rattle.flux_values.specs.Spellings.{with_sign, HasCause, IsOrMemory, IsLongest, IsTooLong, IsBadValue, IsDecimalRead, IsTextRead};
+ghost use Rattle.flux_values.specs.Answers.{IsOrMemory};
+ghost use Rattle.flux_values.specs.Spellings.{with_sign, HasCause, IsLongest, IsTooLong, IsBadValue, IsDecimalRead, IsTextRead};
 ghost use Rattle.flux_spelling.specs.steps.Pieces.{piece_of, escape_of, hexadecimal_of, digit_in};
 ghost use Rattle.flux_spelling.specs.steps.Literals.{IsLiteralRead};
 ghost use Rattle.flux_spelling.specs.steps.Numbers.{IsSigned, AreDigitsRead, limit_of};
@@ -34,11 +35,11 @@ pub fn read_value(alloc: Global, bytes: &[u8]) -> Result<(Value, usize), ValueFa
     ensures cause { HasCause result bytes.now }
     // Each cause has its answer, but for want of memory.
     ensures value { (value : Value) (n : ℕ) → IsLongest bytes.now value n
-        → IsOrMemory (Ok (value, n)) result }
+        → IsOrMemory faults.Memory (Ok (value, n)) result }
     ensures too_long { (at : ℕ) → IsTooLong bytes.now at
-        → IsOrMemory (Err (faults.TooLong at)) result }
+        → IsOrMemory faults.Memory (Err (faults.TooLong at)) result }
     ensures bad { (at : ℕ) → IsBadValue bytes.now at
-        → IsOrMemory (Err (faults.BadValue at)) result }
+        → IsOrMemory faults.Memory (Err (faults.BadValue at)) result }
     // A printed value is read back with its length, whatever follows it; but no digit after an Int.
     ensures again { (value : Value) → BeginsWith value bytes.now → ReadsBack result value }
 {

@@ -1,6 +1,7 @@
 pub mod Values
 pub mod Texts
 pub mod Reading
+pub mod Answers
 pub mod Spellings
 pub mod Cells
 pub mod Meanings

@@ -1,5 +1,5 @@
 -- Which bytes spell which value, what begins a spelling, and where each answer of a reader comes.
-use Rattle.std.specs.Prelude.{◌≡◌, ◌≢◌, ◌⊎◌, ℕ, ◌+◌, ◌*◌, ◌<◌, ◌≤◌, ◌==◌, if◌then◌else◌, Bool, true, false, ℤ, pos, neg_ℤ, List, [], ◌∷◌, ◌++◌, length, take, slice_index, All, Option, Some, None, Result, Ok, Err, ⊤}
+use Rattle.std.specs.Prelude.{◌≡◌, ◌≢◌, ℕ, ◌+◌, ◌*◌, ◌<◌, ◌≤◌, ◌==◌, if◌then◌else◌, Bool, true, false, ℤ, pos, neg_ℤ, List, [], ◌∷◌, ◌++◌, length, take, slice_index, All, Option, Some, None, Result, Ok, Err, ⊤}
 use Rattle.std.specs.List.{concat}
 use Rattle.std.specs.Char.{digit_value}
 use Rattle.std.specs.Fmt.{decimal}
@@ -158,7 +158,3 @@ IsDecimalRead bytes limit None = (number n : ℕ) → BeginsDecimal bytes limit 
 abbrev pub IsTextRead : List ℕ → ℕ → Option (List ℕ × ℕ) → Type 0
 IsTextRead bytes limit (Some read) = BeginsText bytes read.0 limit read.1
 IsTextRead bytes limit None = (text : List ℕ) (n : ℕ) → BeginsText bytes text limit n → ⊥
-
--- this is the answer, or memory was short
-abbrev pub IsOrMemory : Result (Value × ℕ) ValueFault → Result (Value × ℕ) ValueFault → Type 0
-IsOrMemory answer result = (result ≡ answer) ⊎ (result ≡ Err faults.Memory)

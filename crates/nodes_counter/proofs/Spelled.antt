@@ -5,13 +5,14 @@ use Rattle.flux_values.specs.declared.failures.ValueFault.{ValueFault}
 use Rattle.flux_values.specs.declared.failures.ValueFault.TheVariants as faults
 use Rattle.flux_values.specs.declared.values.Value.{Value}
 use Rattle.flux_values.specs.declared.values.Value.TheVariants as values
-use Rattle.flux_values.specs.Spellings.{Spells, IsLongest, IsOrMemory}
+use Rattle.flux_values.specs.Answers.{IsOrMemory}
+use Rattle.flux_values.specs.Spellings.{Spells, IsLongest}
 use Rattle.nodes_counter.specs.Numbers.{int_spelled, number_of}
 use Rattle.nodes_counter.specs.laws.Spellings.{int_sound, int_complete}
 
 -- what the reader says of each longest spelling
 abbrev pub Answers : List ℕ → Result (Value × ℕ) ValueFault → Type 0
-Answers bytes result = (value : Value) (n : ℕ) → IsLongest bytes value n → IsOrMemory (Ok (value, n)) result
+Answers bytes result = (value : Value) (n : ℕ) → IsLongest bytes value n → IsOrMemory faults.Memory (Ok (value, n)) result
 
 longest : (bytes : List ℕ) (z : ℤ) → Spells bytes (values.Int z) → IsLongest bytes (values.Int z) (length bytes)
 longest bytes z spells = record {
@@ -30,7 +31,7 @@ none_spelled bytes none = cases (int_spelled bytes) refl
 pub refused : (bytes : List ℕ) (fault : ValueFault) → (fault ≡ faults.Memory → ⊥) → Answers bytes (Err fault) → None ≡ int_spelled bytes
 refused bytes fault other answers = none_spelled bytes (λ z spells. told (answers (values.Int z) (length bytes) (longest bytes z spells)))
   where
-    told : {v : Value × ℕ} → IsOrMemory (Ok v) (Err fault) → ⊥
+    told : {v : Value × ℕ} → IsOrMemory faults.Memory (Ok v) (Err fault) → ⊥
     told (inl e) = absurd cc
     told (inr e) = other cc
 
@@ -38,7 +39,7 @@ refused bytes fault other answers = none_spelled bytes (λ z spells. told (answe
 number_read : (bytes : List ℕ) (v : Value) (n : ℕ) (z : ℤ) → Answers bytes (Ok (v, n)) → Spells bytes (values.Int z) → (v ≡ values.Int z) × (n ≡ length bytes)
 number_read bytes v n z answers spells = told (answers (values.Int z) (length bytes) (longest bytes z spells))
   where
-    told : IsOrMemory (Ok (values.Int z, length bytes)) (Ok (v, n)) → (v ≡ values.Int z) × (n ≡ length bytes)
+    told : IsOrMemory faults.Memory (Ok (values.Int z, length bytes)) (Ok (v, n)) → (v ≡ values.Int z) × (n ≡ length bytes)
     told (inl e) = let p : (v, n) ≡ (values.Int z, length bytes) = cc in (ap (λ (q : Value × ℕ). q.0) p, ap (λ (q : Value × ℕ). q.1) p)
     told (inr e) = absurd cc
 
