@@ -1,5 +1,6 @@
 -- The chosen runtime, and the order in which it lets flows go on.
 use Rattle.std.specs.Prelude.{◌≡◌, List}
+use Rattle.std.proofs.Common.{zero-le}
 use Rattle.flow_model.specs.declared.journals.Entry.{Entry}
 use Rattle.flow_model.specs.Setup.{Setup}
 use Rattle.flux_words.specs.declared.values.Runtime.{Runtime}
@@ -11,7 +12,7 @@ use Rattle.rt_all.specs.declared.chosen.Chosen.TheVariants.{Event, Script}
 
 -- the runtime that the words name
 abbrev pub chosen_by : Runtime → Chosen
-chosen_by words.Event = Event (record { helpers = 0 })
+chosen_by words.Event = Event (record { helpers = 0; few = zero-le })
 chosen_by (words.Script numbers) = Script (record { numbers = numbers })
 
 -- what it has to be to drive a core

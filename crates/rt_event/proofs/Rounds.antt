@@ -114,7 +114,8 @@ module _ (setup : Setup) (old entries after : List Entry) (pools : Pools) (from 
     was = from;
     covers = covers;
     ready = owner-ready setup entries pools from on_turn owner is_owner;
-    later = λ one other key mode ready fresh. owner-later setup entries pools from on_turn owner is_owner one other ready;
+    later = λ one other key mode ready fresh. owner-later setup entries pools from on_turn owner is_owner one
+        other ready;
   }
 
   pub rounding-stays : (told : Pools) → StayReady pools told → Covers setup after told (owner.0 + 1)

@@ -1,6 +1,6 @@
 //! The event loop.
 
-ghost use Rattle.std.specs.Prelude.{◌≡◌, ◌<◌, length, IfOk, IfErr, OnOk, OnErr};
+ghost use Rattle.std.specs.Prelude.{◌≡◌, ◌<◌, ◌≤◌, length, IfOk, IfErr, OnOk, OnErr};
 ghost use Rattle.flow_core.specs.States.{setup_in};
 ghost use Rattle.flow_core.specs.Runs.{LeavesOthers, GoesOnLegally, GoesToEnd};
 ghost use Rattle.rt_event.specs.Round.{IsRound};
@@ -15,10 +15,12 @@ use std::marker::Sync;
 use std::sync::Wait;
 use std::thread::Threads;
 
-/// Drives a core by an event loop. As yet the loop runs all calls itself, with no helpers.
+/// Drives a core by an event loop with a number of helpers, from 0 to 16. As yet it drives only without helpers: the loop
+/// runs all calls itself.
 #[derive(Clone, Copy, Debug, PartialEq, Eq)]
 pub struct EventLoop {
     pub helpers: u8,
+    pub ghost few: { helpers ≤ 16 },
 }
 
 impl EventLoop {

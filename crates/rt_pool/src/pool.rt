@@ -1,0 +1,55 @@
+//! The runtime.
+
+ghost use Rattle.std.specs.Prelude.{◌≡◌, ◌≤◌, IfOk, IfErr};
+ghost use Rattle.flow_core.specs.Runs.{GoesOnLegally, GoesToEnd};
+
+use crate::workers::shift;
+use flow_core::{Core, Gate, Stopped};
+use flow_hall::Hall;
+use flow_queue::FlowQueue;
+use flow_workers::settle;
+use flux_library::Library;
+use std::marker::{Send, Sync};
+use std::sync::Wait;
+use std::thread::Threads;
+
+/// Drives a core by a number of workers, from 1 to 16.
+#[derive(Clone, Copy, Debug, PartialEq, Eq)]
+pub struct Pool {
+    pub workers: u8,
+    pub ghost some: { 1 ≤ workers },
+    pub ghost few: { workers ≤ 16 },
+}
+
+impl Pool {
+    /// Drives a core to its end. What a runtime promises, it promises too, for whatever order the workers' turns have.
+    pub fn drive<L: Library + Send + Sync, G: Gate + Sync, R: Threads + Wait + Sync>(
+        &mut self,
+        rt: &R,
+        core: Core<L>,
+        gate: &G,
+    ) -> Result<Core<L>, Stopped<L>>
+        ensures ok { IfOk result (GoesToEnd L.meaning core) }
+        ensures err { IfErr result (λ stopped. GoesOnLegally L.meaning core stopped.core) }
+        ensures same { self.new ≡ self.old }
+    {
+        let halted = core.is_halted();
+        let alloc = core.alloc();
+        let flows = core.flows();
+        let mut core = core;
+        core.resume();
+        if flows == 0 {
+            return settle(core, halted);
+        }
+        let Ok((queue, pass)) = FlowQueue::new(rt, alloc, flows) else {
+            return settle(core, halted);
+        };
+        match Hall::new(alloc, core) {
+            Ok((hall, seat)) => {
+                let seat = shift(rt, alloc, &hall, &queue, seat, pass, self.workers, gate);
+                settle(hall.close(rt, seat), halted)
+            }
+            Err(stopped) => settle(stopped.core, halted),
+        }
+    }
+}
