@@ -14,8 +14,14 @@ pub const READ_SECONDS: u64 = 10;
 /// So many seconds after the first write, a reply has to be taken.
 pub const REPLY_SECONDS: u64 = 30;
 
+/// What is there already is read behind that, too: a read waits so many milliseconds at least.
+const READ_MILLIS: u64 = 1;
+
 /// So many seconds at most, what a client still sends is read behind the reply, so that it gets the reply.
 const CLOSING_SECONDS: u64 = 1;
+
+/// So many milliseconds at most, a client is waited for then that sends nothing.
+const CLOSING_MILLIS: u64 = 20;
 
 /// So many blocks at most are read then.
 const CLOSING_BLOCKS: usize = 256;
@@ -23,8 +29,8 @@ const CLOSING_BLOCKS: usize = 256;
 /// How many bytes a block has.
 const BLOCK: usize = 4_096;
 
-/// A client over a socket. What it has to send has to be there within `READ_SECONDS` of its accept, and a reply has to be
-/// taken within `REPLY_SECONDS`: later reads and writes fail.
+/// A client over a socket. What it has to send has to be there within `READ_SECONDS` of its accept, also where it is read
+/// later, and a reply has to be taken within `REPLY_SECONDS`: other reads and writes fail.
 #[derive(Drop)]
 pub struct RealLink<R: Net + Clock + Copy> {
     stream: R::Stream,
@@ -57,14 +63,21 @@ impl<R: Net + Clock + Copy> RealLink<R> {
         if left.is_zero() { None } else { Some(left) }
     }
 
-    fn read_in_time(&mut self, since: Duration, seconds: u64, buffer: &mut [u8]) -> Option<usize>
+    fn read_within(&mut self, limit: Duration, buffer: &mut [u8]) -> Option<usize>
         ensures bound { IfSome result (λ count. count ≤ length buffer.new) }
         ensures faults { self.new.faults ≡ self.old.faults }
-        ensures accepted { self.new.accepted ≡ self.old.accepted }
     {
-        let left = self.time_left(since, seconds)?;
-        self.stream.set_read_timeout(Some(left)).ok()?;
+        self.stream.set_read_timeout(Some(limit)).ok()?;
         read_on(&mut self.stream, buffer).ok()
+    }
+
+    /// How long a read may wait.
+    fn read_limit(&self) -> Duration {
+        let least = Duration::from_millis(READ_MILLIS);
+        match self.time_left(self.accepted, READ_SECONDS) {
+            Some(left) => left.max(least),
+            None => least,
+        }
     }
 
     fn write_in_time(&mut self, bytes: &[u8]) -> Option<usize>
@@ -82,17 +95,25 @@ impl<R: Net + Clock + Copy> RealLink<R> {
     }
 
     /// Closes both directions in order: the client is told that nothing more comes, and what it still sends is read up to a
-    /// bound. A socket that is closed with bytes unread would take back what the client hasn't read yet.
+    /// bound. A socket that is closed with bytes unread would take back what the client hasn't read yet; where nothing was
+    /// written, there is nothing to take back.
     pub(crate) fn close(mut self) {
+        if self.replied.is_none() {
+            return;
+        }
         let Ok(since) = self.clock.monotonic() else {
             return;
         };
         if self.stream.shutdown(Shutdown::Write).is_err() {
             return;
         }
+        let pause = Duration::from_millis(CLOSING_MILLIS);
         let mut block = [0u8; BLOCK];
         for _ in 0..CLOSING_BLOCKS {
-            match self.read_in_time(since, CLOSING_SECONDS, &mut block) {
+            let Some(left) = self.time_left(since, CLOSING_SECONDS) else {
+                return;
+            };
+            match self.read_within(left.min(pause), &mut block) {
                 Some(count) if count > 0 => {}
                 _ => return,
             }
@@ -110,7 +131,7 @@ impl<R: Net + Clock + Copy> Link for RealLink<R> {
     ghost faults = { λ link. link.faults };
 
     fn read(&mut self, buffer: &mut [u8]) -> Result<usize, Failed> {
-        match self.read_in_time(self.accepted, READ_SECONDS, buffer) {
+        match self.read_within(self.read_limit(), buffer) {
             Some(count) => Ok(count),
             None => Err(count_failure(&mut self.faults)),
         }

@@ -1,19 +1,19 @@
 -- A batch that was driven.
-use Rattle.std.proofs.Common.{◌≡◌, ℕ, ◌+◌, List, [], Option, refl, sym, ap, ◌∙◌, subst, inl, inr, ◌⊎◌}
+use Rattle.std.proofs.Common.{◌≡◌, ℕ, List, Option, sym, subst, inl, inr}
 use Rattle.flux_model.specs.declared.items.Item.{Item}
 use Rattle.flow_model.specs.declared.journals.Journal.{Journal}
 use Rattle.flow_model.specs.Keys.{Cells}
 use Rattle.flow_model.specs.Legal.{IsLegal, IsWhole}
 use Rattle.flux_journal.specs.Logs.{printed_batch}
-use Rattle.flux_outside.specs.Streams.{Stream, Wrote, Broke}
+use Rattle.flux_outside.specs.Streams.{Stream, Broke}
 use Rattle.flux_batches.specs.declared.reading.Held.{Held}
 use Rattle.flux_batches.specs.Links.{Seen, AreRead, items_from}
 use Rattle.flux_batches.specs.Replies.{TakesBack, HasAnswered}
 use Rattle.flux_batches.specs.Gathered.{AreGathered}
 use Rattle.flux_serve.specs.declared.batches.ServeEnd.{ServeEnd}
 use Rattle.flux_serve.specs.declared.batches.ServeEnd.TheVariants.{Closed, Counted, Door, Log, Memory}
-use Rattle.flux_serve.specs.Batches.{Service, Batch, batch_setup, IsDriven, batch_text}
-use Rattle.flux_serve.specs.Ends.{Sight, HasDriven, Stands, HasStopped, IsUndriven}
+use Rattle.flux_serve.specs.Batches.{Service, Batch, batch_setup}
+use Rattle.flux_serve.specs.Ends.{Sight, HasDriven, Stands, HasStopped}
 use Rattle.flux_serve.specs.steps.Batches.{IsTaken, IsNone, HasFinished}
 
 -- what is known of a batch behind its replies

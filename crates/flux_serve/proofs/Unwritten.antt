@@ -1,5 +1,5 @@
 -- Links that were read, and not written.
-use Rattle.std.proofs.Common.{◌≡◌, ℕ, ◌+◌, ◌≤◌, List, [], ◌∷◌, ◌++◌, length, length-append, map, refl, sym, subst, arith}
+use Rattle.std.proofs.Common.{◌≡◌, ℕ, ◌+◌, ◌≤◌, List, [], ◌∷◌, length, length-append, map, refl, sym, subst, arith}
 use Rattle.flux_batches.specs.declared.framing.Framing.{Framing}
 use Rattle.flux_batches.specs.declared.reading.Sent.{Sent}
 use Rattle.flux_batches.specs.declared.reading.Sent.TheVariants.{Text, Failed, Memory}

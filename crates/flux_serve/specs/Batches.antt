@@ -4,7 +4,6 @@ use Rattle.flux_values.specs.Meanings.{LibraryMeaning}
 use Rattle.flux_values.specs.Cells.{no_cell}
 use Rattle.flux_model.specs.declared.programs.Program.{Program}
 use Rattle.flux_model.specs.declared.items.Item.{Item}
-use Rattle.flow_model.specs.declared.journals.Entry.{Entry}
 use Rattle.flow_model.specs.declared.journals.Journal.{Journal}
 use Rattle.flow_model.specs.Keys.{Cells}
 use Rattle.flow_model.specs.Setup.{Setup}

@@ -1,5 +1,6 @@
 -- What serving has done, batch after batch, and how it ended.
-use Rattle.std.specs.Prelude.{◌≡◌, ℕ, ◌+◌, ◌<◌, ◌≤◌, ◌⊎◌, List, [], ◌∷◌, length, Option, None, IfSome}
+use Rattle.std.specs.Prelude.{◌≡◌, ℕ, ◌+◌, ◌<◌, ◌≤◌, ◌⊎◌, List, [], ◌∷◌, length, map, Option, None, IfSome}
+use Rattle.std.specs.Option.{option_map}
 use Rattle.flow_model.specs.Keys.{Cells}
 use Rattle.flux_outside.specs.Causes.{Rose}
 use Rattle.flux_outside.specs.Streams.{Stream, Wrote, Broke}
@@ -18,6 +19,16 @@ pub record Sight (L : Type 0) : Type 0 where
   pub faults : ℕ
   pub late : ℕ
   pub log : Stream
+
+-- the same with links as what is seen of them
+abbrev pub as_seen : {L : Type 0} → (L → Seen) → Sight L → Sight Seen
+as_seen see sight = record {
+  to_come = option_map (map (map see)) sight.to_come;
+  taken_back = option_map (map see) sight.taken_back;
+  faults = sight.faults;
+  late = sight.late;
+  log = sight.log;
+}
 
 -- a batch was driven: its links are the first of the door's next batch, one to 64, and went back; the log gained its text,
 -- or what is said of it

@@ -1,8 +1,6 @@
 -- Programs that can be served.
 use Rattle.std.specs.Prelude.{◌≡◌, ℕ, List, [], ◌∷◌, Some}
-use Rattle.std.specs.List.{slice_get}
 use Rattle.flux_values.specs.Meanings.{LibraryMeaning}
-use Rattle.flux_values.specs.declared.values.Kind.TheVariants.{Int, Text}
 use Rattle.flux_values.specs.declared.meanings.Sig.{Sig}
 use Rattle.flux_values.specs.declared.meanings.Role.{Role}
 use Rattle.flux_values.specs.declared.meanings.Role.TheVariants.{HeadSource, LineSource}
@@ -21,17 +19,23 @@ abbrev pub role_of : Framing → Role
 role_of Head = HeadSource
 role_of Line = LineSource
 
--- a sound program with its plans and exactly one source, which gives a number and a text, and has the role by which
--- links are read
-pub record CanServe (meaning : LibraryMeaning) (p : Program) (plans : List Plan) (framing : Framing) : Type 0 where
-  pub kinds : ℕ → NodeKinds
-  pub sound : IsSound meaning p kinds
-  pub plans_ : ArePlansOf p plans
+-- the program has exactly one source, and its library node has the role by which links are read so
+pub record IsServed (meaning : LibraryMeaning) (p : Program) (framing : Framing) : Type 0 where
   pub line : SourceLine
   pub one : p.sources ≡ line ∷ []
-  pub outs : let own = kinds line.node.0 in own.outs ≡ Int ∷ Text ∷ []
   pub name : List ℕ
   pub sig : Sig
   pub named : library_name p line.node ≡ Some name
   pub known : meaning.node name ≡ Some sig
   pub role : sig.role ≡ role_of framing
+
+-- it has none or several, or one that no link's text goes to
+abbrev pub IsNotServed : LibraryMeaning → Program → Type 0
+IsNotServed meaning p = (framing : Framing) → IsServed meaning p framing → ⊥
+
+-- a sound program with its plans, and with one source by whose role links are read
+pub record CanServe (meaning : LibraryMeaning) (p : Program) (plans : List Plan) (framing : Framing) : Type 0 where
+  pub kinds : ℕ → NodeKinds
+  pub sound : IsSound meaning p kinds
+  pub plans_ : ArePlansOf p plans
+  pub source : IsServed meaning p framing

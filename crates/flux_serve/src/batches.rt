@@ -69,6 +69,7 @@ fn take<D: Door>(
     ensures back { OnOk result (D.taken_back door.new ≡ D.taken_back door.old) }
     ensures steady { OnOk result (D.faults door.new ≡ D.faults door.old) }
     ensures none_out { OnErr result (D.out door.new ≡ 0) }
+    ensures later { (D.faults door.old ≤ D.faults door.new) × (D.late door.old ≤ D.late door.new) }
     ensures none { (log : Stream) → IfErr result (λ end. IsNone
         (λ link. record { left = D.Link.left link; written = D.Link.written link; faults = D.Link.faults link })
         (record {
@@ -145,6 +146,7 @@ fn write_batch<O: Sink>(
     count: u32,
     run: &Run,
 ) -> Result<(), ServeEnd>
+    ensures later { O.faults log.old ≤ O.faults log.new }
     ensures wrote { OnOk result (Wrote
         (record { written = O.written log.old; faults = O.faults log.old })
         (record { written = O.written log.new; faults = O.faults log.new })
@@ -183,6 +185,8 @@ pub fn serve_batch<L: Library, D: Door, O: Sink, R: Runtime, G: Gate, Rt: Thread
     requires numbers { number + 64 < 2 ^ 63 }
     ensures again { R.ready runtime.new }
     ensures out { D.out door.new ≡ 0 }
+    ensures later { (D.faults door.old ≤ D.faults door.new) × (D.late door.old ≤ D.late door.new) }
+    ensures later_log { O.faults log.old ≤ O.faults log.new }
     ensures bound { IfOk result (λ next. next.1 ≤ number + 64) }
     ensures passed { let service : Service = (record { program = arc_value served.now.program; framing = served.now.framing; meaning = L.meaning (arc_value served.now.library) }) in
         IfOk result (λ next. HasPassed

@@ -8,7 +8,9 @@
 mod batches;
 mod runs;
 mod serving;
+mod sources;
 
 pub use batches::ServeEnd;
 pub use runs::Served;
 pub use serving::serve;
+pub use sources::framing_of;

@@ -1,6 +1,6 @@
 //! Batch after batch.
 
-ghost use Rattle.std.specs.Prelude.{◌≡◌};
+ghost use Rattle.std.specs.Prelude.{◌≡◌, ◌≤◌};
 ghost use Rattle.std.specs.Arc.{arc_value};
 ghost use Rattle.flux_serve.specs.Served.{CanServe};
 ghost use Rattle.flux_serve.specs.Batches.{Service};
@@ -37,6 +37,8 @@ pub fn serve<L: Library, D: Door, O: Sink, R: Runtime, G: Gate, Rt: Threads + Wa
     ensures again { R.ready runtime.new }
     // Each accepted link has gone back to the door.
     ensures out { D.out door.new ≡ 0 }
+    ensures later { (D.faults door.old ≤ D.faults door.new) × (D.late door.old ≤ D.late door.new) }
+    ensures later_log { O.faults log.old ≤ O.faults log.new }
     ensures served { let service : Service = (record { program = arc_value served.now.program; framing = served.now.framing; meaning = L.meaning (arc_value served.now.library) }) in
         HasServed
         (λ link. record { left = D.Link.left link; written = D.Link.written link; faults = D.Link.faults link })

@@ -1,4 +1,4 @@
-use Rattle.std.proofs.Common.{◌≡◌, ◌≤◌, length, ap, arith}
+use Rattle.std.proofs.Common.{◌≡◌, length, ap, arith}
 use Rattle.flux_batches.specs.Links.{items_from}
 use Rattle.flux_serve.proofs.Unwritten.{few_items}
 use Rattle.flux_serve.proofs.batches.run_links.Goals as goal

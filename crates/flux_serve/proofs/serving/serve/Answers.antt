@@ -19,7 +19,7 @@ batches-init g c =
       log = record { written = g.O.Sink.written c.args.log.now; faults = g.O.Sink.faults c.args.log.now };
     } in
     let P : Kept → Type 0 = λ k. SoFar see service before before 0 0 (cells_of k) in
-    (subst P (sym c.new-opening.ensures) (so_far_none see service before), c.requires.ready, c.requires.out, omega arith)
+    (subst P (sym c.new-opening.ensures) (so_far_none see service before), c.requires.ready, c.requires.out, omega arith, omega arith, omega arith, omega arith)
 
 pub returns-in-Err-clause-served : goal.returns-in-Err-clause-served
 returns-in-Err-clause-served g c =
@@ -77,4 +77,7 @@ batches-preserved g c =
       c.in-Ok.ensures.again,
       c.in-Ok.ensures.out,
       omega (arith, c.in-Ok.ensures.bound, c.batches.invariant.3),
+      omega (arith, c.batches.invariant.4, c.in-Ok.ensures.later.0),
+      omega (arith, c.batches.invariant.5, c.in-Ok.ensures.later.1),
+      omega (arith, c.batches.invariant.6, c.in-Ok.ensures.later_log),
     )
