@@ -5,19 +5,21 @@ ghost use Rattle.std.specs.Arc.{arc_value};
 ghost use Rattle.flux_words.specs.Asking.{asked};
 ghost use Rattle.flux_driver.specs.BuiltIn.{built_in};
 ghost use Rattle.flux_driver.specs.Commands.{folder_of};
-ghost use Rattle.flux_driver.specs.Answers.{Prints, IsAnswer};
+ghost use Rattle.flux_driver.specs.Answers.{IsAnswer};
 ghost use Rattle.flux_driver.specs.Top.{HasAsked};
 ghost use Rattle.flux_driver.specs.steps.Refusals.{status_of, line_of};
-ghost use Rattle.flux_driver.specs.steps.Preparing.{AsksAll, IsRefusedAll, CountsBoth, AnswersDue, AnswersWords, PrintsWords, prepared_status};
+ghost use Rattle.flux_driver.specs.steps.Running.{CanDrive};
+ghost use Rattle.flux_driver.specs.steps.Preparing.{AsksAll, PreparesAll, IsRefusedAll, CountsBoth, AnswersDue, AnswersWords, PreparesWords, prepared_status};
 
 use crate::commands::prepare;
 use crate::documents::load_docs;
+use crate::prepared::Prepared;
 use crate::refusals::Refusal;
-use flow_core::Gate;
+use flow_core::Core;
 use flux_library::Docs;
 use flux_outside::{Folder, Store};
 use flux_values::{Bytes, Memory};
-use flux_words::{Asked, read_words};
+use flux_words::{Asked, Runtime, read_words};
 use nodes_all::All;
 use std::alloc::Global;
 use std::sync::Arc;
@@ -28,6 +30,7 @@ fn dir_of<'a>(wanted: &Asked<'a>) -> Option<&'a [u8]>
 {
     match wanted {
         Asked::Run { docs, .. } => *docs,
+        Asked::Audit { docs, .. } => *docs,
         _ => None,
     }
 }
@@ -40,13 +43,14 @@ fn share(alloc: Global, docs: Docs) -> Result<Arc<All>, Memory>
 }
 
 /// What a command prints: all of it is made before any of it is written.
-fn prepare_asked<'a, S: Store, F: Folder, G: Gate>(
+fn prepare_asked<'a, S: Store, F: Folder, D: Fn(Core<All>, Runtime) -> Result<Core<All>, Memory>>(
     alloc: Global,
     store: &mut S,
     folder: &mut F,
-    gate: &G,
+    driver: &D,
     wanted: Asked<'a>,
-) -> Result<Bytes, Refusal<'a>>
+) -> Result<Prepared, Refusal<'a>>
+    requires { CanDrive (D.pre driver.now) (D.post driver.now) }
     ensures kept { S.files store.new ≡ S.files store.old }
     ensures kept_folders { F.folders folder.new ≡ F.folders folder.old }
     ensures later { S.faults store.old ≤ S.faults store.new }
@@ -55,7 +59,7 @@ fn prepare_asked<'a, S: Store, F: Folder, G: Gate>(
         (record { files = S.files store.old; folders = F.folders folder.old })
         (prepared_status result) (F.asked folder.old) (F.asked folder.new)
         (S.asked store.old) (S.asked store.new) }
-    ensures done { IfOk result (Prints built_in (asked wanted.entry)
+    ensures done { IfOk result (PreparesAll built_in (asked wanted.entry)
         (record { files = S.files store.old; folders = F.folders folder.old })) }
     ensures refused { IfErr result (IsRefusedAll built_in (asked wanted.entry)
         (record { files = S.files store.old; folders = F.folders folder.old })) }
@@ -67,17 +71,18 @@ fn prepare_asked<'a, S: Store, F: Folder, G: Gate>(
 {
     let docs = load_docs(alloc, folder, dir_of(&wanted))?;
     let library = share(alloc, docs)?;
-    prepare(alloc, library, store, gate, wanted)
+    prepare(alloc, library, store, driver, wanted)
 }
 
 /// What the words print.
-pub fn prepare_words<'a, S: Store, F: Folder, G: Gate>(
+pub fn prepare_words<'a, S: Store, F: Folder, D: Fn(Core<All>, Runtime) -> Result<Core<All>, Memory>>(
     alloc: Global,
     store: &mut S,
     folder: &mut F,
-    gate: &G,
+    driver: &D,
     words: &'a [Bytes],
-) -> Result<Bytes, Refusal<'a>>
+) -> Result<Prepared, Refusal<'a>>
+    requires { CanDrive (D.pre driver.now) (D.post driver.now) }
     ensures kept { S.files store.new ≡ S.files store.old }
     ensures kept_folders { F.folders folder.new ≡ F.folders folder.old }
     ensures later { S.faults store.old ≤ S.faults store.new }
@@ -86,7 +91,7 @@ pub fn prepare_words<'a, S: Store, F: Folder, G: Gate>(
         (record { files = S.files store.old; folders = F.folders folder.old })
         (prepared_status result) (F.asked folder.old) (F.asked folder.new)
         (S.asked store.old) (S.asked store.new) }
-    ensures done { IfOk result (PrintsWords built_in words.now
+    ensures done { IfOk result (PreparesWords built_in words.now
         (record { files = S.files store.old; folders = F.folders folder.old })) }
     ensures refused { IfErr result (λ refusal. IsAnswer built_in words.now
         (record { files = S.files store.old; folders = F.folders folder.old })
@@ -98,7 +103,7 @@ pub fn prepare_words<'a, S: Store, F: Folder, G: Gate>(
         (prepared_status result) }
 {
     match read_words(alloc, words)? {
-        Some(wanted) => prepare_asked(alloc, store, folder, gate, wanted),
+        Some(wanted) => prepare_asked(alloc, store, folder, driver, wanted),
         None => Err(Refusal::Usage),
     }
 }

@@ -1,18 +1,21 @@
 //! All that the program does, as one call.
 
-ghost use Rattle.std.specs.Prelude.{◌≡◌, IfOk, IsErr};
+ghost use Rattle.std.specs.Prelude.{◌≡◌, [], IfOk, IsErr};
 ghost use Rattle.flux_words.specs.Commands.{Command, Spells, NeedsThreads};
 ghost use Rattle.flux_driver.specs.BuiltIn.{built_in};
 ghost use Rattle.flux_driver.specs.Worlds.{Seen, seen_by};
 ghost use Rattle.flux_driver.specs.Top.{HasDone};
+ghost use Rattle.flux_driver.specs.steps.Running.{CanDrive};
 
 use crate::asking::prepare_words;
+use crate::running::{drive_alone, drive_by_threads};
 use crate::statuses::Status;
 use crate::telling::{print, refuse};
-use flow_core::Gate;
+use flow_core::{Core, Gate};
 use flux_outside::{Folder, Sink, Store};
 use flux_values::{Bytes, List, Memory};
-use flux_words::needs_threads;
+use flux_words::Runtime;
+use nodes_all::All;
 use std::alloc::Global;
 use std::marker::Sync;
 use std::sync::Wait;
@@ -26,6 +29,30 @@ pub struct World<S: Store, F: Folder, O: Sink, E: Sink> {
     pub folder: F,
     pub out: O,
     pub err: E,
+}
+
+/// Does what the words say, and answers how it ended. The flows of a run are driven as it is told.
+fn act<
+    S: Store,
+    F: Folder,
+    O: Sink,
+    E: Sink,
+    D: Fn(Core<All>, Runtime) -> Result<Core<All>, Memory>,
+>(
+    alloc: Global,
+    words: &[Bytes],
+    world: &mut World<S, F, O, E>,
+    driver: &D,
+) -> Status
+    requires { CanDrive (D.pre driver.now) (D.post driver.now) }
+    ensures { let seen = seen_by S.files S.asked S.faults F.folders F.asked F.faults O.written O.faults
+        E.written E.faults in
+        HasDone built_in words.now (seen world.old) result (seen world.new) }
+{
+    match prepare_words(alloc, &mut world.store, &mut world.folder, driver, words) {
+        Ok(prepared) => print(&mut world.out, &mut world.err, &prepared),
+        Err(refusal) => refuse(alloc, &mut world.err, refusal),
+    }
 }
 
 /// Does what the words say without starting a thread, and answers how it ended.
@@ -42,10 +69,14 @@ pub fn top_alone<S: Store, F: Folder, O: Sink, E: Sink, G: Gate>(
         E.written E.faults in
         HasDone built_in words.now (seen world.old) result (seen world.new) }
 {
-    match prepare_words(alloc, &mut world.store, &mut world.folder, gate, words) {
-        Ok(text) => print(&mut world.out, &mut world.err, text.as_bytes()),
-        Err(refusal) => refuse(alloc, &mut world.err, refusal),
-    }
+    act(
+        alloc,
+        words,
+        world,
+        &|core: Core<All>, runtime: Runtime|
+            requires { core.entries ≡ [] }
+        { drive_alone(core, runtime, gate) },
+    )
 }
 
 /// Does what the words say, and answers how it ended.
@@ -53,10 +84,18 @@ pub fn top_alone<S: Store, F: Folder, O: Sink, E: Sink, G: Gate>(
 /// The words are those behind the program's own name. `check FILE` says whether a program is sound
 /// and reports on its locks, `plan FILE` prints what its nodes take, give, hold and count,
 /// `format FILE` prints its formatted text, `run FILE ITEMS` runs the items of one file through the program
-/// of another and prints the journal of their flows, and `help` prints the commands. The clause speaks of
-/// what is seen of the world before and after the call. The gate is told before and after each call of a
+/// of another and prints the journal of their flows, `audit FILE ITEMS JOURNAL` prints whether a file is the
+/// journal of such a run, `load N K` runs a large load of its own and prints what it counted, and `help` prints
+/// the commands. The clause speaks of what is seen of the world before and after the call. The gate is told before and after each call of a
 /// node.
-pub fn top<S: Store, F: Folder, O: Sink, E: Sink, G: Gate, Rt: Threads + Wait + Sync>(
+pub fn top<
+    S: Store,
+    F: Folder,
+    O: Sink,
+    E: Sink,
+    G: Gate + Sync,
+    Rt: Threads + Wait + Sync,
+>(
     rt: &Rt,
     alloc: Global,
     words: &[Bytes],
@@ -67,12 +106,14 @@ pub fn top<S: Store, F: Folder, O: Sink, E: Sink, G: Gate, Rt: Threads + Wait + 
         E.written E.faults in
         HasDone built_in words.now (seen world.old) result (seen world.new) }
 {
-    // No runtime that starts threads can be asked for yet.
-    let _ = rt;
-    if needs_threads(words) {
-        unreachable!()
-    }
-    top_alone(alloc, words, world, gate)
+    act(
+        alloc,
+        words,
+        world,
+        &|core: Core<All>, runtime: Runtime|
+            requires { core.entries ≡ [] }
+        { drive_by_threads(rt, core, runtime, gate) },
+    )
 }
 
 /// Does what the words say in the world, and answers how it ended: that there was no memory where there was none for the
@@ -82,7 +123,7 @@ pub fn answer<
     F: Folder + Drop,
     O: Sink + Drop,
     E: Sink + Drop,
-    G: Gate,
+    G: Gate + Sync,
     Rt: Threads + Wait + Sync,
 >(
     rt: &Rt,

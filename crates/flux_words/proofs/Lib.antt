@@ -3,4 +3,5 @@ pub mod Laid
 pub mod Gathered
 pub mod Numbers
 pub mod OneCommand
-pub mod RunWords
+pub mod Behind
+pub mod AskingThreads

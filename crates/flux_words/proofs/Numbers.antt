@@ -1,15 +1,19 @@
 -- Numbers of flows with commas between them, and the values of options: each is read one way.
-use Rattle.std.proofs.Common.{◌≡◌, ◌⊎◌, inl, inr, ℕ, zero, suc, ◌+◌, ◌-◌, ◌*◌, ◌<◌, ◌≤◌, List, [], ◌∷◌, ◌++◌, length, take, get_or, refl, sym, ap, ◌∙◌, subst, arith, codes}
+use Rattle.std.proofs.Common.{◌≡◌, ◌⊎◌, inl, inr, ℕ, Option, Some, None, zero, suc, ◌+◌, ◌-◌, ◌*◌, ◌<◌, ◌≤◌, List, [], ◌∷◌, ◌++◌, length, take, get_or, refl, sym, ap, ◌∙◌, subst, arith, codes}
+use Rattle.std.specs.Prelude.{◌↔◌, IsTrue}
+use Rattle.std.specs.Option.{is_some}
+use native.Mathlib.Bridge.{le_prop}
 use Rattle.std.specs.List.{AllByRecursion, slice_split}
 use Rattle.std.proofs.lemmas.List.{append_cancel_left, take_more, take_all}
 use Rattle.flux_model.specs.declared.items.FlowNo.{FlowNo}
-use Rattle.flux_words.specs.declared.values.TheConstants.{NUMBER_LIMIT}
+use Rattle.flux_words.specs.declared.values.TheConstants.{NUMBER_LIMIT, WORKER_LIMIT}
+use Rattle.flux_words.specs.declared.workers.Workers.{Workers}
 use Rattle.flux_words.specs.declared.values.Runtime.{Runtime}
-use Rattle.flux_words.specs.declared.values.Runtime.TheVariants.{Event, Script}
+use Rattle.flux_words.specs.declared.values.Runtime.TheVariants.{Event, Script, PerFlow, Pool}
 use Rattle.flux_words.specs.declared.values.JournalFormat.{JournalFormat}
 use Rattle.flux_words.specs.declared.values.JournalFormat.TheVariants.{One, Two}
-use Rattle.flux_words.specs.Values.{is_comma, IsDigit, number_from, SpellsNumber, SpellEach, SpellsNumbers, SpellsRuntime, SpellsFormat, IsRuntime, IsFormat}
-use Rattle.flux_words.specs.steps.Found.{AreSoFar}
+use Rattle.flux_words.specs.Values.{is_comma, IsDigit, number_from, SpellsNumber, SpellEach, SpellsNumbers, SpellsRuntime, StartsThreads, SpellsFormat, IsRuntime, IsFormat}
+use Rattle.flux_words.specs.steps.Found.{AreSoFar, IsThreadedRead, IsThreaded, IsRuntimeRead}
 
 -- ---- one number
 
@@ -19,50 +23,52 @@ from_least before [] = omega arith
 from_least before (b ∷ digits) = let more = from_least (10 * before + (b - 48)) digits in omega (arith, more)
 
 -- how far digits have been read: the number so far, with those that are left
-pub record AreRead (digits rest : List ℕ) (number : ℕ) : Type 0 where
+pub record AreRead (most : ℕ) (digits rest : List ℕ) (number : ℕ) : Type 0 where
   pub same : number_from number rest ≡ number_from 0 digits
-  pub small : number ≤ NUMBER_LIMIT
+  pub small : number ≤ most
   pub to : AllByRecursion IsDigit rest → AllByRecursion IsDigit digits
   pub from : AllByRecursion IsDigit digits → AllByRecursion IsDigit rest
 
-pub none_read : (digits : List ℕ) → AreRead digits digits 0
-none_read digits = record { same = refl; small = omega arith; to = λ all. all; from = λ all. all }
+pub none_read : (most : ℕ) (digits : List ℕ) → AreRead most digits digits 0
+none_read most digits = record { same = refl; small = omega arith; to = λ all. all; from = λ all. all }
 
-pub one_read : (digits rest : List ℕ) (number b : ℕ) (others : List ℕ) → AreRead digits rest number → rest ≡ b ∷ others
-    → IsDigit b → 10 * number + (b - 48) ≤ NUMBER_LIMIT → AreRead digits others (10 * number + (b - 48))
-one_read digits rest number b others so is digit small = record {
-  same = ap (number_from number) (sym is) ∙ so.same;
-  small = small;
-  to = λ all. so.to (subst (AllByRecursion IsDigit) (sym is) (digit, all));
-  from = λ all. let own : AllByRecursion IsDigit (b ∷ others) = subst (AllByRecursion IsDigit) is (so.from all) in own.1;
-}
+module _ (most : ℕ) (digits rest : List ℕ) (number b : ℕ) (others : List ℕ) (so : AreRead most digits rest number) (is : rest ≡ b ∷ others) where
+  pub one_read : IsDigit b → 10 * number + (b - 48) ≤ most → AreRead most digits others (10 * number + (b - 48))
+  one_read digit small = record {
+    same = ap (number_from number) (sym is) ∙ so.same;
+    small = small;
+    to = λ all. so.to (subst (AllByRecursion IsDigit) (sym is) (digit, all));
+    from = λ all. let own : AllByRecursion IsDigit (b ∷ others) = subst (AllByRecursion IsDigit) is (so.from all) in own.1;
+  }
 
--- what is no digit is none of a number
-pub no_digit : (digits rest : List ℕ) (number b : ℕ) (others : List ℕ) → AreRead digits rest number → rest ≡ b ∷ others
-    → (IsDigit b → ⊥) → AllByRecursion IsDigit digits → ⊥
-no_digit digits rest number b others so is other all =
-    let own : AllByRecursion IsDigit (b ∷ others) = subst (AllByRecursion IsDigit) is (so.from all) in other own.0
+  -- what is no digit is none of a number
+  pub no_digit : (IsDigit b → ⊥) → AllByRecursion IsDigit digits → ⊥
+  no_digit other all =
+      let own : AllByRecursion IsDigit (b ∷ others) = subst (AllByRecursion IsDigit) is (so.from all) in other own.0
 
--- past the limit no digit leads back
-past_limit : (digits rest : List ℕ) (number b : ℕ) (others : List ℕ) → AreRead digits rest number → rest ≡ b ∷ others
-    → NUMBER_LIMIT < 10 * number + (b - 48) → number_from 0 digits ≤ NUMBER_LIMIT → ⊥
-past_limit digits rest number b others so is past small =
-    let whole : number_from (10 * number + (b - 48)) others ≡ number_from 0 digits = ap (number_from number) (sym is) ∙ so.same in
-    let least = from_least (10 * number + (b - 48)) others in
-    omega (arith, whole, least, past, small)
+  -- past the limit no digit leads back
+  past_limit : most < 10 * number + (b - 48) → number_from 0 digits ≤ most → ⊥
+  past_limit past small =
+      let whole : number_from (10 * number + (b - 48)) others ≡ number_from 0 digits = ap (number_from number) (sym is) ∙ so.same in
+      let least = from_least (10 * number + (b - 48)) others in
+      omega (arith, whole, least, past, small)
 
-pub past_first : (digits rest : List ℕ) (number x : ℕ) → AreRead digits rest number → 1 ≤ length rest → x ≡ get_or rest 0 0 - 48
-    → NUMBER_LIMIT < 10 * number + x → number_from 0 digits ≤ NUMBER_LIMIT → ⊥
-past_first digits [] number x so some is past small = omega (arith, some)
-past_first digits (b ∷ others) number x so some is past small =
+pub past_first : (most : ℕ) (digits rest : List ℕ) (number x : ℕ) → AreRead most digits rest number → 1 ≤ length rest → x ≡ get_or rest 0 0 - 48
+    → most < 10 * number + x → number_from 0 digits ≤ most → ⊥
+past_first most digits [] number x so some is past small = omega (arith, some)
+past_first most digits (b ∷ others) number x so some is past small =
     let own : x ≡ b - 48 = is in
-    past_limit digits (b ∷ others) number b others so refl (omega (arith, own, past)) small
+    past_limit most digits (b ∷ others) number b others so refl (omega (arith, own, past)) small
 
 pub same_flow : (a b : FlowNo) → a.0 ≡ b.0 → a ≡ b
 same_flow a b e = ap (λ (n : ℕ). let f : FlowNo = record { 0 = n } in f) e
 
-one_flow : (digits : List ℕ) (a b : FlowNo) → SpellsNumber digits a → SpellsNumber digits b → a ≡ b
-one_flow digits a b s t = same_flow a b (s.value ∙ sym t.value)
+pub one_number : (least most : ℕ) (digits : List ℕ) (a b : ℕ) → SpellsNumber least most digits a → SpellsNumber least most digits b → a ≡ b
+one_number least most digits a b s t = s.value ∙ sym t.value
+
+-- digits of a number past a limit, or below the least, spell none
+pub none_past : (least most : ℕ) (digits : List ℕ) → (AllByRecursion IsDigit digits → number_from 0 digits ≤ most → ⊥) → (number : ℕ) → SpellsNumber least most digits number → ⊥
+none_past least most digits past number s = past s.decimal_ (omega (arith, s.value, s.to))
 
 -- ---- numbers
 
@@ -73,7 +79,7 @@ one_list [] (x ∷ xs) ys s t = absurd s
 one_list (digits ∷ pieces) [] ys s t = absurd s
 one_list (digits ∷ pieces) (x ∷ xs) [] s t = absurd t
 one_list (digits ∷ pieces) (x ∷ xs) (y ∷ ys) s t =
-    ap (λ (f : FlowNo). f ∷ xs) (one_flow digits x y s.0 t.0) ∙ ap (λ (l : List FlowNo). y ∷ l) (one_list pieces xs ys s.1 t.1)
+    ap (λ (f : FlowNo). f ∷ xs) (same_flow x y (one_number 0 NUMBER_LIMIT digits x.0 y.0 s.0 t.0)) ∙ ap (λ (l : List FlowNo). y ∷ l) (one_list pieces xs ys s.1 t.1)
 
 -- no number is spelled by nothing
 none_empty : (ys : List FlowNo) → SpellEach ([] ∷ []) ys → ⊥
@@ -93,7 +99,7 @@ one_numbers list xs ys a b = by a.laid b.laid
     by (inr e) (inl f) = absurd (empty_split list xs f.0 e)
     by (inr e) (inr f) = one_list (slice_split is_comma list) xs ys e f
 
-each_more : (pieces : List (List ℕ)) (xs : List FlowNo) (digits : List ℕ) (y : FlowNo) → SpellEach pieces xs → SpellsNumber digits y
+each_more : (pieces : List (List ℕ)) (xs : List FlowNo) (digits : List ℕ) (y : FlowNo) → SpellEach pieces xs → SpellsNumber 0 NUMBER_LIMIT digits y.0
     → SpellEach (pieces ++ digits ∷ []) (xs ++ y ∷ [])
 each_more [] [] digits y s t = (t, tt)
 each_more [] (x ∷ xs) digits y s t = absurd s
@@ -101,7 +107,7 @@ each_more (piece ∷ pieces) [] digits y s t = absurd s
 each_more (piece ∷ pieces) (x ∷ xs) digits y s t = (s.0, each_more pieces xs digits y s.1 t)
 
 pub number_more : (list : List ℕ) (n : ℕ) (digits : List ℕ) (numbers new : List FlowNo) (flow : FlowNo) → AreSoFar list n numbers
-    → (n < length (slice_split is_comma list)) × (digits ≡ get_or (slice_split is_comma list) n digits) → SpellsNumber digits flow
+    → (n < length (slice_split is_comma list)) × (digits ≡ get_or (slice_split is_comma list) n digits) → SpellsNumber 0 NUMBER_LIMIT digits flow.0
     → new ≡ numbers ++ flow ∷ [] → AreSoFar list (n + 1) new
 number_more list n digits numbers new flow so at spells new_ =
     let pieces = slice_split is_comma list in
@@ -116,17 +122,17 @@ all_numbers list n numbers so end =
 
 -- where a piece spells no number, the pieces spell none
 no_piece : (pieces : List (List ℕ)) (numbers : List FlowNo) (n : ℕ) (digits : List ℕ) → n < length pieces
-    → digits ≡ get_or pieces n digits → ((flow : FlowNo) → SpellsNumber digits flow → ⊥) → SpellEach pieces numbers → ⊥
+    → digits ≡ get_or pieces n digits → ((number : ℕ) → SpellsNumber 0 NUMBER_LIMIT digits number → ⊥) → SpellEach pieces numbers → ⊥
 no_piece [] numbers n digits lt is none spell = absurd (omega (arith, lt))
 no_piece (piece ∷ pieces) [] n digits lt is none spell = spell
 no_piece (piece ∷ pieces) (flow ∷ numbers) zero digits lt is none spell =
-    none flow (subst (λ (d : List ℕ). SpellsNumber d flow) (sym is) spell.0)
+    none flow.0 (subst (λ (d : List ℕ). SpellsNumber 0 NUMBER_LIMIT d flow.0) (sym is) spell.0)
 no_piece (piece ∷ pieces) (flow ∷ numbers) (suc n) digits lt is none spell =
     no_piece pieces numbers n digits (omega (arith, lt)) is none spell.1
 
 pub no_numbers : (list : List ℕ) (n : ℕ) (digits : List ℕ) → (list ≡ [] → ⊥)
     → (n < length (slice_split is_comma list)) × (digits ≡ get_or (slice_split is_comma list) n digits)
-    → ((flow : FlowNo) → SpellsNumber digits flow → ⊥) → (numbers : List FlowNo) → SpellsNumbers list numbers → ⊥
+    → ((number : ℕ) → SpellsNumber 0 NUMBER_LIMIT digits number → ⊥) → (numbers : List FlowNo) → SpellsNumbers list numbers → ⊥
 no_numbers list n digits some at none numbers spells = elim spells.laid [
   | inl e ↦ some e.0
   | inr e ↦ no_piece (slice_split is_comma list) numbers n digits at.0 at.1 none e
@@ -134,24 +140,109 @@ no_numbers list n digits some at none numbers spells = elim spells.laid [
 
 -- ---- values
 
-no_event : (list : List ℕ) → codes "event" ≡ codes "script=" ++ list → ⊥
-no_event list e = let other : 101 ≡ 115 → ⊥ = λ f. omega (arith, f) in other (ap (λ (l : List ℕ). get_or l 0 0) e)
+-- what the second letter of a value tells of the runtime
+mark : Runtime → ℕ
+mark Event = 118
+mark (Script numbers) = 99
+mark PerFlow = 101
+mark (Pool workers) = 111
 
-one_value : (value : List ℕ) (a b : Runtime) → SpellsRuntime value a → SpellsRuntime value b → a ≡ b
-one_value value Event Event s t = refl
-one_value value Event (Script ys) s t = absurd (no_event t.0 (sym s ∙ t.1))
-one_value value (Script xs) Event s t = absurd (no_event s.0 (sym t ∙ s.1))
-one_value value (Script xs) (Script ys) s t =
+second : List ℕ → ℕ
+second value = get_or value 1 0
+
+marked : (value : List ℕ) (a : Runtime) → SpellsRuntime value a → second value ≡ mark a
+unfolding mark second
+marked value Event s = ap (λ (l : List ℕ). second l) s
+marked value (Script numbers) s = ap (λ (l : List ℕ). second l) s.1
+marked value PerFlow s = ap (λ (l : List ℕ). second l) s
+marked value (Pool workers) s = ap (λ (l : List ℕ). second l) s.1
+
+abbrev workers_of : (count : ℕ) → 1 ≤ count → count ≤ 16 → Workers
+workers_of count some few = record { count = count; some = some; few = few }
+
+same_count : (m n : ℕ) → m ≡ n → (some : 1 ≤ m) (some' : 1 ≤ n) (few : m ≤ 16) (few' : n ≤ 16)
+    → workers_of m some few ≡ workers_of n some' few'
+same_count m n e = subst
+    (λ (k : ℕ). (some : 1 ≤ m) (some' : 1 ≤ k) (few : m ≤ 16) (few' : k ≤ 16) → workers_of m some few ≡ workers_of k some' few') e
+    (λ some some' few few'. λ i. workers_of m (le_prop some some' i) (le_prop few few' i))
+
+same_workers : (a b : Workers) → a.count ≡ b.count → a ≡ b
+same_workers a b e = same_count a.count b.count e a.some b.some a.few b.few
+
+value_by_mark : (value : List ℕ) (a b : Runtime) → mark a ≡ mark b → SpellsRuntime value a → SpellsRuntime value b → a ≡ b
+unfolding mark
+value_by_mark value Event Event m s t = refl
+value_by_mark value (Script xs) (Script ys) m s t =
     let same : s.0 ≡ t.0 = append_cancel_left (codes "script=") s.0 t.0 (sym s.1 ∙ t.1) in
     ap Script (one_numbers t.0 xs ys (subst (λ (l : List ℕ). SpellsNumbers l xs) same s.2) t.2)
+value_by_mark value PerFlow PerFlow m s t = refl
+value_by_mark value (Pool v) (Pool w) m s t =
+    let same : s.0 ≡ t.0 = append_cancel_left (codes "pool=") s.0 t.0 (sym s.1 ∙ t.1) in
+    ap Pool (same_workers v w (one_number 1 WORKER_LIMIT t.0 v.count w.count (subst (λ (l : List ℕ). SpellsNumber 1 WORKER_LIMIT l v.count) same s.2) t.2))
+value_by_mark value a b m s t = absurd (omega (arith, m))
+
+one_value : (value : List ℕ) (a b : Runtime) → SpellsRuntime value a → SpellsRuntime value b → a ≡ b
+one_value value a b s t = value_by_mark value a b (sym (marked value a s) ∙ marked value b t) s t
+
+-- a value that begins as a script's spells no other runtime
+only_script : (value list : List ℕ) (runtime : Runtime) → value ≡ codes "script=" ++ list → SpellsRuntime value runtime → mark runtime ≡ 99
+unfolding second
+only_script value list runtime is s = sym (marked value runtime s) ∙ ap (λ (l : List ℕ). second l) is
 
 -- no runtime is spelled by a list that spells no numbers
-pub no_script : (value list : List ℕ) → (value ≡ codes "event" → ⊥) → value ≡ codes "script=" ++ list
+pub no_script : (value list : List ℕ) → value ≡ codes "script=" ++ list
     → ((numbers : List FlowNo) → SpellsNumbers list numbers → ⊥) → (runtime : Runtime) → SpellsRuntime value runtime → ⊥
-no_script value list other is none Event s = other s
-no_script value list other is none (Script numbers) s =
+unfolding mark
+no_script value list is none Event s = let e = only_script value list Event is s in omega (arith, e)
+no_script value list is none (Script numbers) s =
     let same : s.0 ≡ list = append_cancel_left (codes "script=") s.0 list (sym s.1 ∙ is) in
     none numbers (subst (λ (l : List ℕ). SpellsNumbers l numbers) same s.2)
+no_script value list is none PerFlow s = let e = only_script value list PerFlow is s in omega (arith, e)
+no_script value list is none (Pool workers) s = let e = only_script value list (Pool workers) is s in omega (arith, e)
+
+-- no runtime with threads is spelled by a value that is neither
+pub no_pool : (value : List ℕ) → (value ≡ codes "perflow" → ⊥) → ((digits : List ℕ) → value ≡ codes "pool=" ++ digits → ⊥)
+    → (runtime : Runtime) → SpellsRuntime value runtime → StartsThreads runtime → ⊥
+no_pool value other none Event s t = t
+no_pool value other none (Script numbers) s t = t
+no_pool value other none PerFlow s t = other s
+no_pool value other none (Pool workers) s t = none s.0 s.1
+
+pub no_workers : (value digits : List ℕ) → (value ≡ codes "perflow" → ⊥) → value ≡ codes "pool=" ++ digits
+    → ((number : ℕ) → SpellsNumber 1 WORKER_LIMIT digits number → ⊥) → (runtime : Runtime) → SpellsRuntime value runtime → StartsThreads runtime → ⊥
+no_workers value digits other is none Event s t = t
+no_workers value digits other is none (Script numbers) s t = t
+no_workers value digits other is none PerFlow s t = other s
+no_workers value digits other is none (Pool workers) s t =
+    let same : s.0 ≡ digits = append_cancel_left (codes "pool=") s.0 digits (sym s.1 ∙ is) in
+    none workers.count (subst (λ (l : List ℕ). SpellsNumber 1 WORKER_LIMIT l workers.count) same s.2)
+
+-- the runtime of a value that begins as no script's and isn't `event`
+pub threaded_read : (value : List ℕ) (found : Option Runtime) → (value ≡ codes "event" → ⊥) → ((list : List ℕ) → value ≡ codes "script=" ++ list → ⊥)
+    → IsThreadedRead value found → IsRuntimeRead (value ∷ []) found
+threaded_read value (Some runtime) other none is = is.0
+threaded_read value None other none is = λ runtime s. by runtime s
+  where
+    by : (runtime : Runtime) → SpellsRuntime value runtime → ⊥
+    by Event s = other s
+    by (Script numbers) s = none s.0 s.1
+    by PerFlow s = is PerFlow s tt
+    by (Pool workers) s = is (Pool workers) s tt
+
+-- one value, and a runtime with threads
+pub threaded_one : (value : List ℕ) (found : Option Runtime) → IsThreadedRead value found → IsTrue (is_some found) ↔ IsThreaded (value ∷ [])
+threaded_one value (Some runtime) read = ((λ e. record { runtime = runtime; is = read.0; starts = read.1 }), (λ t. refl))
+threaded_one value None read = ((λ e. absurd cc), (λ t. absurd (read t.runtime t.is t.starts)))
+
+-- no value, and no runtime with threads
+pub threaded_none : IsThreaded [] → ⊥
+threaded_none threaded = by threaded.runtime threaded.is threaded.starts
+  where
+    by : (runtime : Runtime) → runtime ≡ Event → StartsThreads runtime → ⊥
+    by Event is starts = starts
+    by (Script numbers) is starts = starts
+    by PerFlow is starts = absurd cc
+    by (Pool workers) is starts = absurd cc
 
 pub one_runtime : (values : List (List ℕ)) (a b : Runtime) → IsRuntime values a → IsRuntime values b → a ≡ b
 one_runtime [] a b s t = s ∙ sym t

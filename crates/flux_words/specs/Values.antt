@@ -1,10 +1,10 @@
--- The values of options: runtimes and formats of journals.
+-- Numbers, and the values of options: runtimes and formats of journals.
 use Rattle.std.specs.Prelude.{◌≡◌, ◌⊎◌, ℕ, ◌+◌, ◌-◌, ◌*◌, ◌==◌, ◌<◌, ◌≤◌, List, [], ◌∷◌, ◌++◌, length, codes, ⊤}
 use Rattle.std.specs.List.{AllByRecursion, slice_split}
 use Rattle.flux_model.specs.declared.items.FlowNo.{FlowNo}
-use Rattle.flux_words.specs.declared.values.TheConstants.{DIGIT_LIMIT, NUMBER_LIMIT}
+use Rattle.flux_words.specs.declared.values.TheConstants.{DIGIT_LIMIT, NUMBER_LIMIT, WORKER_LIMIT}
 use Rattle.flux_words.specs.declared.values.Runtime.{Runtime}
-use Rattle.flux_words.specs.declared.values.Runtime.TheVariants.{Event, Script}
+use Rattle.flux_words.specs.declared.values.Runtime.TheVariants.{Event, Script, PerFlow, Pool}
 use Rattle.flux_words.specs.declared.values.JournalFormat.{JournalFormat}
 use Rattle.flux_words.specs.declared.values.JournalFormat.TheVariants.{One, Two}
 
@@ -21,30 +21,42 @@ abbrev pub number_from : ℕ → List ℕ → ℕ
 number_from before [] = before
 number_from before (b ∷ digits) = number_from (10 * before + (b - 48)) digits
 
--- a flow's number, which is at most 4,095, in 1 to 10 decimal digits, leading zeros included
-pub record SpellsNumber (digits : List ℕ) (flow : FlowNo) : Type 0 where
+-- a number in a range, in 1 to 10 decimal digits, leading zeros included
+pub record SpellsNumber (least most : ℕ) (digits : List ℕ) (number : ℕ) : Type 0 where
   pub some : 0 < length digits
-  pub most : length digits ≤ DIGIT_LIMIT
+  pub few : length digits ≤ DIGIT_LIMIT
   pub decimal_ : AllByRecursion IsDigit digits
-  pub value : flow.0 ≡ number_from 0 digits
-  pub small : flow.0 ≤ NUMBER_LIMIT
+  pub value : number ≡ number_from 0 digits
+  pub from : least ≤ number
+  pub to : number ≤ most
 
--- pieces spell numbers, one each
+-- pieces spell flows' numbers, one each, of at most 4,095
 abbrev pub SpellEach : List (List ℕ) → List FlowNo → Type 0
 SpellEach [] [] = ⊤
 SpellEach [] (flow ∷ numbers) = ⊥
 SpellEach (digits ∷ pieces) [] = ⊥
-SpellEach (digits ∷ pieces) (flow ∷ numbers) = SpellsNumber digits flow × SpellEach pieces numbers
+SpellEach (digits ∷ pieces) (flow ∷ numbers) =
+    SpellsNumber 0 NUMBER_LIMIT digits flow.0 × SpellEach pieces numbers
 
 -- numbers with commas between them, or nothing
 pub record SpellsNumbers (list : List ℕ) (numbers : List FlowNo) : Type 0 where
   pub laid : ((list ≡ []) × (numbers ≡ [])) ⊎ SpellEach (slice_split is_comma list) numbers
 
--- `event`, or `script=` and numbers
+-- `event`, `script=` and numbers, `perflow`, or `pool=` and a number from 1 to 16
 abbrev pub SpellsRuntime : List ℕ → Runtime → Type 0
 SpellsRuntime value Event = value ≡ codes "event"
 SpellsRuntime value (Script numbers) =
     (list : List ℕ) × (value ≡ codes "script=" ++ list) × SpellsNumbers list numbers
+SpellsRuntime value PerFlow = value ≡ codes "perflow"
+SpellsRuntime value (Pool workers) =
+    (digits : List ℕ) × (value ≡ codes "pool=" ++ digits) × SpellsNumber 1 WORKER_LIMIT digits workers.count
+
+-- a runtime that starts threads
+abbrev pub StartsThreads : Runtime → Type 0
+StartsThreads Event = ⊥
+StartsThreads (Script numbers) = ⊥
+StartsThreads PerFlow = ⊤
+StartsThreads (Pool workers) = ⊤
 
 -- `1` or `2`
 abbrev pub SpellsFormat : List ℕ → JournalFormat → Type 0

@@ -1,10 +1,11 @@
-//! The values of options.
+//! The values of options, and numbers.
 
 ghost use Rattle.std.specs.Prelude.{IfOk};
 ghost use Rattle.flux_words.specs.steps.Given.{listed};
-ghost use Rattle.flux_words.specs.steps.Found.{IsValueRead, IsNumberRead, AreNumbersRead, IsRuntimeRead, IsFormatRead};
+ghost use Rattle.flux_words.specs.steps.Found.{IsValueRead, IsNumberRead, AreNumbersRead, IsThreadedRead, IsRuntimeRead, IsFormatRead};
 
 use crate::names::strip;
+use crate::workers::Workers;
 use flux_model::FlowNo;
 use flux_values::{List, Memory};
 use std::alloc::Global;
@@ -15,14 +16,20 @@ pub const DIGIT_LIMIT: usize = 10;
 /// The greatest number of a flow that a script names.
 pub const NUMBER_LIMIT: u32 = 4_095;
 
-/// By which runtime items are run. `event=H`, `perflow` and `pool=N` come with the runtimes that start
-/// threads; until then no words spell them.
+/// The greatest number of workers of a pool.
+pub const WORKER_LIMIT: u32 = 16;
+
+/// By which runtime items are run. `event=H` comes with helpers of the event loop; until then no words spell it.
 #[derive(Debug, Drop)]
 pub enum Runtime {
     /// Flow after flow, each up to its first call, its wait or its end.
     Event,
     /// One event of each flow that is named, in order, as often as it is named.
     Script(List<FlowNo>),
+    /// A thread for each flow.
+    PerFlow,
+    /// So many workers, which share the flows.
+    Pool(Workers),
 }
 
 /// The format of a printed journal.
@@ -32,34 +39,35 @@ pub enum JournalFormat {
     Two,
 }
 
-/// The number that decimal digits spell, if it isn't greater than a flow's.
-fn value_of(digits: &[u8]) -> Option<u32>
-    ensures { IsValueRead digits.now result }
+/// The number that decimal digits spell, if it isn't greater than a limit.
+fn value_of(digits: &[u8], most: u32) -> Option<u32>
+    ensures { IsValueRead most digits.now result }
 {
-    let mut number = 0;
+    let mut number: u64 = 0;
     let mut rest = digits;
     while let [digit, others @ ..] = rest {
         if *digit < b'0' || b'9' < *digit {
             return None;
         }
-        number = 10 * number + u32::from(*digit - b'0');
-        if number > NUMBER_LIMIT {
+        number = 10 * number + u64::from(*digit - b'0');
+        if number > u64::from(most) {
             return None;
         }
         rest = others;
     }
-    Some(number)
+    Some(number as u32)
 }
 
-fn read_number(digits: &[u8]) -> Option<FlowNo>
-    ensures { IsNumberRead digits.now result }
+/// The number that 1 to 10 decimal digits spell, if it is neither too small nor too great.
+pub fn read_number(digits: &[u8], least: u32, most: u32) -> Option<u32>
+    ensures { IsNumberRead least most digits.now result }
 {
     if digits.is_empty() || digits.len() > DIGIT_LIMIT {
         return None;
     }
-    match value_of(digits) {
-        Some(number) => Some(FlowNo(number)),
-        None => None,
+    match value_of(digits, most) {
+        Some(number) if number >= least => Some(number),
+        _ => None,
     }
 }
 
@@ -71,12 +79,28 @@ fn read_numbers(alloc: Global, list: &[u8]) -> Result<Option<List<FlowNo>>, Memo
         return Ok(Some(numbers));
     }
     'numbers: for digits in list.split(|byte| *byte == b',') {
-        match read_number(digits) {
-            Some(number) => numbers.add(number)?,
+        match read_number(digits, 0, NUMBER_LIMIT) {
+            Some(number) => numbers.add(FlowNo(number))?,
             None => return Ok(None),
         }
     }
     Ok(Some(numbers))
+}
+
+/// The runtime with threads that a value spells.
+pub fn read_threaded(value: &[u8]) -> Option<Runtime>
+    ensures { IsThreadedRead value.now result }
+{
+    if value == b"perflow".as_slice() {
+        return Some(Runtime::PerFlow);
+    }
+    let Some(digits) = strip(b"pool=", value) else {
+        return None;
+    };
+    match read_number(digits, 1, WORKER_LIMIT) {
+        Some(count) => Some(Runtime::Pool(Workers { count: count as u8 })),
+        None => None,
+    }
 }
 
 /// The runtime that is given, or `event`.
@@ -90,7 +114,7 @@ pub fn read_runtime(alloc: Global, given: Option<&[u8]>) -> Result<Option<Runtim
         return Ok(Some(Runtime::Event));
     }
     let Some(list) = strip(b"script=", value) else {
-        return Ok(None);
+        return Ok(read_threaded(value));
     };
     match read_numbers(alloc, list)? {
         Some(numbers) => Ok(Some(Runtime::Script(numbers))),

@@ -14,6 +14,9 @@ use Rattle.rt_all.specs.declared.chosen.Chosen.TheVariants.{Event, Script, PerFl
 abbrev pub chosen_by : Runtime → Chosen
 chosen_by words.Event = Event (record { helpers = 0; few = zero-le })
 chosen_by (words.Script numbers) = Script (record { numbers = numbers })
+chosen_by words.PerFlow = PerFlow (record {})
+chosen_by (words.Pool workers) =
+    Pool (record { workers = workers.count; some = workers.some; few = workers.few })
 
 -- what it has to be to drive a core
 abbrev pub IsReady : Chosen → Type 0

@@ -33,6 +33,10 @@ impl Chosen {
         match words {
             flux_words::Runtime::Event => Chosen::Event(EventLoop { helpers: 0 }),
             flux_words::Runtime::Script(numbers) => Chosen::Script(Script { numbers }),
+            flux_words::Runtime::PerFlow => Chosen::PerFlow(PerFlow),
+            flux_words::Runtime::Pool(workers) => Chosen::Pool(Pool {
+                workers: workers.count,
+            }),
         }
     }
 

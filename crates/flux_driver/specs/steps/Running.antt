@@ -1,5 +1,5 @@
 -- Steps of running: from a checked program and an items text to the printed journal.
-use Rattle.std.specs.Prelude.{◌≡◌, ◌≤◌, ℕ, List, [], length, map, Some, ⊤}
+use Rattle.std.specs.Prelude.{◌≡◌, ◌≤◌, ℕ, List, [], length, map, Some, ⊤, Result, IfOk}
 use Rattle.std.specs.List.{AllByRecursion, slice_get}
 use Rattle.flux_values.specs.declared.values.Kind.{Kind}
 use Rattle.flux_values.specs.Identifiers.{IsIdentifier}
@@ -17,6 +17,10 @@ use Rattle.flux_model.specs.Kinds.{NodeKinds, kinds_at}
 use Rattle.flow_model.specs.Legal.{IsLegal, IsWhole}
 use Rattle.flux_model.specs.Locks.{Holds}
 use Rattle.flow_model.specs.Setup.{Setup}
+use Rattle.flow_model.specs.CellsAfter.{cells_after}
+use Rattle.flow_state.specs.declared.setups.Setup as code
+use Rattle.std.specs.Arc.{arc_value}
+use Rattle.flux_plan.specs.declared.plans.Plan.{Plan}
 use Rattle.flux_model.specs.Sizes.{source_size}
 use Rattle.flux_model.specs.Soundness.{IsSound}
 use Rattle.flux_model.specs.Texts.{source_name}
@@ -26,10 +30,15 @@ use Rattle.flux_items.specs.Items.{AreItemsOf}
 use Rattle.flux_items.specs.Faults.{IsFaultOf}
 use Rattle.flux_words.specs.declared.values.Runtime.{Runtime}
 use Rattle.rt_all.specs.Orders.{IsOrderOf}
+use Rattle.nodes_all.specs.declared.all.All.{All}
+use Rattle.flow_core.specs.States.{CoreState, setup_in}
+use Rattle.flow_core.specs.Runs.{SameSetup}
+use Rattle.flux_values.specs.declared.failures.Memory.{Memory}
+use Rattle.flux_driver.specs.BuiltIn.{meaning_in}
 use Rattle.flux_driver.specs.declared.refusals.Refusal.{Refusal}
-use Rattle.flux_driver.specs.declared.refusals.Refusal.TheVariants.{Usage, Static, Items, Read, Missing, Memory}
+use Rattle.flux_driver.specs.declared.refusals.Refusal.TheVariants.{Usage, Static, Items, Read, Missing, Memory as NoMemory}
 use Rattle.flux_driver.specs.declared.running.Wanted.{Wanted}
-use Rattle.flux_driver.specs.TrueRuns.{IsTrueRun, printed_in}
+use Rattle.flux_driver.specs.TrueRuns.{IsTrueRun, setup_of, printed_by}
 
 -- the kinds of what a node gives
 abbrev pub outs_at : List NodeSig → NodeNo → List Kind
@@ -57,24 +66,39 @@ pub record IsDriven (setup : Setup) (runtime : Runtime) (entries : List Entry) :
   pub whole : IsWhole setup entries
   pub order : IsOrderOf runtime setup [] entries
 
--- the journal of a true run of the items is printed
-pub record IsJournalOf (meaning : LibraryMeaning) (p : Program) (items : List Item) (wanted : Wanted)
+-- the same of a core as it was and is
+pub record DrivesTo {L : Type 0} (meaning : L → LibraryMeaning) (runtime : Runtime) (old new : CoreState L) : Type 0 where
+  pub setup_ : SameSetup old new
+  pub driven : IsDriven (setup_in meaning old) runtime new.entries
+
+-- cores without entries may be handed to a call that drives them, with a pre and a post of its own
+pub record CanDrive (pre : CoreState All → Runtime → Type 0)
+    (post : CoreState All → Runtime → Result (CoreState All) Memory → Type 0) : Type 0 where
+  pub may : (core : CoreState All) (runtime : Runtime) → core.entries ≡ [] → pre core runtime
+  pub drives : (core : CoreState All) (runtime : Runtime) (result : Result (CoreState All) Memory)
+      → core.entries ≡ [] → post core runtime result → IfOk result (DrivesTo meaning_in runtime core)
+
+-- a setup is made of these, and of empty cells
+pub record HasParts {L : Type 0} (program : Program) (plans : List Plan) (items : List Item) (library : L)
+    (setup : code.Setup L) : Type 0 where
+  pub program_ : arc_value setup.program ≡ program
+  pub plans_ : arc_value setup.plans ≡ plans
+  pub items_ : setup.items ≡ items
+  pub opening : setup.opening ≡ []
+  pub library_ : arc_value setup.library ≡ library
+
+-- what is wanted of a true run of the items is printed
+pub record IsRun (meaning : LibraryMeaning) (p : Program) (items : List Item) (wanted : Wanted)
     (text : List ℕ) : Type 0 where
   pub journal : Journal
   pub true_run : IsTrueRun p items meaning wanted.runtime journal.entries
-  pub is : text ≡ printed_in wanted.journal p (length items) journal
-
--- that of the items of a text
-pub record IsWritten (meaning : LibraryMeaning) (p : Program) (rules : ItemRules)
-    (items_text : List ℕ) (wanted : Wanted) (text : List ℕ) : Type 0 where
-  pub items : List Item
-  pub are : AreItemsOf rules items items_text
-  pub journal : IsJournalOf meaning p items wanted text
+  pub is : text ≡ printed_by wanted.printing p (length items) journal
+      (cells_after (setup_of p true_run.locks items meaning) journal.entries)
 
 -- an items text is refused: it has a fault, or there was no memory
 abbrev pub AreRefused : ItemRules → List ℕ → Refusal → Type 0
 AreRefused rules items_text (Items fault) = IsFaultOf rules fault items_text
-AreRefused rules items_text Memory = ⊤
+AreRefused rules items_text NoMemory = ⊤
 AreRefused rules items_text Usage = ⊥
 AreRefused rules items_text (Static line) = ⊥
 AreRefused rules items_text Read = ⊥
