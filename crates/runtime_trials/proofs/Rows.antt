@@ -5,8 +5,8 @@ use Rattle.flow_core.specs.States.{CoreState}
 use Rattle.flow_core.specs.Runs.{GoesToEnd}
 use Rattle.runtime_trials.specs.Batches.{AreDriven}
 
-pub driven_more : {L : Type 0} (meaning : L → LibraryMeaning) (cores driven : List (CoreState L)) (old new : CoreState L)
-    → AreDriven meaning cores driven → GoesToEnd meaning old new
+pub driven_more : {L : Type 0} (meaning : L → LibraryMeaning) (cores driven : List (CoreState L))
+    (old new : CoreState L) → AreDriven meaning cores driven → GoesToEnd meaning old new
     → AreDriven meaning (cores ++ old ∷ []) (driven ++ new ∷ [])
 driven_more meaning [] [] old new are goes = (goes, tt)
 driven_more meaning [] (d ∷ driven) old new are goes = absurd are

@@ -17,7 +17,8 @@ loop-core-preserved g c =
 pub returns-clause-driven : goal.returns-clause-driven
 returns-clause-driven g c =
     let gives = c.into_iter-core-iterator.ensures.into_iter_gives in
-    let ends = YieldsList-end (YieldsList-from_vec {s = c.into_iter-core-iterator.result} c.args.cores.items gives.0 (gives.1 ∙ c.args.cores.ok.0)) c.loop-core.yielded
+    let ends = YieldsList-end (YieldsList-from_vec {s = c.into_iter-core-iterator.result} c.args.cores.items gives.0
+    (gives.1 ∙ c.args.cores.ok.0)) c.loop-core.yielded
     c.loop-core.core-iterator c.loop-core.yielded_by c.next.result c.next.new.self c.in-None.is c.next.ensures.steps in
     subst (λ cores. AreDriven g.L.Meaning.meaning cores c.loop-core.driven.items)
     (sym (map_same c.loop-core.yielded) ∙ ends.0) c.loop-core.invariant.1

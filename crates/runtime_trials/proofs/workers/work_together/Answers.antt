@@ -1,6 +1,6 @@
 use denote.Param.Send.{sendable}
 use Rattle.std.proofs.Crossing.{crosses}
-use Rattle.runtime_trials.proofs.Crossing.{core_send}
+use Rattle.flow_core.proofs.Crossing.{core_send}
 use Rattle.runtime_trials.proofs.workers.work_together.Goals as goal
 
 pub join-requires-send-F : goal.join-requires-send-F
