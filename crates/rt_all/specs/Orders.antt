@@ -1,5 +1,5 @@
 -- The chosen runtime, and the order in which it lets flows go on.
-use Rattle.std.specs.Prelude.{◌≡◌, List}
+use Rattle.std.specs.Prelude.{◌≡◌, List, ⊤}
 use Rattle.std.proofs.Common.{zero-le}
 use Rattle.flow_model.specs.declared.journals.Entry.{Entry}
 use Rattle.flow_model.specs.Setup.{Setup}
@@ -8,7 +8,7 @@ use Rattle.flux_words.specs.declared.values.Runtime.TheVariants as words
 use Rattle.rt_event.specs.Round.{IsRound}
 use Rattle.rt_script.specs.Follow.{IsFollow}
 use Rattle.rt_all.specs.declared.chosen.Chosen.{Chosen}
-use Rattle.rt_all.specs.declared.chosen.Chosen.TheVariants.{Event, Script}
+use Rattle.rt_all.specs.declared.chosen.Chosen.TheVariants.{Event, Script, PerFlow, Pool}
 
 -- the runtime that the words name
 abbrev pub chosen_by : Runtime → Chosen
@@ -18,12 +18,17 @@ chosen_by (words.Script numbers) = Script (record { numbers = numbers })
 -- what it has to be to drive a core
 abbrev pub IsReady : Chosen → Type 0
 IsReady (Event runtime) = runtime.helpers ≡ 0
-IsReady (Script runtime) = Unit {0}
+IsReady (Script runtime) = ⊤
+IsReady (PerFlow runtime) = ⊤
+IsReady (Pool runtime) = ⊤
 
--- flow after flow, each up to its first call, its wait or its end, or as the script's numbers say
+-- flow after flow, each up to its first call, its wait or its end; or as the script's numbers say; or, where threads let
+-- the flows go on, any order
 abbrev pub IsOrder : Chosen → Setup → List Entry → List Entry → Type 0
 IsOrder (Event runtime) setup old new = IsRound setup old new
 IsOrder (Script runtime) setup old new = IsFollow setup old runtime.numbers new
+IsOrder (PerFlow runtime) setup old new = ⊤
+IsOrder (Pool runtime) setup old new = ⊤
 
 -- the order of the runtime that the words name
 abbrev pub IsOrderOf : Runtime → Setup → List Entry → List Entry → Type 0

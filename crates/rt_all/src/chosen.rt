@@ -8,8 +8,10 @@ ghost use Rattle.rt_all.specs.Orders.{chosen_by, IsReady, IsOrder};
 use flow_core::{Core, Gate, Runtime, Stopped};
 use flux_library::Library;
 use rt_event::EventLoop;
+use rt_perflow::PerFlow;
+use rt_pool::Pool;
 use rt_script::Script;
-use std::marker::Sync;
+use std::marker::{Send, Sync};
 use std::sync::Wait;
 use std::thread::Threads;
 
@@ -18,6 +20,8 @@ use std::thread::Threads;
 pub enum Chosen {
     Event(EventLoop),
     Script(Script),
+    PerFlow(PerFlow),
+    Pool(Pool),
 }
 
 impl Chosen {
@@ -32,32 +36,9 @@ impl Chosen {
         }
     }
 
-    /// Drives a core to its end, without a handle for threads.
-    pub fn drive_alone<L: Library, G: Gate>(
-        &mut self,
-        core: Core<L>,
-        gate: &G,
-    ) -> Result<Core<L>, Stopped<L>>
-        requires { IsReady self.old }
-        ensures ok { IfOk result (GoesToEnd L.meaning core) }
-        ensures err { IfErr result (λ stopped. GoesOnLegally L.meaning core stopped.core) }
-        ensures order { IfOk result (λ driven. IsOrder self.old (setup_in L.meaning core) core.entries
-            driven.entries) }
-        ensures same { self.new ≡ self.old }
-    {
-        match self {
-            Chosen::Event(runtime) => runtime.drive_alone(core, gate),
-            Chosen::Script(runtime) => runtime.drive_alone(core, gate),
-        }
-    }
-}
-
-impl Runtime for Chosen {
-    ghost use Rattle.rt_all.specs.Orders.{IsReady};
-
-    ghost ready = { IsReady };
-
-    fn drive<L: Library, G: Gate, Rt: Threads + Wait + Sync>(
+    /// Drives a core to its end, by threads where the runtime starts some. All that a runtime promises, it promises too, and
+    /// the order of the runtime.
+    pub fn drive_by_threads<L: Library + Send + Sync, G: Gate + Sync, Rt: Threads + Wait + Sync>(
         &mut self,
         rt: &Rt,
         core: Core<L>,
@@ -73,8 +54,58 @@ impl Runtime for Chosen {
         ensures same { self.new ≡ self.old }
     {
         match self {
-            Chosen::Event(runtime) => runtime.drive(rt, core, gate),
-            Chosen::Script(runtime) => runtime.drive(rt, core, gate),
+            Chosen::Event(runtime) => runtime.drive_alone(core, gate),
+            Chosen::Script(runtime) => runtime.drive_alone(core, gate),
+            Chosen::PerFlow(runtime) => runtime.drive(rt, core, gate),
+            Chosen::Pool(runtime) => runtime.drive(rt, core, gate),
         }
+    }
+
+    /// Drives a core to its end on the thread that calls, without a handle for threads. A runtime that would start threads lets
+    /// the flows go on as the event loop does.
+    pub fn drive_alone<L: Library, G: Gate>(
+        &mut self,
+        core: Core<L>,
+        gate: &G,
+    ) -> Result<Core<L>, Stopped<L>>
+        requires { IsReady self.old }
+        ensures ok { IfOk result (GoesToEnd L.meaning core) }
+        ensures err { IfErr result (λ stopped. GoesOnLegally L.meaning core stopped.core) }
+        ensures order { IfOk result (λ driven. IsOrder self.old (setup_in L.meaning core) core.entries
+            driven.entries) }
+        ensures same { self.new ≡ self.old }
+    {
+        match self {
+            Chosen::Event(runtime) => runtime.drive_alone(core, gate),
+            Chosen::Script(runtime) => runtime.drive_alone(core, gate),
+            Chosen::PerFlow(_) | Chosen::Pool(_) => {
+                EventLoop { helpers: 0 }.drive_alone(core, gate)
+            }
+        }
+    }
+}
+
+/// No impl of the trait can start threads: where a runtime is met as a trait's, the chosen one drives alone.
+impl Runtime for Chosen {
+    ghost use Rattle.rt_all.specs.Orders.{IsReady};
+
+    ghost ready = { IsReady };
+
+    fn drive<L: Library, G: Gate, Rt: Threads + Wait + Sync>(
+        &mut self,
+        _rt: &Rt,
+        core: Core<L>,
+        gate: &G,
+    ) -> Result<Core<L>, Stopped<L>>
+        requires { IsReady self.old }
+        ensures again { IsReady self.new }
+        ensures ok { IfOk result (GoesToEnd L.meaning core) }
+        ensures err { IfErr result (λ stopped. GoesOnLegally L.meaning core stopped.core) }
+        ensures still { OnErr result (self.new ≡ self.old) }
+        ensures order { IfOk result (λ driven. IsOrder self.old (setup_in L.meaning core) core.entries
+            driven.entries) }
+        ensures same { self.new ≡ self.old }
+    {
+        self.drive_alone(core, gate)
     }
 }

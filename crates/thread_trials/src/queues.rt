@@ -1,0 +1,20 @@
+//! A queue of two flows.
+
+use crate::troubles::Trouble;
+use flow_queue::FlowQueue;
+use flux_model::FlowNo;
+use std::alloc::Global;
+use std::sync::Wait;
+
+/// What the first pass takes: it puts its first number back, and none of those behind.
+pub fn takes<R: Wait>(rt: &R, alloc: Global) -> Result<[Option<FlowNo>; 4], Trouble> {
+    let (queue, mut pass) = FlowQueue::new(rt, alloc, 2)?;
+    let Some(first) = queue.take(rt, &mut pass) else {
+        return Err(Trouble::Queue);
+    };
+    queue.put(rt, &mut pass);
+    let second = queue.take(rt, &mut pass);
+    let third = queue.take(rt, &mut pass);
+    let fourth = queue.take(rt, &mut pass);
+    Ok([Some(first), second, third, fourth])
+}
