@@ -1,5 +1,5 @@
-use Rattle.flux_words.proofs.RunWords.{run_of_files, run_of_format, run_of_runtime}
-use Rattle.flux_words.proofs.commands.read_run.Goals as goal
+use Rattle.flux_words.proofs.Behind.{run_of_files, run_of_format, run_of_runtime}
+use Rattle.flux_words.proofs.runs.read_run.Goals as goal
 
 pub returns-in_default-files : goal.returns-in_default-files
 returns-in_default-files c = run_of_files c.args.words.now c.in-Some.given c.in-Some.ensures.found c.in_default-files.not-Two
