@@ -3,29 +3,21 @@ use Rattle.std.proofs.Common.{◌≡◌, ◌⊎◌, inl, inr, ℕ, List, [], ◌
 use Rattle.flux_values.specs.Meanings.{LibraryMeaning}
 use Rattle.flux_library.specs.Documents.{DocMap}
 use Rattle.flux_outside.specs.Causes.{Rose}
-use Rattle.flux_syntax.specs.declared.declarations.Decl.{Decl}
-use Rattle.flux_words.specs.Commands.{Command, Manner, check, plan, format, run, help, Spells}
+use Rattle.flux_words.specs.Commands.{Command, run, Spells}
+use Rattle.flux_words.specs.Behind.{Manner}
 use Rattle.flux_words.proofs.OneCommand.{one_command}
-use Rattle.flux_model.specs.Locks.{Holds, AreLocks}
-use Rattle.flux_model.proofs.Hoisting.{locks_once}
-use Rattle.flux_items.specs.declared.rules.ItemRules.{ItemRules}
-use Rattle.flux_items.specs.declared.rules.ItemFault.{ItemFault}
-use Rattle.flux_items.specs.Faults.{IsFaultOf}
-use Rattle.flux_syntax.specs.ProgramOfText.{program_of}
-use Rattle.flux_check.specs.Judgement.{AreSound}
 use Rattle.flux_driver.specs.declared.statuses.Status.{Status}
 use Rattle.flux_driver.specs.declared.statuses.Status.TheVariants as statuses
 use Rattle.flux_outside.specs.Streams.{Stream, Gains, Wrote, Broke, WroteOrBroke}
-use Rattle.flux_driver.specs.Worlds.{Files, Told, Seen}
+use Rattle.flux_driver.specs.Worlds.{IsLost, Told, Seen}
 use Rattle.flux_driver.specs.Documents.{WithDocs, TellsAll}
-use Rattle.flux_driver.specs.declared.files.TheConstants.{ITEMS_FILE_LIMIT}
-use Rattle.flux_driver.specs.Inputs.{HasDecls, HasProgram, HasItems}
-use Rattle.flux_driver.specs.Items.{rules_of, kinds_in, rules_in}
-use Rattle.flux_driver.specs.TrueRuns.{IsJournalText}
-use Rattle.flux_driver.specs.Causes.{IsStatic, IsItemsText, IsMissing}
+use Rattle.flux_driver.specs.declared.files.TheConstants.{PROGRAM_FILE_LIMIT, ITEMS_FILE_LIMIT}
+use Rattle.flux_driver.specs.Origins.{named}
+use Rattle.flux_driver.specs.Inputs.{HasProgram, HasItems}
+use Rattle.flux_driver.specs.Causes.{IsStatic, IsItemsText, AreItemsLost, IsMissing}
 use Rattle.flux_driver.specs.Answers.{Libraries, Decided, Happened, IsCommands, IsAnswer, OrMemory}
 use Rattle.flux_driver.specs.Top.{HasAnswered, HasDone}
-use Rattle.flux_driver.proofs.Once.{text_is, decls_is, gives_here, not_faulty, items_there}
+use Rattle.flux_driver.proofs.Once.{not_lost, gives_here, not_faulty, fault_here}
 use Rattle.flux_driver.proofs.Documented.{docs_once, not_both}
 use Rattle.flux_driver.specs.Headline.{IsThere, HasRun, AreFaultless, RunsAreTrue, NoneRose, RunsAreAnswered}
 
@@ -48,7 +40,8 @@ module _ (library : Libraries) (words : List (List ℕ)) (before after : Seen) (
       → Gains before.out after.out text → WroteOrBroke before.err after.err line → HasRun library before after file items manner
   has_run text line (prints, none) out err =
       let says = prints.says in
-      let has = says.has in
+      let given = says.given in
+      let has = given.has in
       let program = has.program_ in
       let source = program.has in
       let true_run = says.true_run in
@@ -64,8 +57,8 @@ module _ (library : Libraries) (words : List (List ℕ)) (before after : Seen) (
           items_text = has.text;
           in_items = has.gives;
         };
-        its = says.its;
-        are_items = says.are_items;
+        its = given.its;
+        are_items = given.are;
         journal = says.journal;
         locks = true_run.locks;
         legal = true_run.legal;
@@ -91,9 +84,9 @@ module _ (library : Libraries) (words : List (List ℕ)) (before after : Seen) (
   true_by text line (inr (inr (memory, no_text, no_line))) out err = absurd cc
 
 -- all of the text was written, where the status says so
-gained : (before after : Stream) (text : List ℕ) → Wrote before after text ⊎ ((statuses.Done ≡ statuses.Write) × Broke before after text) → Gains before after text
+gained : (before after : Stream) (text : List ℕ) → Wrote before after text ⊎ (⊥ × Broke before after text) → Gains before after text
 gained before after text (inl wrote) = wrote.gains
-gained before after text (inr (same, broke)) = absurd cc
+gained before after text (inr (never, broke)) = absurd never
 
 pub runs_true : RunsAreTrue
 runs_true library words before after file items manner spelled done =
@@ -102,14 +95,6 @@ runs_true library words before after file items manner spelled done =
     (gained before.out after.out answered.text answered.out) answered.err
 
 -- ---- why it answers 0
-
--- the items are read by the same rules, whichever way the declarations are found sound
-same_rules : (meaning : LibraryMeaning) (one other : List Decl) (first : AreSound meaning one) (second : AreSound meaning other)
-    → one ≡ other → rules_in meaning one first ≡ rules_in meaning other second
-same_rules meaning one other first second same =
-    ap (λ (decls : List Decl). rules_of (program_of decls) (kinds_in meaning decls) first.locks) same
-    ∙ ap (λ (locks : Holds). rules_of (program_of other) (kinds_in meaning other) locks)
-    (locks_once (program_of other) first.locks second.locks (subst (λ (decls : List Decl). AreLocks (program_of decls) first.locks) same first.are_locks) second.are_locks)
 
 module _ (library : Libraries) (told : Told) (file items : List ℕ) (manner : Manner)
     (tells : TellsAll told (run file items manner)) (there : IsThere library told file items manner) where
@@ -121,47 +106,27 @@ module _ (library : Libraries) (told : Told) (file items : List ℕ) (manner : M
   abbrev meaning : LibraryMeaning
   meaning = library there.docs
 
-  abbrev decls_there : HasDecls told.files file there.decls
-  decls_there = record { text = there.text; gives = there.in_file; declared = there.declared }
+  abbrev program_there : HasProgram meaning told.files (named file) there.decls
+  program_there = record { has = record { text = there.text; gives = there.in_file; declared = there.declared }; sound = there.sound }
 
-  abbrev program_there : HasProgram meaning told.files file there.decls
-  program_there = record { has = decls_there; sound = there.sound }
-
-  abbrev items_here : HasItems meaning told.files file items
+  abbrev items_here : HasItems meaning told.files (named file) (named items)
   items_here = record { decls = there.decls; program_ = program_there; text = there.items_text; gives = there.in_items }
 
   not_static : (line : List ℕ) → IsStatic meaning (run file items manner) told.files line → ⊥
-  not_static line static = by_files told.files tells.files program_there static
-    where
-      by_files : (files : Files) → IsSome files → HasProgram meaning files file there.decls
-          → IsStatic meaning (run file items manner) files line → ⊥
-      by_files None some program s = absurd cc
-      by_files (Some held) some program s =
-          not_faulty meaning held file s.text s.fault there.decls program (gives_here meaning held file s.file s.text s.reads s.gives) s.stands
+  not_static line s =
+      not_faulty meaning told.files (named file) tells.files s.text s.fault there.decls program_there
+      (gives_here meaning told.files (named file) s.program s.text s.reads s.gives) s.stands
 
   not_missing : (line : List ℕ) → IsMissing meaning (run file items manner) told.files line → ⊥
-  not_missing line missing = by_files told.files tells.files items_here missing
+  not_missing line m = one m.lost
     where
-      by_files : (files : Files) → IsSome files → HasItems meaning files file items
-          → IsMissing meaning (run file items manner) files line → ⊥
-      by_files None some has m = absurd cc
-      by_files (Some held) some has m = items_there meaning held file items line manner has m
+      one : ((named m.name ≡ named file) × IsLost told.files m.name PROGRAM_FILE_LIMIT) ⊎ (AreItemsLost meaning (run file items manner) told.files m.name ⊎ ⊥) → ⊥
+      one (inl (same, lost)) = let own : m.name ≡ file = cc in not_lost told.files file PROGRAM_FILE_LIMIT there.text tells.files there.in_file (subst (λ (n : List ℕ). IsLost told.files n PROGRAM_FILE_LIMIT) own lost)
+      one (inr (inl late)) = not_lost told.files items ITEMS_FILE_LIMIT there.items_text tells.files there.in_items late.lost
+      one (inr (inr none)) = none
 
-  not_items : AreFaultless library told file items manner there → (line : List ℕ) → IsItemsText meaning told.files file items line → ⊥
-  not_items none line is = by_files told.files tells.files items_here is none
-    where
-      by_files : (files : Files) → IsSome files → (has : HasItems meaning files file items) → (is : IsItemsText meaning files file items line)
-          → ((fault : ItemFault) → IsFaultOf (let own = has.program_ in rules_in meaning has.decls own.sound) fault has.text → ⊥) → ⊥
-      by_files None some has s none = absurd cc
-      by_files (Some held) some has s none =
-          let other = s.has in
-          let program = has.program_ in
-          let others = other.program_ in
-          let decls : other.decls ≡ has.decls = decls_is held file other.decls has.decls others.has program.has in
-          let text : other.text ≡ has.text = text_is held items ITEMS_FILE_LIMIT other.text has.text other.gives has.gives in
-          let rules = same_rules meaning other.decls has.decls others.sound program.sound decls in
-          none s.fault (subst (λ (t : List ℕ). IsFaultOf (rules_in meaning has.decls program.sound) s.fault t) text
-          (subst (λ (r : ItemRules). IsFaultOf r s.fault other.text) rules s.stands))
+  not_items : AreFaultless library told file items manner there → (line : List ℕ) → IsItemsText meaning told.files (named file) (named items) line → ⊥
+  not_items none line is = none is.fault (fault_here meaning told.files (named file) tells.files (named items) tells.files items_here line is)
 
   done_or_memory : AreFaultless library told file items manner there → (status : Status) (text line : List ℕ)
       → (status ≡ statuses.Read → ⊥) → (status ≡ statuses.Write → ⊥)
@@ -172,7 +137,7 @@ module _ (library : Libraries) (told : Told) (file items : List ℕ) (manner : M
       absurd (not_static line (with_these (λ m. IsStatic m (run file items manner) told.files line) static))
   done_or_memory none statuses.Static text line r w (inr happened) = absurd happened
   done_or_memory none statuses.Items text line r w (inl (faulty, empty)) =
-      absurd (not_items none line (with_these (λ m. IsItemsText m told.files file items line) faulty))
+      absurd (not_items none line (with_these (λ m. IsItemsText m told.files (named file) (named items) line) faulty))
   done_or_memory none statuses.Items text line r w (inr happened) = absurd happened
   done_or_memory none statuses.Missing text line r w (inl (inl lost, empty)) =
       absurd (not_both told.folders manner.docs there.docs lost.name tells.docs there.are_docs lost.lost)

@@ -4,7 +4,7 @@ pub mod Once
 pub mod Fitting
 pub mod RuleLists
 pub mod Runs
-pub mod Prepared
+pub mod Loading
 pub mod Documented
 pub mod Answered
 pub mod Told

@@ -1,11 +1,14 @@
 pub mod steps
 pub mod Statuses
 pub mod Worlds
+pub mod Origins
 pub mod Documents
 pub mod Commands
 pub mod Inputs
 pub mod Items
+pub mod Summaries
 pub mod TrueRuns
+pub mod Audited
 pub mod Printed
 pub mod Causes
 pub mod Answers

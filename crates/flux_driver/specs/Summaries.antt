@@ -1,6 +1,5 @@
 -- The summary of a run: how many items and events, and the total that was counted.
-use Rattle.std.specs.Prelude.{◌&&◌, not, ℕ, Bool, true, false, List, ◌++◌, length, Option, Some, None, codes}
-use Rattle.std.specs.List.{filter, position}
+use Rattle.std.specs.Prelude.{◌&&◌, not, ℕ, pos, Bool, true, false, List, ◌++◌, count_by, position, Option, Some, None, codes}
 use Rattle.std.specs.Option.{option_map}
 use Rattle.std.specs.Str.{bytes_eq}
 use Rattle.std.specs.Fmt.{decimal}
@@ -22,9 +21,9 @@ abbrev pub is_step : Event → Bool
 is_step (Wait key mode) = false
 is_step other = true
 
--- the entries that are no waits
-abbrev pub steps_in : List Entry → List Entry
-steps_in entries = filter (λ entry. is_step entry.event) entries
+-- how many entries are no waits
+abbrev pub step_count : List Entry → ℕ
+step_count entries = count_by (λ entry. is_step entry.event) entries
 
 -- a class of the whole program that has this name
 abbrev pub is_shared : List ℕ → Class → Bool
@@ -38,11 +37,11 @@ shared_key p name =
 -- a value's number; 0 where there is none, or it is of another kind
 abbrev pub number_of : Option Value → Value
 number_of (Some (Int number)) = Int number
-number_of other = Int 0
+number_of other = Int (pos 0)
 
 -- the number under a name in a key's cell
 abbrev pub number_at : Cells → Option Key → List ℕ → Value
-number_at cells None name = Int 0
+number_at cells None name = Int (pos 0)
 number_at cells (Some key) name = number_of (get (cells key) name)
 
 -- the name `total` of the cell `counter`
@@ -53,5 +52,5 @@ total_in p cells = number_at cells (shared_key p (codes "counter")) (codes "tota
 abbrev pub printed_summary : Program → ℕ → List Entry → Cells → List ℕ
 printed_summary p flows entries cells =
     codes "items " ++ decimal flows
-    ++ codes "\nevents " ++ decimal (length (steps_in entries))
+    ++ codes "\nevents " ++ decimal (step_count entries)
     ++ codes "\ntotal " ++ printed_value (total_in p cells) ++ codes "\n"

@@ -6,15 +6,19 @@
 #![tactic(auto)]
 
 mod asking;
+mod audited;
 mod commands;
 mod documents;
 mod files;
 mod laws;
+mod loaded;
 mod outermost;
+mod prepared;
 mod refusals;
 mod rules;
 mod running;
 mod statuses;
+mod summaries;
 mod telling;
 mod texts;
 

@@ -1,6 +1,6 @@
 use Rattle.std.specs.Arc.{arc_value}
 use Rattle.std.specs.Prelude.{option_copied}
-use Rattle.flux_driver.proofs.Prepared.{refused_any}
+use Rattle.flux_driver.proofs.Loading.{refused_any}
 use Rattle.flux_driver.proofs.commands.prepare.Goals as goal
 
 pub returns-in-Run-clause-done : goal.returns-in-Run-clause-done

@@ -9,7 +9,7 @@ use Rattle.flux_driver.specs.steps.Refusals.{IsRefused}
 use Rattle.flux_driver.specs.steps.Preparing.{run_of}
 use Rattle.flux_driver.proofs.Steps.{if_ok, if_err}
 use Rattle.flux_driver.proofs.Passed.{passed}
-use Rattle.flux_driver.proofs.Prepared.{unread_items, run_refused, unread_firm, has_program, for_library, has_sources, asks_both, is_printed, items_refused, firm}
+use Rattle.flux_driver.proofs.Loading.{unread_items, run_refused, unread_firm, has_program, for_library, has_sources, asks_both, is_printed, items_refused, firm}
 use Rattle.flux_driver.proofs.commands.prepare_run.Goals as goal
 
 -- ---- the text has a fault
