@@ -153,8 +153,8 @@ module _ {L : Type 0} (meaning : L → LibraryMeaning) (old : CoreState L) (kept
             (subst (IsNextCall setup old.entries flow.0) is begins.next)
         by other given (inr (apart, is)) = kept.calls other given is
 
-    pub kept-finish : (inputs : Inputs) (answer : Answer) (new : CoreState L) → EndsCall meaning old new flow inputs answer
-        → IsKept meaning new
+    pub kept-finish : (inputs : Inputs) (answer : Answer) (new : CoreState L)
+        → EndsCall meaning old new flow inputs answer → IsKept meaning new
     kept-finish inputs answer new ends = subst (IsKept meaning) (sym ends.new_) (record {
       lawful = kept.lawful;
       kinds = kept.kinds;

@@ -3,3 +3,4 @@ mod Comes
 mod LegalRuns
 mod Moved
 pub mod Sequels
+pub mod Crossing

@@ -31,7 +31,6 @@ use Rattle.flow_state.specs.declared.coming.Coming.{Coming}
 use Rattle.flow_state.specs.declared.coming.Coming.TheVariants as comings
 use Rattle.flow_state.specs.States.{setup_at}
 use Rattle.flow_state.specs.Coming.{event_of, IsComing, Comes}
-use Rattle.flow_state.specs.Blockers.{IsBlockedAt}
 use Rattle.flow_state.specs.steps.Places.{key_in, IsPlaceOf, event_for, IsEventComing}
 use Rattle.flow_state.specs.steps.Places as places
 use Rattle.flow_state.specs.steps.Fields.{state_of, plans_of, AreFields}
@@ -193,13 +192,6 @@ module _ {L : Type 0} (meaning : L → LibraryMeaning) (r : Fields L) (is : AreF
       pub free-take : (IsBlocked setup entries flow.0 → ⊥) → (other : ℕ) → Blocks entries other flow.0 key mode → ⊥
       free-take free other blocks =
           free (other, record { key = key; mode = mode; next = take-is_next; blocked = blocks })
-
-      pub some-blocked : (other : ℕ) → Blocks entries other flow.0 key mode → IsBlockedAt setup entries flow.0 key
-      some-blocked other blocks = record {
-        mode = mode;
-        next = take-is_next;
-        blocked = (other, record { key = key; mode = mode; next = take-is_next; blocked = blocks });
-      }
 
     -- ---- a drop
 

@@ -66,7 +66,8 @@ none-read meaning p cells session node known guarded none read empty =
       sig = known.sig;
       is_sig = found;
       read_ = empty ∙ sym
-          (ap (λ (uses : List CellUse). cells_by p cells session (declared p node) uses) (guarded none known.sig found));
+          (ap (λ (uses : List CellUse). cells_by p cells session (declared p node) uses)
+          (guarded none known.sig found));
     }
 
 module _ {L : Type 0} (meaning : L → LibraryMeaning) (r : Fields L) (is : AreFields meaning r) (flow : FlowNo) where

@@ -1,4 +1,4 @@
-pub mod Entries
+mod Entries
 mod Held
 mod Lines
 pub mod Tables

@@ -322,17 +322,17 @@ module _ {L : Type 0} (meaning : L → LibraryMeaning) (r : Fields L) (is : AreF
           → AreFields meaning (Moved place locks r.made r.live)
       wait-refused place read = still place (read-there place wait-within read)
 
-      module _ (place : Place) (read : place ≡ get_or items flow.0 place) (new : Place) (local : new.local ≡ place.local)
-          (session : new.session ≡ place.session) (stands : new.stands ≡ true) (locks : Locks)
-          (waits : Waits r.table locks flow key mode) (made : List Entry)
+      module _ (place : Place) (read : place ≡ get_or items flow.0 place) (new : Place)
+          (local : new.local ≡ place.local) (session : new.session ≡ place.session)
+          (stands : new.stands ≡ true) (locks : Locks) (waits : Waits r.table locks flow key mode) (made : List Entry)
           (added : made ≡ entries ++ record { flow = flow; event = Wait key mode } ∷ []) where
         pub waits-running : AreFields meaning (Moved new locks made r.live)
         waits-running = record {
           given = is.given;
           after = subst (λ (es : List Entry). IsAfter setup (plans_of r) es (slice_set items flow.0 new) locks
               (cells_of r.cells)) (sym added)
-              (moved-wait setup (plans_of r) is.given entries items r.table (cells_of r.cells) is.after flow key mode may
-              place (read-there place wait-within read) new local session stands locks waits);
+              (moved-wait setup (plans_of r) is.given entries items r.table (cells_of r.cells) is.after flow key mode
+              may place (read-there place wait-within read) new local session stands locks waits);
           live = is.live ∙ sym (live-still entries flow (Wait key mode) (length setup.items) refl) ∙ ap
               (λ (es : List Entry). live_in es (length setup.items)) (sym added);
         }

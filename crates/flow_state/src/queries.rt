@@ -45,14 +45,7 @@ impl<L: Library> Fields<L> {
             MatchOption result (IsBlocked setup self.now.made flow.0 → ⊥)
             (IsBlockedAt setup self.now.made flow.0) }
     {
-        let Next::Take(class, mode) = self.next(flow) else {
-            return None;
-        };
-        let key = self.key(flow, class);
-        match self.table.holder(flow, key, mode) {
-            Some(_) => Some(key),
-            None => None,
-        }
+        Some(self.stop_at(flow)?.key)
     }
 
     /// Where a flow is blocked.

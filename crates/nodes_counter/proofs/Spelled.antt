@@ -39,7 +39,7 @@ refused bytes fault other answers = none_spelled bytes (λ z spells. told (answe
 number_read : (bytes : List ℕ) (v : Value) (n : ℕ) (z : ℤ) → Answers bytes (Ok (v, n)) → Spells bytes (values.Int z) → (v ≡ values.Int z) × (n ≡ length bytes)
 number_read bytes v n z answers spells = told (answers (values.Int z) (length bytes) (longest bytes z spells))
   where
-    told : IsOrMemory faults.Memory (Ok (values.Int z, length bytes)) (Ok (v, n)) → (v ≡ values.Int z) × (n ≡ length bytes)
+    told : IsOrMemory {A = Value × ℕ} faults.Memory (Ok (values.Int z, length bytes)) (Ok (v, n)) → (v ≡ values.Int z) × (n ≡ length bytes)
     told (inl e) = let p : (v, n) ≡ (values.Int z, length bytes) = cc in (ap (λ (q : Value × ℕ). q.0) p, ap (λ (q : Value × ℕ). q.1) p)
     told (inr e) = absurd cc
 

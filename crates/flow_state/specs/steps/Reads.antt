@@ -53,4 +53,5 @@ pub record AreKeys (setup : Setup) (flow node : ℕ) (keys : List Key) : Type 0 
   pub is_item : item_of setup flow ≡ Some item
   pub line : SourceLine
   pub is_line : slice_get setup.program.sources item.source.0 ≡ Some line
-  pub keys_ : keys ≡ map (λ (hold : Hold). flow_key setup.program setup.meaning line item.values hold.class) (declared setup.program node)
+  pub keys_ : keys ≡ map (λ (hold : Hold). flow_key setup.program setup.meaning line item.values hold.class)
+      (declared setup.program node)

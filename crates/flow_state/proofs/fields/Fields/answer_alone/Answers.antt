@@ -30,10 +30,10 @@ returns-clause-fields g c =
     let new : Place = record { local = c.answered.new.local; session = place.session; stands = place.stands } in
     let keys : List Key = map (λ (hold : Hold). key_in (arc_value setup.program) place.session hold.class)
     (declared (arc_value setup.program) c.args.inputs.now.node.0) in
-    made-running g.L.Meaning.meaning r c.requires.fields c.args.flow c.args.inputs.now c.requires.next c.requires.coming place
-    at c.args.answer.now c.requires.right new c.in_ok-answered.ensures.ok refl refl
-    keys (keys-right g.L.Meaning.meaning r c.requires.fields c.args.flow c.args.inputs.now.node c.requires.coming place
-    at keys refl) r.cells
+    made-running g.L.Meaning.meaning r c.requires.fields c.args.flow c.args.inputs.now c.requires.next
+    c.requires.coming place at c.args.answer.now c.requires.right new c.in_ok-answered.ensures.ok refl refl
+    keys (keys-right g.L.Meaning.meaning r c.requires.fields c.args.flow c.args.inputs.now.node c.requires.coming
+    place at keys refl) r.cells
     (sym (ap (λ (puts : List Put). applied (arc_value setup.program) keys (cells_of r.cells) puts) c.requires.alone))
     c.add_call.new.self c.add_call.ensures
 
@@ -47,9 +47,9 @@ returns-clause-ok g c =
     let new : Place = record { local = c.answered.new.local; session = place.session; stands = place.stands } in
     let keys : List Key = map (λ (hold : Hold). key_in (arc_value setup.program) place.session hold.class)
     (declared (arc_value setup.program) c.args.inputs.now.node.0) in
-    made-adds g.L.Meaning.meaning r c.requires.fields c.args.flow c.args.inputs.now c.requires.next c.requires.coming place
-    at c.args.answer.now c.requires.right new c.in_ok-answered.ensures.ok refl refl
-    keys (keys-right g.L.Meaning.meaning r c.requires.fields c.args.flow c.args.inputs.now.node c.requires.coming place
-    at keys refl) r.cells
+    made-adds g.L.Meaning.meaning r c.requires.fields c.args.flow c.args.inputs.now c.requires.next c.requires.coming
+    place at c.args.answer.now c.requires.right new c.in_ok-answered.ensures.ok refl refl
+    keys (keys-right g.L.Meaning.meaning r c.requires.fields c.args.flow c.args.inputs.now.node c.requires.coming
+    place at keys refl) r.cells
     (sym (ap (λ (puts : List Put). applied (arc_value setup.program) keys (cells_of r.cells) puts) c.requires.alone))
     c.add_call.new.self c.add_call.ensures

@@ -24,7 +24,8 @@ returns-clause-fields g c =
     (within-places g.L.Meaning.meaning r c.requires.fields c.args.flow.0 c.requires.flow) c.index.ensures
     c.index_mut-place.ensures.value in
     let new : Place = record { local = c.answered.new.local; session = other.session; stands = other.stands } in
-    made-running g.L.Meaning.meaning r c.requires.fields c.args.flow c.args.inputs.now c.requires.next c.requires.coming place
+    made-running g.L.Meaning.meaning r c.requires.fields c.args.flow c.args.inputs.now c.requires.next
+    c.requires.coming place
     (read-there g.L.Meaning.meaning r c.requires.fields c.args.flow place c.requires.flow c.index.ensures)
     c.args.answer.now c.requires.right
     new (rw c.in_ok-ahead.ensures at c.in_ok-answered.ensures.ok) (ap (λ (p : Place). p.session) (sym same))
@@ -43,8 +44,8 @@ returns-clause-ok g c =
     (within-places g.L.Meaning.meaning r c.requires.fields c.args.flow.0 c.requires.flow) c.index.ensures
     c.index_mut-place.ensures.value in
     let new : Place = record { local = c.answered.new.local; session = other.session; stands = other.stands } in
-    made-adds g.L.Meaning.meaning r c.requires.fields c.args.flow c.args.inputs.now c.requires.next c.requires.coming place
-    (read-there g.L.Meaning.meaning r c.requires.fields c.args.flow place c.requires.flow c.index.ensures)
+    made-adds g.L.Meaning.meaning r c.requires.fields c.args.flow c.args.inputs.now c.requires.next c.requires.coming
+    place (read-there g.L.Meaning.meaning r c.requires.fields c.args.flow place c.requires.flow c.index.ensures)
     c.args.answer.now c.requires.right
     new (rw c.in_ok-ahead.ensures at c.in_ok-answered.ensures.ok) (ap (λ (p : Place). p.session) (sym same))
     (ap (λ (p : Place). p.stands) (sym same))

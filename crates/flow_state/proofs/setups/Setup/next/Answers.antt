@@ -12,7 +12,8 @@ next-requires g c = record {
   reached = rw (c.deref.ensures, c.deref-2.ensures)
       (subst (λ (p : Plan). IsReached p (matches_by (g.L.Meaning.meaning (arc_value c.args.self.now.library))
       (arc_value c.args.self.now.program)) c.args.local.now)
-      (one-plan _ (slice_get c.args.self.now.items c.args.flow.0) _ _ c.requires.is_plan c.plan.ensures) c.requires.holds);
+      (one-plan _ (slice_get c.args.self.now.items c.args.flow.0) _ _ c.requires.is_plan c.plan.ensures)
+      c.requires.holds);
 }
 
 pub returns : goal.returns

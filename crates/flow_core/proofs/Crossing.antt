@@ -1,4 +1,4 @@
--- A core may cross threads.
+-- A core may cross threads where its library may: the prover alone does not look so deep into its fields.
 use denote.RattleType.{RattleType}
 use denote.Param.Send.{IsSend, IsSync, sendable, view_send}
 use denote.Param.SendFields.{declared_send}
@@ -18,7 +18,7 @@ use Rattle.flow_core.specs.contracts.cores.Core as core
 use Rattle.flow_core.specs.contracts.cores.Core.TheInside as core_fields
 use Rattle.flow_core.specs.contracts.fields.Fields as inner
 
-pub made_send : IsSend made.the_row
+made_send : IsSend made.the_row
 made_send = search (crosses, sendable) depth 80
 
 module _ (L : RattleType) (m : meaning.Ghosts L.Denot) where
