@@ -9,4 +9,7 @@ pub mod Documented
 pub mod Answered
 pub mod Told
 pub mod Passed
+pub mod Answering
 mod Headline
+mod Audits
+mod Loads

@@ -2,6 +2,7 @@
 use Rattle.std.proofs.Common.{◌≡◌, ◌<◌, ℕ, zero, suc, inl, inr, ◌⊎◌, List, [], ◌∷◌, ◌++◌, length, Option, Some, None, Result, Ok, Err, IfOk, IfErr, refl, sym, ap, subst, ◌∙◌, append_assoc, arith}
 use Rattle.std.specs.List.{AllByRecursion, slice_get}
 use Rattle.std.specs.Result.{IsErrAnd}
+use Rattle.std.proofs.lemmas.List.{append-nil}
 use Rattle.flux_values.specs.Identifiers.{IsIdentifier}
 use Rattle.flux_values.specs.Meanings.{LibraryMeaning}
 use Rattle.flux_outside.specs.declared.stores.File.TheVariants.{Found}
@@ -95,15 +96,6 @@ counts_items rules text (refusals.Missing name) before after are same = absurd a
 
 pub counts_from : (refusal : Refusal) (before mid after : ℕ) → mid ≡ before → CountsRefusal refusal mid after → CountsRefusal refusal before after
 counts_from refusal before mid after same counts = subst (λ (n : ℕ). CountsRefusal refusal n after) same counts
-
--- so does why nothing was loaded
-pub counts_unloaded : (meaning : LibraryMeaning) (told : Files) (program items : Origin) (refusal : Refusal) (before after : ℕ) → (refusal ≡ refusals.Read → ⊥) → after ≡ before → CountsRefusal refusal before after
-counts_unloaded meaning told program items refusals.Read before after other same = absurd (other refl)
-counts_unloaded meaning told program items (refusals.Static line) before after other same = same
-counts_unloaded meaning told program items refusals.Memory before after other same = same
-counts_unloaded meaning told program items refusals.Usage before after other same = same
-counts_unloaded meaning told program items (refusals.Items fault) before after other same = same
-counts_unloaded meaning told program items (refusals.Missing name) before after other same = same
 
 -- ---- what could not be read
 
@@ -211,7 +203,47 @@ module _ (meaning : LibraryMeaning) (told : Files) where
   unloaded_reads program items refusals.Memory u tells stands = absurd stands
   unloaded_reads program items refusals.Usage u tells stands = absurd stands
 
+-- texts that a command makes are not read
+pub counts_made : (meaning : LibraryMeaning) (told : Files) (text items : List ℕ) (refusal : Refusal) (faults : ℕ) → IsUnloaded meaning told (made text) (made items) refusal → CountsRefusal refusal faults faults
+counts_made meaning told text items refusals.Read faults (name, is) = absurd cc
+counts_made meaning told text items (refusals.Static line) faults u = refl
+counts_made meaning told text items refusals.Memory faults u = refl
+counts_made meaning told text items refusals.Usage faults u = refl
+counts_made meaning told text items (refusals.Items fault) faults u = refl
+counts_made meaning told text items (refusals.Missing name) faults u = refl
+
+pub asks_none : (meaning : LibraryMeaning) (told : Files) (count first : ℕ) (runtime : Runtime) (before : List (List ℕ)) → AsksFiles meaning (load count first runtime) told before before
+asks_none meaning told count first runtime before = record { names = []; more = sym (append-nil before); are = refl }
+
 -- ---- what was asked for
+
+both_err : (file items : List ℕ) (names : List (List ℕ)) (result : Result Loaded Refusal) (own : Refusal) → IsErrAnd result (λ e. e ≡ own) → AsksBoth file items result names
+both_err file items names (Ok loaded) own is = absurd is
+both_err file items names (Err e) own is = tt
+
+pub asks_first : (meaning : LibraryMeaning) (told : Files) (file items : List ℕ) (result : Result Loaded Refusal) (own : Refusal) (before after : List (List ℕ)) → IsErrAnd result (λ e. e ≡ own) → after ≡ before ++ file ∷ [] → AsksTwo meaning told file items result before after
+asks_first meaning told file items result own before after is first = record { names = file ∷ []; more = first; are = inl refl; both = both_err file items (file ∷ []) result own is }
+
+asks_more : (before mid after : List (List ℕ)) (file items : List ℕ) → mid ≡ before ++ file ∷ [] → after ≡ mid ++ items ∷ [] → after ≡ before ++ file ∷ items ∷ []
+asks_more before mid after file items first second = second ∙ ap (λ (l : List (List ℕ)). l ++ items ∷ []) first ∙ append_assoc before (file ∷ []) (items ∷ [])
+
+pub asks_second : (meaning : LibraryMeaning) (told : Files) (file items : List ℕ) (result : Result Loaded Refusal) (own : Refusal) (before mid after : List (List ℕ)) → IsErrAnd result (λ e. e ≡ own) → mid ≡ before ++ file ∷ [] → after ≡ mid ++ items ∷ []
+    → (decls : List Decl) → HasProgram meaning told (named file) decls → AsksTwo meaning told file items result before after
+asks_second meaning told file items result own before mid after is first second decls program_ = record {
+  names = file ∷ items ∷ [];
+  more = asks_more before mid after file items first second;
+  are = inr (refl, decls, program_);
+  both = both_err file items (file ∷ items ∷ []) result own is;
+}
+
+pub asks_loaded : (meaning : LibraryMeaning) (told : Files) (file items : List ℕ) (loaded : Loaded) (before mid after : List (List ℕ)) → mid ≡ before ++ file ∷ [] → after ≡ mid ++ items ∷ []
+    → (decls : List Decl) → HasProgram meaning told (named file) decls → AsksTwo meaning told file items (Ok loaded) before after
+asks_loaded meaning told file items loaded before mid after first second decls program_ = record {
+  names = file ∷ items ∷ [];
+  more = asks_more before mid after file items first second;
+  are = inr (refl, decls, program_);
+  both = refl;
+}
 
 pub run_asks : (meaning : LibraryMeaning) (told : Files) (file items : List ℕ) (manner : Manner) (result : Result Loaded Refusal) (before after : List (List ℕ)) → AsksTwo meaning told file items result before after → AsksFiles meaning (run file items manner) told before after
 run_asks meaning told file items manner result before after asks = record { names = asks.names; more = asks.more; are = asks.are }

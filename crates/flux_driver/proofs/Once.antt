@@ -17,7 +17,9 @@ use Rattle.flux_items.specs.declared.rules.ItemRules.{ItemRules}
 use Rattle.flux_items.specs.declared.rules.ItemFault.{ItemFault}
 use Rattle.flux_items.specs.Rules.{AreRules}
 use Rattle.flux_items.specs.Items.{AreItemsOf}
-use Rattle.flux_items.specs.Faults.{IsFaultOf, IsOrMemory}
+use Rattle.flux_values.specs.Answers.{IsOrMemory}
+use Rattle.flux_items.specs.declared.rules.ItemFault.TheVariants as item_faults
+use Rattle.flux_items.specs.Faults.{IsFaultOf}
 use Rattle.flux_items.proofs.OneAnswer.{no_items_and_fault, answers_items}
 use Rattle.flow_model.specs.Setup.{Setup}
 use Rattle.flux_audit.specs.declared.verdicts.Rule.{Rule}
@@ -108,7 +110,7 @@ module _ (meaning : LibraryMeaning) (told : Files) where
         no_fault line g is = let h = g.has in let x = h.program_ in
             no_items_and_fault (rules_in meaning h.decls x.sound) (read.rules h.decls x) h.text g.its is.fault g.are (fault_here h line is)
 
-        of_ok : (own its : List Item) → IsOrMemory _ (Ok own) (Ok its) → its ≡ own
+        of_ok : (own its : List Item) → IsOrMemory {A = List Item} item_faults.Memory (Ok own) (Ok its) → its ≡ own
         of_ok own its (inl e) = cc
         of_ok own its (inr e) = absurd cc
 

@@ -15,3 +15,5 @@ pub mod Answers
 pub mod Top
 pub mod BuiltIn
 pub mod Headline
+pub mod Audits
+pub mod Loads

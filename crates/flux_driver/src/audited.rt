@@ -34,7 +34,8 @@ fn judge<L: Library>(
 {
     let plans = compile(alloc, &checked)?;
     let program = Arc::new(alloc, checked.program)?;
-    audit(alloc, set_up(alloc, library, program, plans, items)?, journal)
+    let setup = set_up(alloc, library, program, plans, items)?;
+    audit(alloc, setup, journal)
 }
 
 /// The line of the verdict on a journal of the items.

@@ -179,16 +179,16 @@ fn prepare_load<'a, L: Library, G: Gate>(
         (load count first runtime) told) }
     ensures refused { (told : Files) → IfErr result (IsRefused (L.meaning (arc_value library))
         (load count first runtime) told) }
-    ensures counts { Counts result 0 0 }
+    ensures counts { (faults : ℕ) → Counts result faults faults }
     ensures firm { (told : Files) → IsFirm (L.meaning (arc_value library))
         (load count first runtime) told (prepared_status result) }
 {
-    let (text, items_text) = make(alloc, count, first)?;
-    let loaded = load_texts(alloc, &*library, text.as_bytes(), items_text.as_bytes())?;
+    let (program, items) = make(alloc, count, first)?;
+    let loaded = load_texts(alloc, &*library, program.as_bytes(), items.as_bytes())?;
     let printing = Printing::Summary;
     let wanted = Wanted { runtime, printing };
-    let text = run_items(alloc, library, loaded.checked, loaded.items, wanted, gate)?;
-    Ok(Prepared::Text(text))
+    let summary = run_items(alloc, library, loaded.checked, loaded.items, wanted, gate)?;
+    Ok(Prepared::Text(summary))
 }
 
 /// What `help` prints.

@@ -126,7 +126,8 @@ pub fn run_items<L: Library, G: Gate>(
     let plans = compile(alloc, &checked)?;
     let program = Arc::new(alloc, checked.program)?;
     let kept = Arc::try_clone(&program)?;
-    let core = Core::new(alloc, set_up(alloc, library, program, plans, items)?)?;
+    let setup = set_up(alloc, library, program, plans, items)?;
+    let core = Core::new(alloc, setup)?;
     let (journal, cells) = drive(core, wanted.runtime, gate)?;
     print(alloc, wanted.printing, &kept, flows, &journal, &cells)
 }
