@@ -168,10 +168,11 @@ module _ (setup : Setup) (entries : List Entry) (old new : Pools) (from flow : �
   exist : (other : ℕ) → IsReady new other → other < length setup.items
   exist other ready = covers.exist other (less_there old.ready new.ready flow less other ready)
 
-  -- one that has ended
-  pub without_ended : new.readers ≡ old.readers → new.writers ≡ old.writers → (IsLive setup entries flow → ⊥)
-      → Covers setup entries new from
-  without_ended readers writers ended = record {
+  -- one that is covered otherwise, with all rooms as they were
+  without-own : new.readers ≡ old.readers → new.writers ≡ old.writers
+      → (IsLive setup entries flow → IsCovered setup entries new from flow)
+      → ((key : Key) (mode : Mode) → IsFresh setup entries flow key mode → ⊥) → Covers setup entries new from
+  without-own readers writers own stale = record {
     each = each;
     fresh = λ key mode other parked. covers.fresh key mode other (back key mode other parked);
     apart = λ key mode other parked ready. covers.apart key mode other (back key mode other parked)
@@ -193,37 +194,20 @@ module _ (setup : Setup) (entries : List Entry) (old new : Pools) (from flow : �
       each other live = by (cases_eq flow other)
         where
           by : (flow ≡ other) ⊎ (flow ≡ other → ⊥) → IsCovered setup entries new from other
-          by (inl own) = absurd (ended (subst (IsLive setup entries) (sym own) live))
-          by (inr apart) = others stay (λ k m o parked fresh. absurd (ended fresh.live)) other apart live
+          by (inl is) = subst (IsCovered setup entries new from) is (own (subst (IsLive setup entries) (sym is) live))
+          by (inr apart) = others stay (λ k m o parked fresh. absurd (stale k m fresh)) other apart live
+
+  -- one that has ended
+  pub without_ended : new.readers ≡ old.readers → new.writers ≡ old.writers → (IsLive setup entries flow → ⊥)
+      → Covers setup entries new from
+  without_ended readers writers ended =
+      without-own readers writers (λ live. absurd (ended live)) (λ key mode fresh. ended fresh.live)
 
   -- one that is blocked, and stands in a line
   pub without_standing : new.readers ≡ old.readers → new.writers ≡ old.writers → IsInLine setup entries flow
       → Covers setup entries new from
-  without_standing readers writers line = record {
-    each = each;
-    fresh = λ key mode other parked. covers.fresh key mode other (back key mode other parked);
-    apart = λ key mode other parked ready. covers.apart key mode other (back key mode other parked)
-        (less_there old.ready new.ready flow less other ready);
-    exist = exist;
-  }
-    where
-      same : (mode : Mode) → rooms_for new mode ≡ rooms_for old mode
-      same Reader = readers
-      same Writer = writers
-
-      stay : (k : Key) (m : Mode) (other : ℕ) → IsParked old k m other → IsParked new k m other
-      stay k m other parked = rw (same m) parked
-
-      back : (k : Key) (m : Mode) (other : ℕ) → IsParked new k m other → IsParked old k m other
-      back k m other parked = rw (same m) at parked
-
-      each : (other : ℕ) → IsLive setup entries other → IsCovered setup entries new from other
-      each other live = by (cases_eq flow other)
-        where
-          by : (flow ≡ other) ⊎ (flow ≡ other → ⊥) → IsCovered setup entries new from other
-          by (inl own) = inr (inl (subst (IsInLine setup entries) own line))
-          by (inr apart) = others stay (λ k m o parked fresh. absurd
-              (fresh.stands_nowhere line.key line.mode line.place line.stands)) other apart live
+  without_standing readers writers line = without-own readers writers (λ live. inr (inl line))
+      (λ key mode fresh. fresh.stands_nowhere line.key line.mode line.place line.stands)
 
   -- one that is blocked, and has a place in a room now
   pub without_parked : (key : Key) (mode : Mode) → IsParkedSo old new key mode flow → IsParked new key mode flow

@@ -125,7 +125,8 @@ module _ {L : Type 0} (meaning : L → LibraryMeaning) (start old new : CoreStat
   turn-drains =
       let setup = setup_in meaning start in
       let moves = start-moves in
-      scheduling-more (IsLowestsTurn setup start.entries) setup start.entries old.entries kept new.entries flow moves.event
+      scheduling-more (IsLowestsTurn setup start.entries) setup start.entries old.entries kept new.entries flow
+      moves.event
       (subst (λ es. IsLowest setup es flow.0) kept.added
       (subst (λ s. IsLowest s old.entries flow.0) (same-setup meaning start old same)
       (first-lowest (setup_in meaning old) old.entries flow.0 chosen.first))) moves.makes

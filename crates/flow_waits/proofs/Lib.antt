@@ -1,17 +1,17 @@
-pub mod Others
-pub mod Blocked
-pub mod Sets
-pub mod Keyed
+mod Others
+mod Blocked
+mod Sets
+mod Keyed
 pub mod Orders
-pub mod Membership
-pub mod Choosing
-pub mod Waking
-pub mod Woken
-pub mod Told
+mod Membership
+mod Choosing
+mod Waking
+mod Woken
+mod Told
 pub mod Turning
-pub mod Lowest
+mod Lowest
 pub mod Ending
 pub mod Counting
 pub mod Schedules
-pub mod Driving
+mod Driving
 mod Aside

@@ -26,7 +26,8 @@ pub each-more : (Is : List Entry → FlowNo → Event → Type 0) (entries : Lis
     → EachStands Is entries → Is entries flow event
     → EachStands Is (entries ++ record { flow = flow; event = event } ∷ [])
 each-more Is entries flow event each own before after f e stands =
-    by (end_or_front entries (record { flow = flow; event = event }) before (record { flow = f; event = e }) after stands)
+    by (end_or_front entries (record { flow = flow; event = event }) before (record { flow = f; event = e })
+    after stands)
   where
     by : IsEnd entries (record { flow = flow; event = event }) before (record { flow = f; event = e }) after
         ⊎ InFront entries (record { flow = flow; event = event }) before (record { flow = f; event = e }) after

@@ -132,8 +132,8 @@ module _ (setup : Setup) (entries : List Entry) (legal : IsLegal setup entries) 
           (woken-covered setup entries one two key Writer from second flow is)
 
       served-room : (mode : Mode) (flow : ℕ) → IsParked pools key mode flow → IsCovered setup entries new from flow
-      served-room Reader flow parked = after-one flow (woken-owed setup entries pools one key Reader from first are-fresh
-          flow parked)
+      served-room Reader flow parked = after-one flow
+          (woken-owed setup entries pools one key Reader from first are-fresh flow parked)
       served-room Writer flow parked = by (woken-kept setup entries pools one key Reader from first key Writer flow
           parked)
         where

@@ -90,12 +90,13 @@ module _ (setup : Setup) (before : List Entry) (flow : FlowNo) (event : Event)
         inl (next-unique setup before flow.0 (End outcome) (Take key mode) may.next next)
 
     module _ (other : ℕ) (apart : flow.0 ≡ other → ⊥) where
-      still-blocked : (key : Key) (mode : Mode) → IsNext setup before other (Take key mode) → IsBlocked setup before other
-          → (event ≡ Drop key → ⊥) → IsBlocked setup entries other
+      still-blocked : (key : Key) (mode : Mode) → IsNext setup before other (Take key mode)
+          → IsBlocked setup before other → (event ≡ Drop key → ⊥) → IsBlocked setup entries other
       still-blocked key mode next blocked kept = blocked_stay setup before flow event legal other key mode apart next
           blocked kept
 
-      in-line : IsInLine setup before other → IsCovered setup entries pools from other ⊎ IsOwed entries event pools other
+      in-line : IsInLine setup before other → IsCovered setup entries pools from other
+          ⊎ IsOwed entries event pools other
       in-line line = by (drops_or_not event line.key)
         where
           stands : StandsAt entries other line.key line.mode line.place

@@ -11,7 +11,8 @@ use Rattle.flow_waits.proofs.candidates.Candidates.first_beside.Goals as goal
 
 pub is_ended-requires : goal.is_ended-requires
 is_ended-requires g c =
-    aside-exist g.L.Meaning.meaning c.args.core.now c.journal-journal.ensures.kept c.args.from c.loop-number.self c.loop-number.aside
+    aside-exist g.L.Meaning.meaning c.args.core.now c.journal-journal.ensures.kept c.args.from c.loop-number.self
+    c.loop-number.aside
     c.loop-number.invariant c.in-Some.number
     (let e = subst (λ pools. IsEarliest pools.ready c.args.from c.in-Some.number) c.self.view_is c.in-Some.ensures
     in e.is)
@@ -23,7 +24,8 @@ loop-number-preserved-then-is_ended g c =
       readers = c.self.inside.readers;
       writers = c.self.inside.writers;
     } in
-    aside-ended g.L.Meaning.meaning c.args.core.now c.journal-journal.ensures.kept c.args.from c.loop-number.self c.loop-number.aside
+    aside-ended g.L.Meaning.meaning c.args.core.now c.journal-journal.ensures.kept c.args.from c.loop-number.self
+    c.loop-number.aside
     c.loop-number.invariant now c.in-Some.number
     (let e = subst (λ pools. IsEarliest pools.ready c.args.from c.in-Some.number) c.self.view_is c.in-Some.ensures
     in e.is)
@@ -34,7 +36,8 @@ loop-number-preserved-then-is_ended g c =
 
 pub is_calling-requires : goal.is_calling-requires
 is_calling-requires g c =
-    aside-exist g.L.Meaning.meaning c.args.core.now c.journal-journal.ensures.kept c.args.from c.loop-number.self c.loop-number.aside
+    aside-exist g.L.Meaning.meaning c.args.core.now c.journal-journal.ensures.kept c.args.from c.loop-number.self
+    c.loop-number.aside
     c.loop-number.invariant c.in-Some.number
     (let e = subst (λ pools. IsEarliest pools.ready c.args.from c.in-Some.number) c.self.view_is c.in-Some.ensures
     in e.is)
@@ -46,7 +49,8 @@ loop-number-preserved-then-is_calling g c =
       readers = c.self.inside.readers;
       writers = c.self.inside.writers;
     } in
-    aside-more g.L.Meaning.meaning c.args.core.now c.journal-journal.ensures.kept c.args.from c.loop-number.self c.loop-number.aside
+    aside-more g.L.Meaning.meaning c.args.core.now c.journal-journal.ensures.kept c.args.from c.loop-number.self
+    c.loop-number.aside
     c.loop-number.invariant now c.add.new.self c.in-Some.number
     (let e = subst (λ pools. IsEarliest pools.ready c.args.from c.in-Some.number) c.self.view_is c.in-Some.ensures
     in e.is)
@@ -57,7 +61,8 @@ loop-number-preserved-then-is_calling g c =
 
 pub stop_at-requires : goal.stop_at-requires
 stop_at-requires g c =
-    aside-exist g.L.Meaning.meaning c.args.core.now c.journal-journal.ensures.kept c.args.from c.loop-number.self c.loop-number.aside
+    aside-exist g.L.Meaning.meaning c.args.core.now c.journal-journal.ensures.kept c.args.from c.loop-number.self
+    c.loop-number.aside
     c.loop-number.invariant c.in-Some.number
     (let e = subst (λ pools. IsEarliest pools.ready c.args.from c.in-Some.number) c.self.view_is c.in-Some.ensures
     in e.is)
@@ -65,7 +70,8 @@ stop_at-requires g c =
 pub loop-number-preserved : goal.loop-number-preserved
 loop-number-preserved g c =
     let setup = setup_in g.L.Meaning.meaning c.args.core.now in
-    aside-parked g.L.Meaning.meaning c.args.core.now c.journal-journal.ensures.kept c.args.from c.loop-number.self c.loop-number.aside
+    aside-parked g.L.Meaning.meaning c.args.core.now c.journal-journal.ensures.kept c.args.from c.loop-number.self
+    c.loop-number.aside
     c.loop-number.invariant c.park.new.self c.in-Some.number c.in-Some-stop_at.stop
     (let e = subst (λ pools. IsEarliest pools.ready c.args.from c.in-Some.number) c.self.view_is c.in-Some.ensures
     in e.is)
@@ -74,7 +80,8 @@ loop-number-preserved g c =
     (beside c.park.new.self c.loop-number.aside) c.args.from c.in-Some.number c.in-Some-stop_at.stop
     (let kept = c.journal-journal.ensures.kept in kept.legal) covers parks
     (live-is setup c.args.core.now.entries c.in-Some.number
-    (aside-exist g.L.Meaning.meaning c.args.core.now c.journal-journal.ensures.kept c.args.from c.loop-number.self c.loop-number.aside
+    (aside-exist g.L.Meaning.meaning c.args.core.now c.journal-journal.ensures.kept c.args.from c.loop-number.self
+    c.loop-number.aside
     c.loop-number.invariant c.in-Some.number
     (let e = subst (λ pools. IsEarliest pools.ready c.args.from c.in-Some.number) c.self.view_is c.in-Some.ensures
     in e.is))
@@ -83,12 +90,14 @@ loop-number-preserved g c =
 pub returns-in-None-clause-first : goal.returns-in-None-clause-first
 returns-in-None-clause-first g c =
     let setup = setup_in g.L.Meaning.meaning c.args.core.now in
-    idle-chosen g.L.Meaning.meaning c.args.core.now c.journal-journal.ensures.kept c.args.from c.loop-number.self c.loop-number.aside
+    idle-chosen g.L.Meaning.meaning c.args.core.now c.journal-journal.ensures.kept c.args.from c.loop-number.self
+    c.loop-number.aside
     c.loop-number.invariant (record { 0 = c.in-Some.number })
     (subst (λ pools. IsEarliest pools.ready c.args.from c.in-Some.number) c.self.view_is c.in-Some.ensures)
     (record {
       live = live-is setup c.args.core.now.entries c.in-Some.number
-          (aside-exist g.L.Meaning.meaning c.args.core.now c.journal-journal.ensures.kept c.args.from c.loop-number.self c.loop-number.aside
+          (aside-exist g.L.Meaning.meaning c.args.core.now c.journal-journal.ensures.kept c.args.from
+          c.loop-number.self c.loop-number.aside
           c.loop-number.invariant c.in-Some.number
           (let e = subst (λ pools. IsEarliest pools.ready c.args.from c.in-Some.number) c.self.view_is c.in-Some.ensures
           in e.is))
@@ -100,6 +109,7 @@ returns-in-None-clause-first g c =
 
 pub returns-clause-first : goal.returns-clause-first
 returns-clause-first g c =
-    none-idle g.L.Meaning.meaning c.args.core.now c.journal-journal.ensures.kept c.args.from c.loop-number.self c.loop-number.aside
+    none-idle g.L.Meaning.meaning c.args.core.now c.journal-journal.ensures.kept c.args.from c.loop-number.self
+    c.loop-number.aside
     c.loop-number.invariant
     (ap (λ pools. pools.ready) (sym c.self.view_is) ∙ c.in_default.ensures)
