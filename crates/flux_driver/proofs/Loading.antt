@@ -252,9 +252,9 @@ pub audit_asks : (meaning : LibraryMeaning) (told : Files) (file items journal :
 audit_asks meaning told file items journal docs result before after asks = record { names = asks.names; more = asks.more; are = inl asks.are }
 
 pub audit_asks_all : (meaning : LibraryMeaning) (told : Files) (file items journal : List ℕ) (docs : Option (List ℕ)) (loaded : Loaded) (before mid after : List (List ℕ)) → AsksTwo meaning told file items (Ok loaded) before mid → after ≡ mid ++ journal ∷ [] → GivesItems meaning told (named file) (named items) → AsksFiles meaning (audit file items journal docs) told before after
-audit_asks_all meaning told file items journal docs loaded before mid after asks then given = record {
+audit_asks_all meaning told file items journal docs loaded before mid after asks behind given = record {
   names = file ∷ items ∷ journal ∷ [];
-  more = then ∙ ap (λ (l : List (List ℕ)). l ++ journal ∷ []) (asks.more ∙ ap (λ (l : List (List ℕ)). before ++ l) asks.both) ∙ append_assoc before (file ∷ items ∷ []) (journal ∷ []);
+  more = behind ∙ ap (λ (l : List (List ℕ)). l ++ journal ∷ []) (asks.more ∙ ap (λ (l : List (List ℕ)). before ++ l) asks.both) ∙ append_assoc before (file ∷ items ∷ []) (journal ∷ []);
   are = inr (refl, given);
 }
 

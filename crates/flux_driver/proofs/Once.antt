@@ -336,7 +336,7 @@ module _ (meaning : LibraryMeaning) (told : Files) (command : Command) (tells : 
   items_static said line i s = sound_static meaning told command tells line (items_sound meaning told command said i) s
 
   -- the status that stands on items has its rules
-  reads : (s own : Status) → s ≡ own → IsFirm meaning command told s → (let firm = IsFirm meaning command told own in firm)
+  reads : (s own : Status) → s ≡ own → IsFirm meaning command told s → IsFirm meaning command told own
   reads s own e firm = subst (IsFirm meaning command told) e firm
 
   pub same_view : (s r : Status) (t l u m : List ℕ) → IsFirm meaning command told s → Views s t l → Views r u m → s ≡ r

@@ -6,8 +6,7 @@ use Rattle.std.specs.Fmt.{decimal}
 use Rattle.std.specs.FinMap.{get}
 use Rattle.flux_values.specs.declared.values.Value.{Value}
 use Rattle.flux_values.specs.declared.values.Value.TheVariants.{Int}
-use Rattle.flux_values.specs.Cells.{CellMap}
-use Rattle.flux_values.specs.Spellings.{printed_value}
+use Rattle.flux_values.specs.Texts.{printed_value}
 use Rattle.flux_model.specs.declared.programs.Class.{Class}
 use Rattle.flux_model.specs.declared.programs.Program.{Program}
 use Rattle.flow_model.specs.declared.journals.Event.{Event}

@@ -1,11 +1,11 @@
 //! The run of items, from a checked program to what is printed of it.
 
-ghost use Rattle.std.specs.Prelude.{◌≡◌, [], IfOk};
+ghost use Rattle.std.specs.Prelude.{◌≡◌, ◌≤◌, [], length, IfOk};
 ghost use Rattle.std.specs.Arc.{arc_value};
-ghost use Rattle.flux_plan.specs.Runs.{ArePlansOf};
+ghost use Rattle.flux_model.specs.declared.programs.TheConstants.{COUNT_LIMIT};
 ghost use Rattle.flow_model.specs.CellsAfter.{cells_after};
 ghost use Rattle.flux_cells.specs.Kept.{cells_of};
-ghost use Rattle.flow_core.specs.States.{setup_in, opened};
+ghost use Rattle.flow_core.specs.States.{setup_in};
 ghost use Rattle.flux_driver.specs.TrueRuns.{printed_in, printed_by};
 ghost use Rattle.flux_driver.specs.steps.Running.{CanRun, IsDriven, IsRun, HasParts};
 
@@ -101,6 +101,7 @@ fn print(
     journal: &Journal,
     cells: &Cells,
 ) -> Result<Bytes, Memory>
+    requires { length program.now.classes ≤ COUNT_LIMIT }
     ensures { IfOk result (λ text. text
         ≡ printed_by printing program.now flows journal.now (cells_of cells.now)) }
 {

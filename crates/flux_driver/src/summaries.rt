@@ -1,9 +1,9 @@
 //! The summary of a run: how many items and events, and the total that was counted.
 
-ghost use Rattle.std.specs.Prelude.{◌≡◌, ◌≤◌, IfOk, IsTrue, count_by, length, option_map, option_copied};
-ghost use Rattle.flow_model.specs.declared.journals.Entry.{Entry};
+ghost use Rattle.std.specs.Prelude.{◌≡◌, ◌≤◌, Some, IfOk, position, length};
+ghost use Rattle.flux_model.specs.declared.programs.TheConstants.{COUNT_LIMIT};
 ghost use Rattle.flux_cells.specs.Kept.{cells_of};
-ghost use Rattle.flux_driver.specs.Summaries.{is_step, step_count, is_shared, shared_key, number_of, number_at, total_in, printed_summary};
+ghost use Rattle.flux_driver.specs.Summaries.{is_step, step_count, is_shared, shared_key, number_at, total_in, printed_summary};
 
 use flow_model::{Entry, Event, Journal, Key};
 use flux_cells::Cells;
@@ -46,6 +46,7 @@ fn place_of(classes: &[Class], name: &[u8]) -> Option<usize>
 
 /// The key of a class of the whole program, by its name.
 fn shared_key(p: &Program, name: &[u8]) -> Option<Key>
+    requires { length p.now.classes ≤ COUNT_LIMIT }
     ensures { result ≡ shared_key p.now name.now }
 {
     match place_of(p.classes.as_slice(), name) {
@@ -71,6 +72,7 @@ fn number_at(cells: &Cells, key: Key, name: &[u8]) -> i64
 }
 
 fn total_in(p: &Program, cells: &Cells) -> i64
+    requires { length p.now.classes ≤ COUNT_LIMIT }
     ensures { Value.Int result ≡ total_in p.now (cells_of cells.now) }
 {
     match shared_key(p, b"counter") {
@@ -87,6 +89,7 @@ pub fn print_summary(
     journal: &Journal,
     cells: &Cells,
 ) -> Result<Bytes, Memory>
+    requires { length p.now.classes ≤ COUNT_LIMIT }
     ensures { IfOk result (λ text. text
         ≡ printed_summary p.now flows journal.now.entries (cells_of cells.now)) }
 {

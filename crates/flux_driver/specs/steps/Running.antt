@@ -26,7 +26,6 @@ use Rattle.flux_model.specs.Soundness.{IsSound}
 use Rattle.flux_model.specs.Texts.{source_name}
 use Rattle.flux_items.specs.declared.rules.ItemRules.{ItemRules}
 use Rattle.flux_items.specs.declared.rules.TheConstants.{ITEM_LIMIT}
-use Rattle.flux_items.specs.Items.{AreItemsOf}
 use Rattle.flux_items.specs.Faults.{IsFaultOf}
 use Rattle.flux_words.specs.declared.values.Runtime.{Runtime}
 use Rattle.rt_all.specs.Orders.{IsOrderOf}
