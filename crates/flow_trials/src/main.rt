@@ -2,15 +2,20 @@
 //!
 //! `core N` drives N flows to their ends, and prints how many flows and events there are. `journal N P R` makes their
 //! journal's text P times and reads it R times, and prints how many events and bytes there are. `text N` prints that text.
+//! `watch N` does what `core N` does; then it drives N flows by the loop of the runtimes, over a library that refuses one call
+//! for want of memory, each call in turn, and prints how many calls there are where each was made once and told of before and
+//! after.
 #![tactic(auto)]
 
 mod building;
 mod journals;
 mod troubles;
 mod turns;
+mod watching;
 
 use building::{Given, checked_of, core_of};
 use flow_core::Core;
+use flow_waits::drain_by;
 use flux_values::{Bytes, List};
 use journals::{entry_count, journal_of, print_again, read_again};
 use nodes_counter::Counter;
@@ -20,6 +25,7 @@ use std::io::Write;
 use std::process::ExitCode;
 use troubles::Trouble;
 use turns::drive;
+use watching::{Calls, Watched};
 
 /// Nested flows with cases, readers, writers and sessions: 23 events for a number, and 9 for 0.
 const PROGRAM: &[u8] =
@@ -31,6 +37,7 @@ enum Words {
     Core { flows: u32 },
     Journal { flows: u32, prints: u32, reads: u32 },
     Text { flows: u32 },
+    Watch { flows: u32 },
 }
 
 fn number(word: &str) -> Result<u32, Trouble> {
@@ -48,6 +55,9 @@ fn read_words(words: &[String]) -> Result<Words, Trouble> {
             reads: number(reads.as_str())?,
         }),
         [_, text, flows] if text.as_str() == "text" => Ok(Words::Text {
+            flows: number(flows.as_str())?,
+        }),
+        [_, watch, flows] if watch.as_str() == "watch" => Ok(Words::Watch {
             flows: number(flows.as_str())?,
         }),
         _ => Err(Trouble::Words),
@@ -116,6 +126,34 @@ fn answer_text(rt: &HostRuntime, flows: u32) -> Result<(), Trouble> {
     Ok(())
 }
 
+/// How many calls flows make, of which one is refused and made again. Behind the refusal each call was told of, too.
+fn watched_calls(alloc: Global, flows: u32, refused: u32) -> Result<u32, Trouble> {
+    let calls = Calls::new();
+    let given = given(alloc, flows)?;
+    let library = Watched {
+        calls: &calls,
+        refused,
+    };
+    let mut core = core_of(alloc, PROGRAM, given.as_slice(), library)?;
+    if drain_by(&mut core, &calls).is_err() {
+        let _ = calls.count().ok_or(Trouble::Calls)?;
+        drain_by(&mut core, &calls)?;
+    }
+    calls.count().ok_or(Trouble::Calls)
+}
+
+fn answer_watch(rt: &HostRuntime, flows: u32) -> Result<(), Trouble> {
+    answer_core(rt, flows)?;
+    let whole = watched_calls(rt.alloc(), flows, u32::MAX)?;
+    for refused in 0..whole {
+        if watched_calls(rt.alloc(), flows, refused)? != whole.saturating_add(1) {
+            return Err(Trouble::Calls);
+        }
+    }
+    println!(rt; "calls {whole}")?;
+    Ok(())
+}
+
 fn answer(rt: &HostRuntime) -> Result<(), Trouble> {
     let words: Vec<String> = env::args(rt)?.collect(rt.alloc())?;
     match read_words(words.as_slice())? {
@@ -126,6 +164,7 @@ fn answer(rt: &HostRuntime) -> Result<(), Trouble> {
             reads,
         } => answer_journal(rt, flows, prints, reads),
         Words::Text { flows } => answer_text(rt, flows),
+        Words::Watch { flows } => answer_watch(rt, flows),
     }
 }
 

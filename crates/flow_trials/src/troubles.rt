@@ -12,6 +12,8 @@ pub enum Trouble {
     Text,
     /// A printed journal was read as another one, or not at all.
     Journal,
+    /// A call was not told of before and after, or was made twice.
+    Calls,
     /// Words or output failed.
     System,
     Memory,
@@ -21,7 +23,7 @@ impl Trouble {
     /// The status that the program ends with.
     pub fn code(self) -> u8 {
         match self {
-            Trouble::Text | Trouble::Journal => 1,
+            Trouble::Text | Trouble::Journal | Trouble::Calls => 1,
             Trouble::Words => 2,
             Trouble::System => 6,
             Trouble::Memory => 12,
