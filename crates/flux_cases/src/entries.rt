@@ -4,11 +4,12 @@ use crate::bodies::Documents;
 use flux_outside::FileBytes;
 use flux_values::{Bytes, List};
 
-/// The stream that is printed on, or the one for lines about what went wrong.
+/// The stream that is printed on, the one for lines about what went wrong, or that of a link.
 #[derive(Clone, Copy, PartialEq, Eq)]
 pub enum Stream {
     Out,
     Err,
+    Link,
 }
 
 /// What has calls that may fail.
@@ -17,19 +18,35 @@ pub enum Part {
     Store,
     Folder,
     Stream(Stream),
+    Door,
+    /// The reads of a link.
+    Reads,
 }
 
-/// What a stream has to gain: all of a text, or a front of it.
+/// How much of a text a stream has to gain.
+#[derive(Clone, Copy, PartialEq, Eq)]
+pub enum Extent {
+    All,
+    Front,
+    /// It may gain anything.
+    Any,
+}
+
+/// What a stream has to gain.
 #[derive(Drop)]
 pub struct Gain {
-    pub front: bool,
+    pub extent: Extent,
     pub text: Bytes,
 }
 
 impl Gain {
     pub fn is_met(&self, got: &[u8]) -> bool {
         let text = self.text.as_bytes();
-        got == text || self.front && text.starts_with(got)
+        match self.extent {
+            Extent::All => got == text,
+            Extent::Front => text.starts_with(got),
+            Extent::Any => true,
+        }
     }
 }
 
@@ -56,6 +73,10 @@ pub enum Entry {
     Asked(List<Bytes>),
     /// The folders that are asked for, in order.
     Opened(List<Bytes>),
+    /// The next links stand ready at the door together.
+    Batch,
+    /// So many links, each of which gives this.
+    Links(usize, Bytes),
 }
 
 /// An entry, and the number of the line that it begins with.
@@ -72,6 +93,11 @@ impl Entry {
 
     pub fn is_case(&self) -> bool {
         matches!(self, Entry::Case(_))
+    }
+
+    /// Whether lines about links begin here.
+    pub fn begins_links(&self) -> bool {
+        matches!(self, Entry::Batch | Entry::Links(_, _))
     }
 
     pub fn is_gain(&self, of: Stream) -> bool {

@@ -12,6 +12,7 @@ mod differences;
 mod entries;
 mod judging;
 mod lines;
+mod links;
 mod reports;
 mod settings;
 mod spellings;

@@ -1,0 +1,1 @@
+use Rattle.flux_driver.proofs.services.read_service.Goals as goal
