@@ -4,12 +4,11 @@ use crate::bodies::Documents;
 use flux_outside::FileBytes;
 use flux_values::{Bytes, List};
 
-/// The stream that is printed on, the one for lines about what went wrong, or that of a link.
+/// The stream that is printed on, or the one for lines about what went wrong.
 #[derive(Clone, Copy, PartialEq, Eq)]
 pub enum Stream {
     Out,
     Err,
-    Link,
 }
 
 /// What has calls that may fail.
@@ -18,35 +17,19 @@ pub enum Part {
     Store,
     Folder,
     Stream(Stream),
-    Door,
-    /// The reads of a link.
-    Reads,
 }
 
-/// How much of a text a stream has to gain.
-#[derive(Clone, Copy, PartialEq, Eq)]
-pub enum Extent {
-    All,
-    Front,
-    /// It may gain anything.
-    Any,
-}
-
-/// What a stream has to gain.
+/// What a stream has to gain: all of a text, or a front of it.
 #[derive(Drop)]
 pub struct Gain {
-    pub extent: Extent,
+    pub front: bool,
     pub text: Bytes,
 }
 
 impl Gain {
     pub fn is_met(&self, got: &[u8]) -> bool {
         let text = self.text.as_bytes();
-        match self.extent {
-            Extent::All => got == text,
-            Extent::Front => text.starts_with(got),
-            Extent::Any => true,
-        }
+        got == text || self.front && text.starts_with(got)
     }
 }
 
@@ -73,10 +56,6 @@ pub enum Entry {
     Asked(List<Bytes>),
     /// The folders that are asked for, in order.
     Opened(List<Bytes>),
-    /// The next links stand ready at the door together.
-    Batch,
-    /// So many links, each of which gives this.
-    Links(usize, Bytes),
 }
 
 /// An entry, and the number of the line that it begins with.
@@ -93,11 +72,6 @@ impl Entry {
 
     pub fn is_case(&self) -> bool {
         matches!(self, Entry::Case(_))
-    }
-
-    /// Whether lines about links begin here.
-    pub fn begins_links(&self) -> bool {
-        matches!(self, Entry::Batch | Entry::Links(_, _))
     }
 
     pub fn is_gain(&self, of: Stream) -> bool {

@@ -4,7 +4,6 @@ use crate::calls::{CountingGate, calls_in};
 use crate::cases::Case;
 use crate::differences::Differences;
 use crate::entries::{Entry, Line, Stream};
-use crate::links::clients_of;
 use crate::reports::Report;
 use crate::troubles::Trouble;
 use crate::worlds::{Memories, world_of};
@@ -120,35 +119,15 @@ fn judge<Rt: Threads + Wait + Sync>(
     )?;
     differences.compare_names(b"asked", world.store.names.all(), case.asked)?;
     differences.compare_names(b"opened", world.folder.names.all(), case.opened)?;
-    compare_links(alloc, &mut differences, case, &world)?;
-    if status == 0 && has_journal(words) {
+    if status == 0 && is_run(words) {
         let told = gate.calls(needs_threads(words));
         differences.compare_calls(told, calls_in(world.out.written()))?;
     }
     Ok(differences)
 }
 
-/// Compares what each link was written with what it has to be. A link that didn't come to the door was written nothing.
-fn compare_links(
-    alloc: Global,
-    differences: &mut Differences,
-    case: &Case,
-    world: &Memories,
-) -> Result<(), Memory> {
-    let back = world.door.taken_back();
-    for (place, client) in clients_of(alloc, case)?.iter().enumerate() {
-        let written = match back.get(place) {
-            Some(link) => link.written(),
-            None => b"",
-        };
-        differences.compare_link(place, written, client.lines)?;
-    }
-    Ok(())
-}
-
-/// Whether a journal is printed, or a log.
-fn has_journal(words: &[Bytes]) -> bool {
+fn is_run(words: &[Bytes]) -> bool {
     words
         .first()
-        .is_some_and(|word| matches!(word.as_bytes(), b"run" | b"serve"))
+        .is_some_and(|word| word.as_bytes() == b"run".as_slice())
 }

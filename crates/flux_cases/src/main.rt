@@ -12,7 +12,6 @@ mod differences;
 mod entries;
 mod judging;
 mod lines;
-mod links;
 mod reports;
 mod settings;
 mod spellings;

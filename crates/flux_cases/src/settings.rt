@@ -1,7 +1,7 @@
 //! One line of a case, read by its first word.
 
 use crate::bodies::{append_piece, begun, named, read_document, read_documents};
-use crate::entries::{Entry, Extent, Gain, Line, Part, Stream};
+use crate::entries::{Entry, Gain, Line, Part, Stream};
 use crate::spellings::{calls_of, number_of, word_of, words_of};
 use crate::troubles::LineFault;
 use flux_values::Bytes;
@@ -25,24 +25,11 @@ pub fn read_entry(alloc: Global, line: &str, lines: &[Line]) -> Result<Entry, Li
         b"piece" => piece(rest),
         b"out" => gain(alloc, Stream::Out, rest, lines),
         b"err" => gain(alloc, Stream::Err, rest, lines),
-        b"batch" if rest.is_empty() => Ok(Entry::Batch),
-        b"link" => Ok(Entry::Links(1, begun(alloc, rest, lines)?)),
-        b"links" => links(alloc, rest, lines),
-        b"gets" => gain(alloc, Stream::Link, rest, lines),
         b"status" => Ok(Entry::Status(number_of(rest)?)),
         b"asked" => Ok(Entry::Asked(words_of(alloc, rest)?)),
         b"opened" => Ok(Entry::Opened(words_of(alloc, rest)?)),
         _ => Err(LineFault::NoLine),
     }
-}
-
-/// `65 "get\n"`: so many links, and what each gives.
-fn links(alloc: Global, rest: &str, lines: &[Line]) -> Result<Entry, LineFault> {
-    let (count, piece) = rest.split_once(' ').unwrap_or((rest, ""));
-    Ok(Entry::Links(
-        number_of(count)?,
-        begun(alloc, piece, lines)?,
-    ))
 }
 
 /// `store 1 2`: which calls of what fail.
@@ -51,9 +38,6 @@ fn fail(alloc: Global, rest: &str) -> Result<Entry, LineFault> {
     let part = match part.as_bytes() {
         b"store" => Part::Store,
         b"folder" => Part::Folder,
-        b"door" => Part::Door,
-        b"read" => Part::Reads,
-        b"write" => Part::Stream(Stream::Link),
         _ => Part::Stream(stream(part)?),
     };
     Ok(Entry::Fail(part, calls_of(alloc, calls)?))
@@ -63,7 +47,6 @@ fn stream(word: &str) -> Result<Stream, LineFault> {
     match word.as_bytes() {
         b"out" => Ok(Stream::Out),
         b"err" => Ok(Stream::Err),
-        b"link" => Ok(Stream::Link),
         _ => Err(LineFault::NoLine),
     }
 }
@@ -88,15 +71,14 @@ fn piece(rest: &str) -> Result<Entry, LineFault> {
     }
 }
 
-/// What a stream gains: a text, behind `front of` a text of which it gains a front, or `any`.
+/// What a stream gains: a text, or behind `front of` a text of which it gains a front.
 fn gain(alloc: Global, stream: Stream, rest: &str, lines: &[Line]) -> Result<Entry, LineFault> {
-    let (extent, piece) = match rest.strip_prefix("front of") {
-        Some(piece) => (Extent::Front, piece.trim_start()),
-        None if rest == "any" => (Extent::Any, ""),
-        None => (Extent::All, rest),
+    let (front, piece) = match rest.strip_prefix("front of") {
+        Some(piece) => (true, piece.trim_start()),
+        None => (false, rest),
     };
     let text = begun(alloc, piece, lines)?;
-    Ok(Entry::Gain(stream, Gain { extent, text }))
+    Ok(Entry::Gain(stream, Gain { front, text }))
 }
 
 /// Adds a piece to what the last entry began.
@@ -112,7 +94,6 @@ pub fn add_piece(alloc: Global, lines: &mut Vec<Line>, piece: &str) -> Result<()
         Entry::File(file) => Ok(file.body.append(added)?),
         Entry::Documents(documents) => Ok(documents.body.append(added)?),
         Entry::Gain(_, gain) => Ok(gain.text.append(added)?),
-        Entry::Links(_, input) => Ok(input.append(added)?),
         Entry::Faulty => Ok(()),
         _ => Err(LineFault::NoLine),
     }

@@ -4,16 +4,14 @@ ghost use Rattle.std.specs.Prelude.{◌<◌};
 
 use crate::cases::{Case, Shape};
 use crate::entries::{Entry, Part, Stream};
-use crate::links::door;
 use crate::watched::{Names, WatchedFolder, WatchedStore};
-use flux_doors::MemoryDoor;
 use flux_driver::World;
 use flux_outside::{FileBytes, MemoryFolder, MemorySink, MemoryStore};
 use flux_values::{Bytes, List, Memory};
 use std::alloc::Global;
 
-/// Files and a folder in memory, which are watched, and two streams and a door in memory.
-pub type Memories = World<WatchedStore, WatchedFolder, MemorySink, MemorySink, MemoryDoor>;
+/// Files and a folder in memory, which are watched, and two streams in memory.
+pub type Memories = World<WatchedStore, WatchedFolder, MemorySink, MemorySink>;
 
 /// How many bytes a stream has room for, and takes a call, where a case says nothing of it.
 const ROOM: usize = 16_777_216;
@@ -70,6 +68,5 @@ pub fn world_of(alloc: Global, case: &Case) -> Result<Memories, Memory> {
             case.err,
             case.fails(alloc, Part::Stream(Stream::Err))?,
         )?,
-        door: door(alloc, case)?,
     })
 }

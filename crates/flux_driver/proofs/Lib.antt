@@ -4,16 +4,9 @@ pub mod Once
 pub mod Fitting
 pub mod RuleLists
 pub mod Runs
-pub mod Loading
+pub mod Prepared
 pub mod Documented
 pub mod Answered
 pub mod Told
 pub mod Passed
-pub mod Answering
 mod Headline
-mod Audits
-mod Loads
-pub mod Readied
-pub mod Serves
-mod ServedHeadline
-pub mod ServedDone

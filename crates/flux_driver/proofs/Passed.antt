@@ -1,7 +1,6 @@
 -- Errors that `?` passes on.
-use Rattle.std.proofs.Common.{◌≡◌, Result, Ok, Err, IfErr, sym, subst}
+use Rattle.std.proofs.Common.{◌≡◌, ℕ, List, Result, Ok, Err, IfErr, sym, subst}
 use Rattle.std.specs.Result.{IsErrAnd}
-use Rattle.flux_driver.specs.declared.prepared.Prepared.{Prepared}
 use Rattle.flux_driver.specs.declared.refusals.Refusal.{Refusal}
 use Rattle.flux_driver.specs.declared.statuses.Status.{Status}
 use Rattle.flux_driver.specs.steps.Refusals.{status_of}
@@ -13,6 +12,6 @@ passed P own (Ok x) is p = absurd is
 passed P own (Err e) is p = subst P (sym is) p
 
 -- so is its status
-pub passed_status : (P : Status → Type 0) (own : Refusal) (result : Result Prepared Refusal) → IsErrAnd result (λ e. e ≡ own) → P (status_of own) → P (prepared_status result)
-passed_status P own (Ok prepared) is p = absurd is
+pub passed_status : (P : Status → Type 0) (own : Refusal) (result : Result (List ℕ) Refusal) → IsErrAnd result (λ e. e ≡ own) → P (status_of own) → P (prepared_status result)
+passed_status P own (Ok text) is p = absurd is
 passed_status P own (Err e) is p = subst (λ (r : Refusal). P (status_of r)) (sym is) p

@@ -2,6 +2,7 @@
 use Rattle.std.specs.Prelude.{◌≡◌, ℕ, ◌⊎◌, List, [], ◌++◌, codes}
 use Rattle.std.specs.Fmt.{decimal}
 use Rattle.flux_values.specs.Meanings.{LibraryMeaning}
+use Rattle.flux_outside.specs.declared.stores.File.TheVariants.{Found}
 use Rattle.flux_faults.specs.declared.faults.StaticFault.{StaticFault}
 use Rattle.flux_faults.specs.Faults.{printed_fault}
 use Rattle.flux_syntax.specs.declared.declarations.Decl.{Decl}
@@ -10,13 +11,11 @@ use Rattle.flux_check.specs.Judgement.{IsTextFault}
 use Rattle.flux_items.specs.declared.rules.ItemFault.{ItemFault}
 use Rattle.flux_items.specs.declared.rules.ItemFault.TheVariants as items_
 use Rattle.flux_items.specs.Faults.{line_of, IsFaultOf}
-use Rattle.flux_load.specs.Loads.{program_text, items_text}
-use Rattle.flux_words.specs.Commands.{Command, check, plan, format, run, audit, load, serve, help}
-use Rattle.flux_driver.specs.declared.files.TheConstants.{PROGRAM_FILE_LIMIT, ITEMS_FILE_LIMIT, JOURNAL_FILE_LIMIT}
-use Rattle.flux_driver.specs.Worlds.{Files, IsLost}
-use Rattle.flux_driver.specs.Origins.{Origin, named, made, GivesText}
+use Rattle.flux_words.specs.Commands.{Command, check, plan, format, run, help}
+use Rattle.flux_driver.specs.declared.files.TheConstants.{PROGRAM_FILE_LIMIT, ITEMS_FILE_LIMIT}
+use Rattle.flux_driver.specs.Worlds.{Files, Gives, IsLost}
 use Rattle.flux_driver.specs.Commands.{ReadsProgram}
-use Rattle.flux_driver.specs.Inputs.{HasProgram, HasItems, GivesItems, HasUnservable}
+use Rattle.flux_driver.specs.Inputs.{HasProgram, HasItems}
 use Rattle.flux_driver.specs.Items.{rules_in}
 
 -- ---- lines
@@ -45,12 +44,6 @@ read_line = codes "flux: read failed\n"
 abbrev pub write_line : List ℕ
 write_line = codes "flux: write failed\n"
 
-abbrev pub door_line : List ℕ
-door_line = codes "flux: door failed\n"
-
-abbrev pub not_served_line : List ℕ
-not_served_line = codes "flux: not a served program\n"
-
 abbrev pub lost_line : List ℕ → List ℕ
 lost_line name = codes "flux: missing or too long: " ++ name ++ codes "\n"
 
@@ -62,26 +55,23 @@ IsStaticOf meaning (check file) text fault = IsTextFault meaning text fault
 IsStaticOf meaning (plan file) text fault = IsTextFault meaning text fault
 IsStaticOf meaning (format file) text fault = IsFaulty fault.kind fault.at text × (fault.path ≡ [])
 IsStaticOf meaning (run file items manner) text fault = IsTextFault meaning text fault
-IsStaticOf meaning (audit file items journal docs) text fault = IsTextFault meaning text fault
-IsStaticOf meaning (load count first runtime) text fault = IsTextFault meaning text fault
-IsStaticOf meaning (serve file serving) text fault = IsTextFault meaning text fault
 IsStaticOf meaning help text fault = ⊥
 
 pub record IsStatic (meaning : LibraryMeaning) (command : Command) (told : Files) (line : List ℕ)
     : Type 0 where
-  pub program : Origin
-  pub reads : ReadsProgram command program
+  pub file : List ℕ
+  pub reads : ReadsProgram command file
   pub text : List ℕ
-  pub gives : GivesText told program PROGRAM_FILE_LIMIT text
+  pub gives : Gives told file PROGRAM_FILE_LIMIT (Found text)
   pub fault : StaticFault
   pub stands : IsStaticOf meaning command text fault
   pub said : line ≡ fault_text text fault
 
 -- ---- the items text has a fault
 
-pub record IsItemsText (meaning : LibraryMeaning) (told : Files) (program items : Origin)
-    (line : List ℕ) : Type 0 where
-  pub has : HasItems meaning told program items
+pub record IsItemsText (meaning : LibraryMeaning) (told : Files) (file items line : List ℕ)
+    : Type 0 where
+  pub has : HasItems meaning told file items
   pub fault : ItemFault
   pub stands : let own = has.program_ in IsFaultOf (rules_in meaning has.decls own.sound) fault has.text
   pub said : line ≡ item_fault_line fault
@@ -90,60 +80,24 @@ abbrev pub IsItems : LibraryMeaning → Command → Files → List ℕ → Type 
 IsItems meaning (check file) told line = ⊥
 IsItems meaning (plan file) told line = ⊥
 IsItems meaning (format file) told line = ⊥
-IsItems meaning (run file items manner) told line =
-    IsItemsText meaning told (named file) (named items) line
-IsItems meaning (audit file items journal docs) told line =
-    IsItemsText meaning told (named file) (named items) line
-IsItems meaning (load count first runtime) told line =
-    IsItemsText meaning told (made program_text) (made (items_text count first)) line
-IsItems meaning (serve file serving) told line = ⊥
+IsItems meaning (run file items manner) told line = IsItemsText meaning told file items line
 IsItems meaning help told line = ⊥
 
 -- ---- a file isn't there, or is past its limit
 
 -- the items file of a sound program
-pub record IsItemsFileLost (meaning : LibraryMeaning) (told : Files) (file items name : List ℕ)
-    : Type 0 where
-  pub is : name ≡ items
-  pub lost : IsLost told items ITEMS_FILE_LIMIT
-  pub decls : List Decl
-  pub program_ : HasProgram meaning told (named file) decls
-
 abbrev pub AreItemsLost : LibraryMeaning → Command → Files → List ℕ → Type 0
-AreItemsLost meaning (run file items manner) told name =
-    IsItemsFileLost meaning told file items name
-AreItemsLost meaning (audit file items journal docs) told name =
-    IsItemsFileLost meaning told file items name
-AreItemsLost meaning other told name = ⊥
+AreItemsLost meaning (check file) told name = ⊥
+AreItemsLost meaning (plan file) told name = ⊥
+AreItemsLost meaning (format file) told name = ⊥
+AreItemsLost meaning (run file items manner) told name = (name ≡ items)
+    × IsLost told items ITEMS_FILE_LIMIT × (decls : List Decl) × HasProgram meaning told file decls
+AreItemsLost meaning help told name = ⊥
 
--- the journal's file, behind the items
-pub record IsJournalFileLost (meaning : LibraryMeaning) (told : Files)
-    (file items journal name : List ℕ) : Type 0 where
-  pub is : name ≡ journal
-  pub lost : IsLost told journal JOURNAL_FILE_LIMIT
-  pub given : GivesItems meaning told (named file) (named items)
-
-abbrev pub IsJournalLost : LibraryMeaning → Command → Files → List ℕ → Type 0
-IsJournalLost meaning (audit file items journal docs) told name =
-    IsJournalFileLost meaning told file items journal name
-IsJournalLost meaning other told name = ⊥
-
--- the program's file, or that of the items, or that of the journal
+-- the program's file, or that of the items
 pub record IsMissing (meaning : LibraryMeaning) (command : Command) (told : Files) (line : List ℕ)
     : Type 0 where
   pub name : List ℕ
-  pub lost : (ReadsProgram command (named name) × IsLost told name PROGRAM_FILE_LIMIT)
-      ⊎ (AreItemsLost meaning command told name ⊎ IsJournalLost meaning command told name)
+  pub lost : (ReadsProgram command name × IsLost told name PROGRAM_FILE_LIMIT)
+      ⊎ AreItemsLost meaning command told name
   pub said : line ≡ lost_line name
-
--- ---- a sound program can't be served
-
-abbrev pub IsUnserved : LibraryMeaning → Command → Files → List ℕ → Type 0
-IsUnserved meaning (check file) told line = ⊥
-IsUnserved meaning (plan file) told line = ⊥
-IsUnserved meaning (format file) told line = ⊥
-IsUnserved meaning (run file items manner) told line = ⊥
-IsUnserved meaning (audit file items journal docs) told line = ⊥
-IsUnserved meaning (load count first runtime) told line = ⊥
-IsUnserved meaning (serve file serving) told line = HasUnservable meaning told (named file) × (line ≡ not_served_line)
-IsUnserved meaning help told line = ⊥

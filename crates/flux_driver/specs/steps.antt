@@ -4,6 +4,3 @@ pub mod Refusals
 pub mod Running
 pub mod Preparing
 pub mod Telling
-pub mod Loading
-pub mod Auditing
-pub mod Serving

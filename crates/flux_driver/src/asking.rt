@@ -1,24 +1,26 @@
 //! What the words ask for: the documents first, and then the command's files.
 
 ghost use Rattle.std.specs.Prelude.{◌≡◌, ◌≤◌, [], IfOk, IfErr, option_copied};
-ghost use Rattle.flux_words.specs.Commands.{Command, Spells, NeedsThreads};
+ghost use Rattle.std.specs.Arc.{arc_value};
 ghost use Rattle.flux_words.specs.Asking.{asked};
 ghost use Rattle.flux_driver.specs.BuiltIn.{built_in};
 ghost use Rattle.flux_driver.specs.Commands.{folder_of};
-ghost use Rattle.flux_driver.specs.Answers.{IsAnswer};
+ghost use Rattle.flux_driver.specs.Answers.{Prints, IsAnswer};
 ghost use Rattle.flux_driver.specs.Top.{HasAsked};
 ghost use Rattle.flux_driver.specs.steps.Refusals.{status_of, line_of};
-ghost use Rattle.flux_driver.specs.steps.Preparing.{AsksAll, PreparesAll, IsRefusedAll, CountsBoth, AnswersDue, AnswersWords, PreparesWords, prepared_status};
+ghost use Rattle.flux_driver.specs.steps.Preparing.{AsksAll, IsRefusedAll, CountsBoth, AnswersDue, AnswersWords, PrintsWords, prepared_status};
 
 use crate::commands::prepare;
-use crate::documents::{load_docs, share};
-use crate::prepared::Prepared;
+use crate::documents::load_docs;
 use crate::refusals::Refusal;
 use flow_core::Gate;
+use flux_library::Docs;
 use flux_outside::{Folder, Store};
-use flux_values::Bytes;
+use flux_values::{Bytes, Memory};
 use flux_words::{Asked, read_words};
+use nodes_all::All;
 use std::alloc::Global;
+use std::sync::Arc;
 
 /// The folder of documents, where one is named.
 fn dir_of<'a>(wanted: &Asked<'a>) -> Option<&'a [u8]>
@@ -26,10 +28,15 @@ fn dir_of<'a>(wanted: &Asked<'a>) -> Option<&'a [u8]>
 {
     match wanted {
         Asked::Run { docs, .. } => *docs,
-        Asked::Audit { docs, .. } => *docs,
-        Asked::Serve { docs, .. } => *docs,
         _ => None,
     }
+}
+
+/// The library of these documents.
+fn share(alloc: Global, docs: Docs) -> Result<Arc<All>, Memory>
+    ensures { IfOk result (λ library. let all = arc_value library in all.docs ≡ docs) }
+{
+    Ok(Arc::new(alloc, All { docs })?)
 }
 
 /// What a command prints: all of it is made before any of it is written.
@@ -39,8 +46,7 @@ fn prepare_asked<'a, S: Store, F: Folder, G: Gate>(
     folder: &mut F,
     gate: &G,
     wanted: Asked<'a>,
-) -> Result<Prepared, Refusal<'a>>
-    requires { NeedsThreads (asked wanted) → ⊥ }
+) -> Result<Bytes, Refusal<'a>>
     ensures kept { S.files store.new ≡ S.files store.old }
     ensures kept_folders { F.folders folder.new ≡ F.folders folder.old }
     ensures later { S.faults store.old ≤ S.faults store.new }
@@ -49,7 +55,7 @@ fn prepare_asked<'a, S: Store, F: Folder, G: Gate>(
         (record { files = S.files store.old; folders = F.folders folder.old })
         (prepared_status result) (F.asked folder.old) (F.asked folder.new)
         (S.asked store.old) (S.asked store.new) }
-    ensures done { IfOk result (PreparesAll built_in (asked wanted.entry)
+    ensures done { IfOk result (Prints built_in (asked wanted.entry)
         (record { files = S.files store.old; folders = F.folders folder.old })) }
     ensures refused { IfErr result (IsRefusedAll built_in (asked wanted.entry)
         (record { files = S.files store.old; folders = F.folders folder.old })) }
@@ -71,8 +77,7 @@ pub fn prepare_words<'a, S: Store, F: Folder, G: Gate>(
     folder: &mut F,
     gate: &G,
     words: &'a [Bytes],
-) -> Result<Prepared, Refusal<'a>>
-    requires { (command : Command) → Spells words.now command → NeedsThreads command → ⊥ }
+) -> Result<Bytes, Refusal<'a>>
     ensures kept { S.files store.new ≡ S.files store.old }
     ensures kept_folders { F.folders folder.new ≡ F.folders folder.old }
     ensures later { S.faults store.old ≤ S.faults store.new }
@@ -81,7 +86,7 @@ pub fn prepare_words<'a, S: Store, F: Folder, G: Gate>(
         (record { files = S.files store.old; folders = F.folders folder.old })
         (prepared_status result) (F.asked folder.old) (F.asked folder.new)
         (S.asked store.old) (S.asked store.new) }
-    ensures done { IfOk result (PreparesWords built_in words.now
+    ensures done { IfOk result (PrintsWords built_in words.now
         (record { files = S.files store.old; folders = F.folders folder.old })) }
     ensures refused { IfErr result (λ refusal. IsAnswer built_in words.now
         (record { files = S.files store.old; folders = F.folders folder.old })

@@ -18,13 +18,13 @@ pub enum Status {
     Read,
     /// Writing failed.
     Write,
-    /// The door failed.
+    /// The door failed; it comes with serving.
     Door,
-    /// The audit's verdict is no.
+    /// The audit's verdict is no; it comes with auditing.
     No,
     /// A named file is missing or too long.
     Missing,
-    /// The program can't be served.
+    /// The program can't be served; it comes with serving.
     NotServed,
     /// There was no memory.
     Memory,

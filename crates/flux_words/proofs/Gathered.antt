@@ -1,14 +1,14 @@
 -- What is given by the parts so far, and by all.
-use Rattle.std.proofs.Common.{◌≡◌, inl, inr, ℕ, ◌<◌, ◌≤◌, List, [], ◌∷◌, ◌++◌, length, sym, ap, ◌∙◌, subst, arith}
-use Rattle.std.specs.Prelude.{Option, Some, None, option_to_list}
+use Rattle.std.proofs.Common.{◌≡◌, inl, inr, ℕ, ◌<◌, List, [], ◌∷◌, ◌++◌, length, sym, ap, ◌∙◌, subst, arith}
+use Rattle.std.specs.Prelude.{Option, Some, None, option_to_list, option_copied}
 use Rattle.std.proofs.lemmas.List.{length-append}
 use Rattle.flux_words.specs.declared.names.OptionName.{OptionName}
-use Rattle.flux_words.specs.declared.names.OptionName.TheVariants.{Runtime, Docs, Journal, Port, Batches}
+use Rattle.flux_words.specs.declared.names.OptionName.TheVariants.{Runtime, Docs, Journal}
 use Rattle.flux_words.specs.declared.given.Given.{Given}
 use Rattle.flux_words.specs.declared.values.Runtime as values
 use Rattle.flux_words.specs.declared.values.JournalFormat.{JournalFormat}
-use Rattle.flux_words.specs.Values.{IsRuntime, IsFormat, IsPort, IsBatches}
-use Rattle.flux_words.specs.Behind.{Manner, Serving, HasParts, HasNoServing, FitsRun, FitsAudit, FitsLoad, FitsServe}
+use Rattle.flux_words.specs.Values.{IsRuntime, IsFormat}
+use Rattle.flux_words.specs.Commands.{Manner, SpellsRun}
 use Rattle.flux_words.specs.Parts.{Part, word, option, Begins, BeginWith, if_for, words_in, values_of}
 use Rattle.flux_words.specs.steps.Given.{files_of, listed, HoldsAll, Adds, IsFull, IsTooMuch, IsGiven, AreSoFar}
 use Rattle.flux_words.proofs.Laid.{begin_more, past, one_part, one_parting, words_in-append, values_of-append, if_for-same}
@@ -16,7 +16,7 @@ use Rattle.flux_words.proofs.Laid.{begin_more, past, one_part, one_parting, word
 -- the parts so far, and what is given by them
 abbrev pub AreAllSoFar : List (List ℕ) → List (List ℕ) → Given → Type 0
 AreAllSoFar words rest given =
-    AreSoFar words rest (files_of given.files) (listed given.runtime) (listed given.docs) (listed given.journal) (listed given.port) (listed given.batches)
+    AreSoFar words rest (files_of given.files) (listed given.runtime) (listed given.docs) (listed given.journal)
 
 value_more : (name : OptionName) (before after : List (List ℕ)) (parts : List Part) (p : Part) → before ≡ values_of name parts → after ≡ before ++ values_of name (p ∷ []) → after ≡ values_of name (parts ++ p ∷ [])
 value_more name before after parts p is adds = adds ∙ ap (λ (l : List (List ℕ)). l ++ values_of name (p ∷ [])) is ∙ sym (values_of-append name parts (p ∷ []))
@@ -30,8 +30,6 @@ one_more words rest next before after p sofar begins adds = record {
     runtime_ = value_more Runtime (listed before.runtime) (listed after.runtime) sofar.parts p sofar.holds.runtime_ adds.runtime_;
     docs_ = value_more Docs (listed before.docs) (listed after.docs) sofar.parts p sofar.holds.docs_ adds.docs_;
     journal_ = value_more Journal (listed before.journal) (listed after.journal) sofar.parts p sofar.holds.journal_ adds.journal_;
-    port_ = value_more Port (listed before.port) (listed after.port) sofar.parts p sofar.holds.port_ adds.port_;
-    batches_ = value_more Batches (listed before.batches) (listed after.batches) sofar.parts p sofar.holds.batches_ adds.batches_;
   };
 }
 
@@ -57,8 +55,6 @@ full_too_much given sofar more all (word a) holds full e =
 full_too_much given sofar more all (option Runtime v) holds full e = inr (Runtime, twice Runtime (listed given.runtime) v sofar more all holds.runtime_ full e)
 full_too_much given sofar more all (option Docs v) holds full e = inr (Docs, twice Docs (listed given.docs) v sofar more all holds.docs_ full e)
 full_too_much given sofar more all (option Journal v) holds full e = inr (Journal, twice Journal (listed given.journal) v sofar more all holds.journal_ full e)
-full_too_much given sofar more all (option Port v) holds full e = inr (Port, twice Port (listed given.port) v sofar more all holds.port_ full e)
-full_too_much given sofar more all (option Batches v) holds full e = inr (Batches, twice Batches (listed given.batches) v sofar more all holds.batches_ full e)
 
 too_much_more : (rest next : List (List ℕ)) (given : Given) (p : Part) (sofar more all : List Part) → (rest ≡ [] → ⊥) → HoldsAll given sofar → Begins p rest next → IsFull given p → all ≡ sofar ++ more → BeginWith more rest [] → IsTooMuch all
 too_much_more rest next given p sofar [] all some holds begins full e laid = absurd (some laid)
@@ -75,88 +71,56 @@ too_much_there words rest next given p sofar some begins full all laid =
 pub all_given : (words rest : List (List ℕ)) (given : Given) → AreAllSoFar words rest given → rest ≡ [] → IsGiven words given
 all_given words rest given sofar none = record { parts = sofar.parts; laid = subst (λ (r : List (List ℕ)). BeginWith sofar.parts words r) none sofar.front; holds = sofar.holds }
 
--- ---- what commands take
+-- ---- what `run` takes
 
--- no command takes more words than three, nor an option twice
-pub record IsFew (parts : List Part) : Type 0 where
-  pub words_ : length (words_in parts) ≤ 3
-  pub once : (name : OptionName) → length (values_of name parts) ≤ 1
+few_runtimes : (vs : List (List ℕ)) (runtime : values.Runtime) → IsRuntime vs runtime → 1 < length vs → ⊥
+few_runtimes [] runtime is more = omega arith
+few_runtimes (v ∷ []) runtime is more = omega arith
+few_runtimes (v ∷ w ∷ vs) runtime is more = is
 
-not_too_much : (parts : List Part) → IsFew parts → IsTooMuch parts → ⊥
-not_too_much parts few (inl more) = let most = few.words_ in omega (arith, most, more)
-not_too_much parts few (inr (name, more)) = let most = few.once name in omega (arith, most, more)
+few_formats : (vs : List (List ℕ)) (journal : JournalFormat) → IsFormat vs journal → 1 < length vs → ⊥
+few_formats [] journal is more = omega arith
+few_formats (v ∷ []) journal is more = omega arith
+few_formats (v ∷ w ∷ vs) journal is more = is
 
-pub takes_less : (words : List (List ℕ)) (Fits : List Part → Type 0) → ((parts : List Part) → Fits parts → IsFew parts) → ((parts : List Part) → BeginWith parts words [] → IsTooMuch parts) → HasParts words Fits → ⊥
-takes_less words Fits few much has = not_too_much has.parts (few has.parts has.fits) (much has.parts has.laid)
+few_docs : (docs : Option (List ℕ)) → 1 < length (option_to_list docs) → ⊥
+few_docs None more = omega arith
+few_docs (Some d) more = omega arith
 
--- what fits a command is what was gathered
-pub fits_given : (words : List (List ℕ)) (given : Given) (is : IsGiven words given) (Fits : List Part → Type 0) → HasParts words Fits → Fits is.parts
-fits_given words given is Fits has = subst Fits (one_parting has.parts is.parts words has.laid is.laid) has.fits
+once_given : (name : OptionName) (manner : Manner) (parts : List Part) → IsRuntime (values_of Runtime parts) manner.runtime → values_of Docs parts ≡ option_to_list manner.docs → IsFormat (values_of Journal parts) manner.journal → 1 < length (values_of name parts) → ⊥
+once_given Runtime manner parts r d j more = few_runtimes (values_of Runtime parts) manner.runtime r more
+once_given Docs manner parts r d j more = few_docs manner.docs (omega (arith, more, ap length d))
+once_given Journal manner parts r d j more = few_formats (values_of Journal parts) manner.journal j more
 
--- ---- lists of values that hold one at most
+-- more than it takes is no command
+pub takes_less : (words : List (List ℕ)) (file items : List ℕ) (manner : Manner) → ((parts : List Part) → BeginWith parts words [] → IsTooMuch parts) → SpellsRun words file items manner → ⊥
+takes_less words file items manner much spells = elim (much spells.parts spells.laid) [
+  | inl words_ ↦ omega (arith, words_, ap length spells.files)
+  | inr twice_ ↦ once_given twice_.0 manner spells.parts spells.runtime_ spells.docs_ spells.journal_ twice_.1
+]
 
-runtime_once : (vs : List (List ℕ)) (runtime : values.Runtime) → IsRuntime vs runtime → length vs ≤ 1
-runtime_once [] runtime is = omega arith
-runtime_once (v ∷ []) runtime is = omega arith
-runtime_once (v ∷ w ∷ vs) runtime is = absurd is
+-- what is given fits what the words spell
+pub record Fits (given : Given) (file items : List ℕ) (manner : Manner) : Type 0 where
+  pub files_ : files_of given.files ≡ file ∷ items ∷ []
+  pub runtime_ : IsRuntime (listed given.runtime) manner.runtime
+  pub journal_ : IsFormat (listed given.journal) manner.journal
 
-format_once : (vs : List (List ℕ)) (journal : JournalFormat) → IsFormat vs journal → length vs ≤ 1
-format_once [] journal is = omega arith
-format_once (v ∷ []) journal is = omega arith
-format_once (v ∷ w ∷ vs) journal is = absurd is
+pub fits_given : (words : List (List ℕ)) (given : Given) (file items : List ℕ) (manner : Manner) → IsGiven words given → SpellsRun words file items manner → Fits given file items manner
+fits_given words given file items manner is spells =
+    let same = one_parting spells.parts is.parts words spells.laid is.laid in record {
+      files_ = is.holds.words_ ∙ ap words_in (sym same) ∙ spells.files;
+      runtime_ = subst (λ (l : List (List ℕ)). IsRuntime l manner.runtime) (ap (values_of Runtime) same ∙ sym is.holds.runtime_) spells.runtime_;
+      journal_ = subst (λ (l : List (List ℕ)). IsFormat l manner.journal) (ap (values_of Journal) same ∙ sym is.holds.journal_) spells.journal_;
+    }
 
-docs_once : (vs : List (List ℕ)) (docs : Option (List ℕ)) → vs ≡ option_to_list docs → length vs ≤ 1
-docs_once vs None is = omega (arith, ap length is)
-docs_once vs (Some d) is = omega (arith, ap length is)
-
-none_once : (vs : List (List ℕ)) → vs ≡ [] → length vs ≤ 1
-none_once vs is = omega (arith, ap length is)
-
-port_once : (vs : List (List ℕ)) (port : ℕ) → IsPort vs port → length vs ≤ 1
-port_once [] port is = absurd is
-port_once (v ∷ []) port is = omega arith
-port_once (v ∷ w ∷ vs) port is = absurd is
-
-batches_once : (vs : List (List ℕ)) (batches : ℕ) → IsBatches vs batches → length vs ≤ 1
-batches_once [] batches is = omega arith
-batches_once (v ∷ []) batches is = omega arith
-batches_once (v ∷ w ∷ vs) batches is = absurd is
-
-by_name : (parts : List Part) → length (values_of Runtime parts) ≤ 1 → length (values_of Docs parts) ≤ 1 → length (values_of Journal parts) ≤ 1 → length (values_of Port parts) ≤ 1 → length (values_of Batches parts) ≤ 1 → (name : OptionName) → length (values_of name parts) ≤ 1
-by_name parts r d j p b Runtime = r
-by_name parts r d j p b Docs = d
-by_name parts r d j p b Journal = j
-by_name parts r d j p b Port = p
-by_name parts r d j p b Batches = b
-
--- options of `serve` that aren't given
-no_port : (parts : List Part) → HasNoServing parts → length (values_of Port parts) ≤ 1
-no_port parts none = none_once (values_of Port parts) none.no_port
-
-no_batches : (parts : List Part) → HasNoServing parts → length (values_of Batches parts) ≤ 1
-no_batches parts none = none_once (values_of Batches parts) none.no_batches
-
-pub few_run : (file items : List ℕ) (manner : Manner) (parts : List Part) → FitsRun file items manner parts → IsFew parts
-few_run file items manner parts fits = record {
-  words_ = omega (arith, ap length fits.files);
-  once = by_name parts (runtime_once (values_of Runtime parts) manner.runtime fits.runtime_) (docs_once (values_of Docs parts) manner.docs fits.docs_) (format_once (values_of Journal parts) manner.journal fits.journal_) (no_port parts fits.no_serving) (no_batches parts fits.no_serving);
-}
-
-pub few_audit : (file items journal : List ℕ) (docs : Option (List ℕ)) (parts : List Part) → FitsAudit file items journal docs parts → IsFew parts
-few_audit file items journal docs parts fits = record {
-  words_ = omega (arith, ap length fits.files);
-  once = by_name parts (none_once (values_of Runtime parts) fits.no_runtime) (docs_once (values_of Docs parts) docs fits.docs_) (none_once (values_of Journal parts) fits.no_journal) (no_port parts fits.no_serving) (no_batches parts fits.no_serving);
-}
-
-pub few_load : (count first : ℕ) (runtime : values.Runtime) (parts : List Part) → FitsLoad count first runtime parts → IsFew parts
-few_load count first runtime parts fits = record {
-  words_ = omega (arith, ap length fits.numbers);
-  once = by_name parts (runtime_once (values_of Runtime parts) runtime fits.runtime_) (none_once (values_of Docs parts) fits.no_docs) (none_once (values_of Journal parts) fits.no_journal) (no_port parts fits.no_serving) (no_batches parts fits.no_serving);
-}
-
-pub few_serve : (file : List ℕ) (serving : Serving) (parts : List Part) → FitsServe file serving parts → IsFew parts
-few_serve file serving parts fits = record {
-  words_ = omega (arith, ap length fits.files);
-  once = by_name parts (runtime_once (values_of Runtime parts) serving.runtime fits.runtime_) (docs_once (values_of Docs parts) serving.docs fits.docs_) (none_once (values_of Journal parts) fits.no_journal)
-      (port_once (values_of Port parts) serving.port fits.port_) (batches_once (values_of Batches parts) serving.batches fits.batches_);
+-- and what is given is spelled
+pub given_spelled : (words : List (List ℕ)) (given : Given) (file items : List ℕ) (runtime : values.Runtime) (journal : JournalFormat) → IsGiven words given → files_of given.files ≡ file ∷ items ∷ [] → IsRuntime (listed given.runtime) runtime → IsFormat (listed given.journal) journal
+    → SpellsRun words file items (record { runtime = runtime; docs = option_copied given.docs; journal = journal })
+given_spelled words given file items runtime journal is files_ r j = record {
+  parts = is.parts;
+  laid = is.laid;
+  files = sym is.holds.words_ ∙ files_;
+  runtime_ = subst (λ (l : List (List ℕ)). IsRuntime l runtime) is.holds.runtime_ r;
+  docs_ = sym is.holds.docs_;
+  journal_ = subst (λ (l : List (List ℕ)). IsFormat l journal) is.holds.journal_ j;
 }

@@ -1,8 +1,8 @@
--- Numbers, and the values of options: runtimes, formats of journals, ports and counts of batches.
+-- The values of options: runtimes and formats of journals.
 use Rattle.std.specs.Prelude.{◌≡◌, ◌⊎◌, ℕ, ◌+◌, ◌-◌, ◌*◌, ◌==◌, ◌<◌, ◌≤◌, List, [], ◌∷◌, ◌++◌, length, codes, ⊤}
 use Rattle.std.specs.List.{AllByRecursion, slice_split}
 use Rattle.flux_model.specs.declared.items.FlowNo.{FlowNo}
-use Rattle.flux_words.specs.declared.values.TheConstants.{DIGIT_LIMIT, NUMBER_LIMIT, PORT_LIMIT, BATCHES_LIMIT}
+use Rattle.flux_words.specs.declared.values.TheConstants.{DIGIT_LIMIT, NUMBER_LIMIT}
 use Rattle.flux_words.specs.declared.values.Runtime.{Runtime}
 use Rattle.flux_words.specs.declared.values.Runtime.TheVariants.{Event, Script}
 use Rattle.flux_words.specs.declared.values.JournalFormat.{JournalFormat}
@@ -21,22 +21,20 @@ abbrev pub number_from : ℕ → List ℕ → ℕ
 number_from before [] = before
 number_from before (b ∷ digits) = number_from (10 * before + (b - 48)) digits
 
--- a number in a range, in 1 to 10 decimal digits, leading zeros included
-pub record SpellsNumber (least most : ℕ) (digits : List ℕ) (number : ℕ) : Type 0 where
+-- a flow's number, which is at most 4,095, in 1 to 10 decimal digits, leading zeros included
+pub record SpellsNumber (digits : List ℕ) (flow : FlowNo) : Type 0 where
   pub some : 0 < length digits
-  pub few : length digits ≤ DIGIT_LIMIT
+  pub most : length digits ≤ DIGIT_LIMIT
   pub decimal_ : AllByRecursion IsDigit digits
-  pub value : number ≡ number_from 0 digits
-  pub from : least ≤ number
-  pub to : number ≤ most
+  pub value : flow.0 ≡ number_from 0 digits
+  pub small : flow.0 ≤ NUMBER_LIMIT
 
--- pieces spell flows' numbers, one each, of at most 4,095
+-- pieces spell numbers, one each
 abbrev pub SpellEach : List (List ℕ) → List FlowNo → Type 0
 SpellEach [] [] = ⊤
 SpellEach [] (flow ∷ numbers) = ⊥
 SpellEach (digits ∷ pieces) [] = ⊥
-SpellEach (digits ∷ pieces) (flow ∷ numbers) =
-    SpellsNumber 0 NUMBER_LIMIT digits flow.0 × SpellEach pieces numbers
+SpellEach (digits ∷ pieces) (flow ∷ numbers) = SpellsNumber digits flow × SpellEach pieces numbers
 
 -- numbers with commas between them, or nothing
 pub record SpellsNumbers (list : List ℕ) (numbers : List FlowNo) : Type 0 where
@@ -64,15 +62,3 @@ abbrev pub IsFormat : List (List ℕ) → JournalFormat → Type 0
 IsFormat [] format = format ≡ One
 IsFormat (value ∷ []) format = SpellsFormat value format
 IsFormat (value ∷ other ∷ values) format = ⊥
-
--- the port of `--port`, once, from 1 to 65,535
-abbrev pub IsPort : List (List ℕ) → ℕ → Type 0
-IsPort [] port = ⊥
-IsPort (value ∷ []) port = SpellsNumber 1 PORT_LIMIT value port
-IsPort (value ∷ other ∷ values) port = ⊥
-
--- how many batches `--batches` wants, at most once, from 1 to 4,294,967,295; that many where it isn't given
-abbrev pub IsBatches : List (List ℕ) → ℕ → Type 0
-IsBatches [] batches = batches ≡ BATCHES_LIMIT
-IsBatches (value ∷ []) batches = SpellsNumber 1 BATCHES_LIMIT value batches
-IsBatches (value ∷ other ∷ values) batches = ⊥

@@ -1,17 +1,13 @@
 //! The commands of the command line.
 
-ghost use Rattle.std.specs.Prelude.{◌≡◌, ◌↔◌, IsTrue, IfOk, IfSome, IfNone, Some, option_map};
-ghost use Rattle.flux_words.specs.Commands.{Command, Spells, SpellsNone, NeedsThreads};
+ghost use Rattle.std.specs.Prelude.{◌≡◌, ◌≢◌, ◌↔◌, [], ◌∷◌, ℕ, List, codes, IsTrue, IfOk, IfSome, IfNone, Some, option_map};
+ghost use Rattle.flux_words.specs.Commands.{Command, Manner, Spells, SpellsNone, SpellsRun, NeedsThreads};
 ghost use Rattle.flux_words.specs.Asking.{asked};
-ghost use Rattle.flux_words.specs.steps.Asking.{IsAsked, IsAskedBehind, IsFileRead};
+ghost use Rattle.flux_words.specs.steps.Asking.{IsAsked, IsRunRead};
 
-use crate::audits::read_audit;
-use crate::loads::read_load;
-use crate::names::{CommandName, read_name};
+use crate::given::{Files, gather};
 use crate::parts::is_positional;
-use crate::runs::read_run;
-use crate::serves::{is_serve, read_serve};
-use crate::values::{JournalFormat, Runtime};
+use crate::values::{JournalFormat, Runtime, read_format, read_runtime};
 use flux_values::{Bytes, Memory};
 use std::alloc::Global;
 
@@ -35,65 +31,57 @@ pub enum Asked<'a> {
         docs: Option<&'a [u8]>,
         journal: JournalFormat,
     },
-    Audit {
-        file: &'a [u8],
-        items: &'a [u8],
-        journal: &'a [u8],
-        /// The folder of documents.
-        docs: Option<&'a [u8]>,
-    },
-    Load {
-        /// How many items, from 1 to 4,096.
-        count: u32,
-        first: u32,
-        runtime: Runtime,
-    },
-    Serve {
-        file: &'a [u8],
-        port: u16,
-        /// How many batches, one at least.
-        batches: u32,
-        /// The folder of documents.
-        docs: Option<&'a [u8]>,
-        runtime: Runtime,
-    },
     Help,
 }
 
-/// The one file that words are.
-fn read_file<'a>(words: &'a [Bytes]) -> Option<&'a [u8]>
-    ensures { IsFileRead words.now result }
+fn read_alone<'a>(command: &[u8]) -> Option<Asked<'a>>
+    requires { command.now ≢ codes "run" }
+    ensures { IsAsked (command.now ∷ []) result }
 {
-    let [word] = words else {
-        return None;
-    };
-    let file = word.as_bytes();
-    if is_positional(file) {
-        Some(file)
-    } else {
-        None
+    match command {
+        b"help" | b"--help" => Some(Asked::Help),
+        _ => None,
     }
 }
 
-/// What the words behind a command's name ask for.
-fn read_behind<'a>(
-    alloc: Global,
-    name: CommandName,
-    words: &'a [Bytes],
-) -> Result<Option<Asked<'a>>, Memory>
-    ensures { IfOk result (IsAskedBehind name words.now) }
+fn read_file<'a>(command: &[u8], file: &'a [u8]) -> Option<Asked<'a>>
+    requires { command.now ≢ codes "run" }
+    ensures { IsAsked (command.now ∷ file.now ∷ []) result }
 {
-    match name {
-        CommandName::Check => Ok(read_file(words).map(|file| Asked::Check { file })),
-        CommandName::Plan => Ok(read_file(words).map(|file| Asked::Plan { file })),
-        CommandName::Format => Ok(read_file(words).map(|file| Asked::Format { file })),
-        CommandName::Run => read_run(alloc, words),
-        CommandName::Audit => Ok(read_audit(words)),
-        CommandName::Load => read_load(alloc, words),
-        CommandName::Serve => read_serve(alloc, words),
-        CommandName::Help if words.is_empty() => Ok(Some(Asked::Help)),
-        CommandName::Help => Ok(None),
+    if !is_positional(file) {
+        return None;
     }
+    match command {
+        b"check" => Some(Asked::Check { file }),
+        b"plan" => Some(Asked::Plan { file }),
+        b"format" => Some(Asked::Format { file }),
+        _ => None,
+    }
+}
+
+/// What the words behind `run` ask for.
+fn read_run<'a>(alloc: Global, words: &'a [Bytes]) -> Result<Option<Asked<'a>>, Memory>
+    ensures { IfOk result (IsRunRead words.now) }
+{
+    let Some(given) = gather(words) else {
+        return Ok(None);
+    };
+    let Files::Two(file, items) = given.files else {
+        return Ok(None);
+    };
+    let Some(journal) = read_format(given.journal) else {
+        return Ok(None);
+    };
+    let Some(runtime) = read_runtime(alloc, given.runtime)? else {
+        return Ok(None);
+    };
+    Ok(Some(Asked::Run {
+        file,
+        items,
+        runtime,
+        docs: given.docs,
+        journal,
+    }))
 }
 
 fn read_command<'a>(alloc: Global, words: &'a [Bytes]) -> Result<Option<Asked<'a>>, Memory>
@@ -102,17 +90,21 @@ fn read_command<'a>(alloc: Global, words: &'a [Bytes]) -> Result<Option<Asked<'a
     let [first, rest @ ..] = words else {
         return Ok(None);
     };
-    let Some(name) = read_name(first.as_bytes()) else {
-        return Ok(None);
-    };
-    read_behind(alloc, name, rest)
+    let command = first.as_bytes();
+    if command == b"run".as_slice() {
+        return read_run(alloc, rest);
+    }
+    match rest {
+        [] => Ok(read_alone(command)),
+        [file] => Ok(read_file(command, file.as_bytes())),
+        _ => Ok(None),
+    }
 }
 
 /// What the words ask for; None exactly where they spell no command.
 ///
 /// The words are those behind the program's own name: `check FILE`, `plan FILE`, `format FILE`,
-/// `run FILE ITEMS [--runtime R] [--docs DIR] [--journal J]`, `audit FILE ITEMS JOURNAL [--docs DIR]`,
-/// `load N K [--runtime R]`, `serve FILE --port P [--docs DIR] [--batches B] [--runtime R]`, and `help` or `--help`.
+/// `run FILE ITEMS [--runtime R] [--docs DIR] [--journal J]`, and `help` or `--help`.
 pub fn read_words<'a>(alloc: Global, words: &'a [Bytes]) -> Result<Option<Asked<'a>>, Memory>
     // Each answer has its cause.
     ensures found { IfOk result (λ found. IfSome found (λ a. Spells words.now (asked a))) }
@@ -124,14 +116,12 @@ pub fn read_words<'a>(alloc: Global, words: &'a [Bytes]) -> Result<Option<Asked<
     read_command(alloc, words)
 }
 
-/// Whether the words spell a command that needs threads, which is told without memory: `serve` does, and else none yet,
-/// since a runtime that starts them can't be asked for.
+/// Whether the words spell a command that needs threads: none does yet, since a runtime that starts
+/// them can't be asked for.
 pub fn needs_threads(words: &[Bytes]) -> bool
     ensures { IsTrue result ↔ ((command : Command) × Spells words.now command
         × NeedsThreads command) }
 {
-    match words {
-        [first, rest @ ..] if first.as_bytes() == b"serve".as_slice() => is_serve(rest),
-        _ => false,
-    }
+    let _ = words;
+    false
 }

@@ -1,6 +1,6 @@
 //! All that is given behind the command's word.
 
-ghost use Rattle.std.specs.Prelude.{◌≡◌, ◌∷◌, ◌++◌, [], List, IfSome, IfNone, IsTrue, IsFalse, length};
+ghost use Rattle.std.specs.Prelude.{◌≡◌, ◌∷◌, ◌++◌, [], List, IfSome, IfNone, length};
 ghost use Rattle.flux_words.specs.Parts.{Part as AnyPart, BeginWith};
 ghost use Rattle.flux_words.specs.steps.Found.{part_of};
 ghost use Rattle.flux_words.specs.steps.Given.{files_of, listed, HoldsAll, Adds, IsFull, IsGiven, IsTooMuch};
@@ -9,13 +9,12 @@ use crate::names::OptionName;
 use crate::parts::{Part, take_part};
 use flux_values::Bytes;
 
-/// The positional words, of which no command takes more than three.
+/// The positional words, of which no command takes more than two.
 #[derive(Clone, Copy, Debug)]
 pub enum Files<'a> {
     None,
     One(&'a [u8]),
     Two(&'a [u8], &'a [u8]),
-    Three(&'a [u8], &'a [u8], &'a [u8]),
 }
 
 /// The positional words, and the value of each option.
@@ -25,21 +24,18 @@ pub struct Given<'a> {
     pub runtime: Option<&'a [u8]>,
     pub docs: Option<&'a [u8]>,
     pub journal: Option<&'a [u8]>,
-    pub port: Option<&'a [u8]>,
-    pub batches: Option<&'a [u8]>,
 }
 
 impl<'a> Files<'a> {
     /// With one word more, where there is room.
     fn with(self, word: &'a [u8]) -> Option<Files<'a>>
         ensures added { IfSome result (λ files. files_of files ≡ files_of self.entry ++ word.now ∷ []) }
-        ensures full { IfNone result (length (files_of self.entry) ≡ 3) }
+        ensures full { IfNone result (length (files_of self.entry) ≡ 2) }
     {
         match self {
             Files::None => Some(Files::One(word)),
             Files::One(first) => Some(Files::Two(first, word)),
-            Files::Two(first, second) => Some(Files::Three(first, second, word)),
-            Files::Three(_, _, _) => None,
+            Files::Two(_, _) => None,
         }
     }
 }
@@ -64,17 +60,7 @@ impl<'a> Given<'a> {
             runtime: None,
             docs: None,
             journal: None,
-            port: None,
-            batches: None,
         }
-    }
-
-    /// Whether an option is given that `serve` alone has.
-    pub fn serves(&self) -> bool
-        ensures some { IsTrue result → listed self.now.port ≡ [] → listed self.now.batches ≡ [] → ⊥ }
-        ensures none { IsFalse result → (listed self.now.port ≡ []) × (listed self.now.batches ≡ []) }
-    {
-        self.port.is_some() || self.batches.is_some()
     }
 
     /// Adds a part; None where no command has it once more.
@@ -87,8 +73,6 @@ impl<'a> Given<'a> {
             Part::Option(OptionName::Runtime, value) => self.runtime = once(self.runtime, value)?,
             Part::Option(OptionName::Docs, value) => self.docs = once(self.docs, value)?,
             Part::Option(OptionName::Journal, value) => self.journal = once(self.journal, value)?,
-            Part::Option(OptionName::Port, value) => self.port = once(self.port, value)?,
-            Part::Option(OptionName::Batches, value) => self.batches = once(self.batches, value)?,
         }
         Some(())
     }

@@ -4,16 +4,11 @@
 //! memory alone is free. Which words spell which command is one relation, `Spells`.
 #![tactic(auto)]
 
-mod audits;
 mod commands;
 mod given;
-mod loads;
 mod names;
 mod parts;
-mod runs;
-mod serves;
 mod values;
 
 pub use commands::{Asked, needs_threads, read_words};
-pub use loads::{FIRST_LIMIT, LOAD_LIMIT};
-pub use values::{BATCHES_LIMIT, JournalFormat, NUMBER_LIMIT, PORT_LIMIT, Runtime};
+pub use values::{JournalFormat, NUMBER_LIMIT, Runtime};

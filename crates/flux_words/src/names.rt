@@ -1,23 +1,8 @@
-//! The names of commands and of options.
+//! The names of options.
 
 ghost use Rattle.std.specs.Prelude.{◌≡◌, ◌++◌, ℕ, List, IfSome, IfNone};
-ghost use Rattle.flux_words.specs.declared.names.CommandName.{CommandName};
 ghost use Rattle.flux_words.specs.declared.names.OptionName.{OptionName};
-ghost use Rattle.flux_words.specs.Names.{IsNamed};
 ghost use Rattle.flux_words.specs.Parts.{spelled};
-
-/// A command, by the first word.
-#[derive(Clone, Copy, Debug, PartialEq, Eq)]
-pub enum CommandName {
-    Check,
-    Plan,
-    Format,
-    Run,
-    Audit,
-    Load,
-    Serve,
-    Help,
-}
 
 /// An option of the command line.
 #[derive(Clone, Copy, Debug, PartialEq, Eq)]
@@ -25,26 +10,6 @@ pub enum OptionName {
     Runtime,
     Docs,
     Journal,
-    Port,
-    Batches,
-}
-
-/// The command that a first word names.
-pub fn read_name(word: &[u8]) -> Option<CommandName>
-    ensures found { IfSome result (λ name. IsNamed name word.now) }
-    ensures none { IfNone result ((name : CommandName) → IsNamed name word.now → ⊥) }
-{
-    match word {
-        b"check" => Some(CommandName::Check),
-        b"plan" => Some(CommandName::Plan),
-        b"format" => Some(CommandName::Format),
-        b"run" => Some(CommandName::Run),
-        b"audit" => Some(CommandName::Audit),
-        b"load" => Some(CommandName::Load),
-        b"serve" => Some(CommandName::Serve),
-        b"help" | b"--help" => Some(CommandName::Help),
-        _ => None,
-    }
 }
 
 /// What stands behind a mark at the front.
@@ -69,12 +34,6 @@ pub fn split_name(word: &[u8]) -> Option<(OptionName, &[u8])>
     }
     if let Some(rest) = strip(b"--journal", word) {
         return Some((OptionName::Journal, rest));
-    }
-    if let Some(rest) = strip(b"--port", word) {
-        return Some((OptionName::Port, rest));
-    }
-    if let Some(rest) = strip(b"--batches", word) {
-        return Some((OptionName::Batches, rest));
     }
     None
 }

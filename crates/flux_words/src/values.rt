@@ -1,9 +1,8 @@
-//! The values of options, and numbers.
+//! The values of options.
 
-ghost use Rattle.std.specs.Prelude.{◌↔◌, List, IfOk, IsTrue};
-ghost use Rattle.flux_words.specs.Values.{SpellsNumbers, IsRuntime};
+ghost use Rattle.std.specs.Prelude.{IfOk};
 ghost use Rattle.flux_words.specs.steps.Given.{listed};
-ghost use Rattle.flux_words.specs.steps.Found.{IsValueRead, IsNumberRead, AreNumbersRead, IsRuntimeRead, IsFormatRead, IsPortRead, IsBatchesRead};
+ghost use Rattle.flux_words.specs.steps.Found.{IsValueRead, IsNumberRead, AreNumbersRead, IsRuntimeRead, IsFormatRead};
 
 use crate::names::strip;
 use flux_model::FlowNo;
@@ -15,12 +14,6 @@ pub const DIGIT_LIMIT: usize = 10;
 
 /// The greatest number of a flow that a script names.
 pub const NUMBER_LIMIT: u32 = 4_095;
-
-/// The greatest number of a port.
-pub const PORT_LIMIT: u32 = 65_535;
-
-/// The greatest number of batches, which is wanted where none is given.
-pub const BATCHES_LIMIT: u32 = 4_294_967_295;
 
 /// By which runtime items are run. `event=H`, `perflow` and `pool=N` come with the runtimes that start
 /// threads; until then no words spell them.
@@ -39,35 +32,34 @@ pub enum JournalFormat {
     Two,
 }
 
-/// The number that decimal digits spell, if it isn't greater than a limit.
-fn value_of(digits: &[u8], most: u32) -> Option<u32>
-    ensures { IsValueRead most digits.now result }
+/// The number that decimal digits spell, if it isn't greater than a flow's.
+fn value_of(digits: &[u8]) -> Option<u32>
+    ensures { IsValueRead digits.now result }
 {
-    let mut number: u64 = 0;
+    let mut number = 0;
     let mut rest = digits;
     while let [digit, others @ ..] = rest {
         if *digit < b'0' || b'9' < *digit {
             return None;
         }
-        number = 10 * number + u64::from(*digit - b'0');
-        if number > u64::from(most) {
+        number = 10 * number + u32::from(*digit - b'0');
+        if number > NUMBER_LIMIT {
             return None;
         }
         rest = others;
     }
-    Some(number as u32)
+    Some(number)
 }
 
-/// The number that 1 to 10 decimal digits spell, if it is neither too small nor too great.
-pub fn read_number(digits: &[u8], least: u32, most: u32) -> Option<u32>
-    ensures { IsNumberRead least most digits.now result }
+fn read_number(digits: &[u8]) -> Option<FlowNo>
+    ensures { IsNumberRead digits.now result }
 {
     if digits.is_empty() || digits.len() > DIGIT_LIMIT {
         return None;
     }
-    match value_of(digits, most) {
-        Some(number) if number >= least => Some(number),
-        _ => None,
+    match value_of(digits) {
+        Some(number) => Some(FlowNo(number)),
+        None => None,
     }
 }
 
@@ -79,44 +71,12 @@ fn read_numbers(alloc: Global, list: &[u8]) -> Result<Option<List<FlowNo>>, Memo
         return Ok(Some(numbers));
     }
     'numbers: for digits in list.split(|byte| *byte == b',') {
-        match read_number(digits, 0, NUMBER_LIMIT) {
-            Some(number) => numbers.add(FlowNo(number))?,
+        match read_number(digits) {
+            Some(number) => numbers.add(number)?,
             None => return Ok(None),
         }
     }
     Ok(Some(numbers))
-}
-
-/// Whether numbers stand in a list, which is told without memory.
-fn are_numbers(list: &[u8]) -> bool
-    ensures { IsTrue result ↔ ((numbers : List FlowNo) × SpellsNumbers list.now numbers) }
-{
-    if list.is_empty() {
-        return true;
-    }
-    'numbers: for digits in list.split(|byte| *byte == b',') {
-        match read_number(digits, 0, NUMBER_LIMIT) {
-            Some(_) => {}
-            None => return false,
-        }
-    }
-    true
-}
-
-/// Whether a runtime is given, or none has to be, which is told without memory.
-pub fn is_runtime(given: Option<&[u8]>) -> bool
-    ensures { IsTrue result ↔ ((runtime : Runtime) × IsRuntime (listed given.entry) runtime) }
-{
-    let Some(value) = given else {
-        return true;
-    };
-    if value == b"event".as_slice() {
-        return true;
-    }
-    match strip(b"script=", value) {
-        Some(list) => are_numbers(list),
-        None => false,
-    }
 }
 
 /// The runtime that is given, or `event`.
@@ -149,25 +109,5 @@ pub fn read_format(given: Option<&[u8]>) -> Option<JournalFormat>
         b"1" => Some(JournalFormat::One),
         b"2" => Some(JournalFormat::Two),
         _ => None,
-    }
-}
-
-/// The port that is given.
-pub fn read_port(given: Option<&[u8]>) -> Option<u16>
-    ensures { IsPortRead (listed given.entry) result }
-{
-    match read_number(given?, 1, PORT_LIMIT) {
-        Some(port) => Some(port as u16),
-        None => None,
-    }
-}
-
-/// How many batches are given, or as many as can be.
-pub fn read_batches(given: Option<&[u8]>) -> Option<u32>
-    ensures { IsBatchesRead (listed given.entry) result }
-{
-    match given {
-        Some(value) => read_number(value, 1, BATCHES_LIMIT),
-        None => Some(BATCHES_LIMIT),
     }
 }

@@ -11,11 +11,10 @@ use Rattle.flux_words.specs.Commands.{Command}
 use Rattle.flux_driver.specs.declared.statuses.Status.{Status}
 use Rattle.flux_driver.specs.declared.statuses.Status.TheVariants as statuses
 use Rattle.flux_driver.specs.declared.refusals.Refusal.{Refusal}
-use Rattle.flux_driver.specs.declared.refusals.Refusal.TheVariants.{Usage, Static, Items, Read, Missing, NotServed, Memory}
+use Rattle.flux_driver.specs.declared.refusals.Refusal.TheVariants.{Usage, Static, Items, Read, Missing, Memory}
 use Rattle.flux_driver.specs.Worlds.{Files, IsLost}
-use Rattle.flux_driver.specs.Origins.{named}
 use Rattle.flux_driver.specs.Commands.{ReadsProgram}
-use Rattle.flux_driver.specs.Causes.{usage_line, fault_text, item_fault_line, read_line, lost_line, not_served_line, IsStatic, IsItems, IsMissing, IsUnserved}
+use Rattle.flux_driver.specs.Causes.{usage_line, fault_text, item_fault_line, read_line, lost_line, IsStatic, IsItems, IsMissing}
 
 -- the status of a refusal
 abbrev pub status_of : Refusal → Status
@@ -24,7 +23,6 @@ status_of (Static line) = statuses.Static
 status_of (Items fault) = statuses.Items
 status_of Read = statuses.Read
 status_of (Missing name) = statuses.Missing
-status_of NotServed = statuses.NotServed
 status_of Memory = statuses.Memory
 
 -- its line
@@ -34,7 +32,6 @@ line_of (Static line) = line
 line_of (Items fault) = item_fault_line fault
 line_of Read = read_line
 line_of (Missing name) = lost_line name.now
-line_of NotServed = not_served_line
 line_of Memory = []
 
 -- the refusal of an items text
@@ -55,7 +52,6 @@ IsUnread told name max Memory = ⊤
 IsUnread told name max Usage = ⊥
 IsUnread told name max (Static line) = ⊥
 IsUnread told name max (Items fault) = ⊥
-IsUnread told name max NotServed = ⊥
 
 -- a count rose where reading failed, and stands as before in every other answer
 abbrev pub CountsRefusal : Refusal → ℕ → ℕ → Type 0
@@ -64,7 +60,6 @@ CountsRefusal Usage before after = after ≡ before
 CountsRefusal (Static line) before after = after ≡ before
 CountsRefusal (Items fault) before after = after ≡ before
 CountsRefusal (Missing name) before after = after ≡ before
-CountsRefusal NotServed before after = after ≡ before
 CountsRefusal Memory before after = after ≡ before
 
 abbrev pub Counts : {T : Type 0} → Result T Refusal → ℕ → ℕ → Type 0
@@ -81,7 +76,6 @@ SaysOrMemory Says Usage = ⊥
 SaysOrMemory Says (Items fault) = ⊥
 SaysOrMemory Says Read = ⊥
 SaysOrMemory Says (Missing name) = ⊥
-SaysOrMemory Says NotServed = ⊥
 
 -- the line of a fault of a text
 pub record IsFaultLine (Stands : StaticFault → Type 0) (text line : List ℕ) : Type 0 where
@@ -105,13 +99,12 @@ abbrev pub IsJudged : LibraryMeaning → Command → Files → Status → List �
 IsJudged meaning command told statuses.Static line = IsStatic meaning command told line
 IsJudged meaning command told statuses.Items line = IsItems meaning command told line
 IsJudged meaning command told statuses.Missing line = IsMissing meaning command told line
-IsJudged meaning command told statuses.NotServed line = IsUnserved meaning command told line
 IsJudged meaning command told other line = ⊥
 
 -- reading failed
 pub record FailsToRead (command : Command) (refusal : Refusal) : Type 0 where
   pub file : List ℕ
-  pub reads : ReadsProgram command (named file)
+  pub reads : ReadsProgram command file
   pub is : refusal ≡ Read
 
 -- a command was refused: that is decided, or reading failed, or there was no memory

@@ -1,14 +1,7 @@
 -- Steps of the reader: what was asked for.
-use Rattle.std.specs.Prelude.{◌≡◌, ℕ, List, [], ◌∷◌, Option, Some, None, option_copied}
-use Rattle.std.specs.Borrow.{Bor}
-use Rattle.flux_words.specs.declared.names.CommandName.{CommandName}
+use Rattle.std.specs.Prelude.{◌∷◌, ℕ, List, codes, Option, Some, None}
 use Rattle.flux_words.specs.declared.commands.Asked.{Asked}
-use Rattle.flux_words.specs.declared.serves.Service.{Service}
-use Rattle.flux_words.specs.declared.values.Runtime.{Runtime}
-use Rattle.flux_words.specs.Values.{IsRuntime}
-use Rattle.flux_words.specs.Behind.{Serving, IsFile, HasParts, FitsServe}
-use Rattle.flux_words.specs.steps.Given.{listed}
-use Rattle.flux_words.specs.Commands.{Command, name_of, StandsBehind, Spells, SpellsNone}
+use Rattle.flux_words.specs.Commands.{Spells, SpellsNone}
 use Rattle.flux_words.specs.Asking.{asked}
 
 -- the command that the words spell was read, or that they spell none
@@ -16,34 +9,6 @@ abbrev pub IsAsked : List (List ℕ) → Option Asked → Type 0
 IsAsked words (Some found) = Spells words (asked found)
 IsAsked words None = SpellsNone words
 
--- a command of a name, with the words behind it
-pub record IsCommand (name : CommandName) (words : List (List ℕ)) (command : Command) : Type 0 where
-  pub is : name_of command ≡ name
-  pub behind : StandsBehind command words
-
--- the same of the words behind a name
-abbrev pub IsAskedBehind : CommandName → List (List ℕ) → Option Asked → Type 0
-IsAskedBehind name words (Some found) = IsCommand name words (asked found)
-IsAskedBehind name words None = (command : Command) → IsCommand name words command → ⊥
-
--- the one file that words are, or that they are none
-abbrev pub IsFileRead : List (List ℕ) → Option (Bor (List ℕ)) → Type 0
-IsFileRead words (Some file) = IsFile file.now words
-IsFileRead words None = (file : List ℕ) → IsFile file words → ⊥
-
--- all but the runtime of `serve` was read: with a runtime, where one is spelled, it is what the words spell
-pub record IsService (words : List (List ℕ)) (service : Service) : Type 0 where
-  pub to : (runtime : Runtime) → IsRuntime (listed service.runtime) runtime
-      → HasParts words (FitsServe service.file.now (record {
-        port = service.port;
-        batches = service.batches;
-        docs = option_copied service.docs;
-        runtime = runtime;
-      }))
-  pub from : (file : List ℕ) (serving : Serving) → HasParts words (FitsServe file serving)
-      → IsRuntime (listed service.runtime) serving.runtime
-
--- or the words spell none
-abbrev pub IsServeRead : List (List ℕ) → Option Service → Type 0
-IsServeRead words (Some service) = IsService words service
-IsServeRead words None = (file : List ℕ) (serving : Serving) → HasParts words (FitsServe file serving) → ⊥
+-- the same of the words behind `run`
+abbrev pub IsRunRead : List (List ℕ) → Option Asked → Type 0
+IsRunRead words found = IsAsked (codes "run" ∷ words) found

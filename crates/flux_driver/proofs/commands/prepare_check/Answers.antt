@@ -1,7 +1,7 @@
 use Rattle.flux_words.specs.Commands.{check}
 use Rattle.flux_driver.specs.steps.Refusals.{IsRefused}
 use Rattle.flux_driver.proofs.Passed.{passed}
-use Rattle.flux_driver.proofs.Loading.{check_refused, is_ordered, are_locks, is_reported}
+use Rattle.flux_driver.proofs.Prepared.{check_refused, is_ordered, are_locks, is_reported}
 use Rattle.flux_driver.proofs.commands.prepare_check.Goals as goal
 
 pub returns-in_err-checked-clause-refused : goal.returns-in_err-checked-clause-refused
