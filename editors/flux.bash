@@ -2,28 +2,35 @@
 # Made by editors/make.
 _flux() {
     local word="${COMP_WORDS[COMP_CWORD]}" before="${COMP_WORDS[COMP_CWORD - 1]}" command="${COMP_WORDS[1]-}"
-    local values="" most=0 given=0 place
+    local values="" options="" most=0 given=0 place
     COMPREPLY=()
     # bash takes = for a word of its own.
     if [ "$word" = "=" ]; then word=""; elif [ "$before" = "=" ]; then before="${COMP_WORDS[COMP_CWORD - 2]}"; fi
     if [ "$COMP_CWORD" = 1 ]; then
-        values="check plan format run help"
+        values="check plan format run audit load help"
         [[ "$1" != */* ]] || values+=" prove version nodes install"
         mapfile -t COMPREPLY < <(compgen -W "$values" -- "$word")
         return
     fi
+    case "$command" in
+        run) options="--runtime --docs --journal" ;;
+        audit) options="--docs" ;;
+        load) options="--runtime" ;;
+    esac
+    # An option of another command completes nothing.
+    [[ " $options " = *" $before "* ]] || before=""
     case "$before" in
         --docs) mapfile -t COMPREPLY < <(compgen -d -- "$word") && return ;;
         --runtime) values="event script=" ;;
         --journal) values="1 2" ;;
     esac
-    if [ "$command" = run ] && [ -n "$values" ]; then
+    if [ -n "$values" ]; then
         mapfile -t COMPREPLY < <(compgen -W "$values" -- "$word")
         [ "${COMPREPLY[*]-}" != "script=" ] || compopt -o nospace
         return
     fi
-    if [[ "$command" = run && "$word" = -* ]]; then
-        mapfile -t COMPREPLY < <(compgen -W "--runtime --docs --journal" -- "$word")
+    if [[ -n "$options" && "$word" = -* ]]; then
+        mapfile -t COMPREPLY < <(compgen -W "$options" -- "$word")
         return
     fi
     case "$command" in
@@ -31,6 +38,8 @@ _flux() {
         plan) most=1 ;;
         format) most=1 ;;
         run) most=2 ;;
+        audit) most=3 ;;
+        load) most=0 ;;
         help) most=0 ;;
     esac
     for ((place = 2; place < COMP_CWORD; place++)); do

@@ -26,6 +26,8 @@ pub struct Case<'a> {
     pub opened: Option<&'a [Bytes]>,
     /// The name of the folder that is there.
     pub folder: Option<&'a [u8]>,
+    /// How many calls of nodes the gate has to be told of.
+    pub calls: Option<usize>,
     pub out: Shape,
     pub err: Shape,
 }
@@ -44,6 +46,7 @@ impl<'a> Case<'a> {
             asked: None,
             opened: None,
             folder: None,
+            calls: None,
             out: shape,
             err: shape,
         };
@@ -61,6 +64,7 @@ impl<'a> Case<'a> {
             Entry::Asked(names) => self.asked = self.asked.or(Some(names.as_slice())),
             Entry::Opened(names) => self.opened = self.opened.or(Some(names.as_slice())),
             Entry::Folder(dir) => self.folder = self.folder.or(Some(dir.as_bytes())),
+            Entry::Calls(calls) => self.calls = self.calls.or(Some(*calls)),
             Entry::Room(Stream::Out, bytes) => self.out.room = self.out.room.or(Some(*bytes)),
             Entry::Room(Stream::Err, bytes) => self.err.room = self.err.room.or(Some(*bytes)),
             Entry::Piece(Stream::Out, bytes) => self.out.piece = self.out.piece.or(Some(*bytes)),

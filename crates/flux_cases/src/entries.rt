@@ -52,6 +52,8 @@ pub enum Entry {
     Piece(Stream, usize),
     Gain(Stream, Gain),
     Status(usize),
+    /// How many calls of nodes the gate is told of.
+    Calls(usize),
     /// The files that are asked for, in order.
     Asked(List<Bytes>),
     /// The folders that are asked for, in order.

@@ -1,5 +1,6 @@
 //! Cases run one after another, and what is wrong with each.
 
+use crate::audits::{audit_words, audit_world};
 use crate::calls::{CountingGate, calls_in};
 use crate::cases::Case;
 use crate::differences::Differences;
@@ -8,6 +9,7 @@ use crate::reports::Report;
 use crate::troubles::Trouble;
 use crate::worlds::{Memories, world_of};
 use flux_driver::{needs_threads, top};
+use flux_spelling::append_text;
 use flux_values::{Bytes, Memory};
 use std::alloc::Global;
 use std::marker::Sync;
@@ -119,11 +121,37 @@ fn judge<Rt: Threads + Wait + Sync>(
     )?;
     differences.compare_names(b"asked", world.store.names.all(), case.asked)?;
     differences.compare_names(b"opened", world.folder.names.all(), case.opened)?;
+    let told = gate.calls(needs_threads(words));
+    if let Some(calls) = case.calls {
+        differences.compare_calls(told, calls as u64)?;
+    }
     if status == 0 && is_run(words) {
-        let told = gate.calls(needs_threads(words));
-        differences.compare_calls(told, calls_in(world.out.written()))?;
+        let journal = world.out.written();
+        differences.compare_calls(told, calls_in(journal))?;
+        audit(rt, alloc, case, words, journal, &mut differences)?;
     }
     Ok(differences)
+}
+
+/// Audits the journal that a run printed, and tells where the answer isn't yes.
+fn audit<Rt: Threads + Wait + Sync>(
+    rt: &Rt,
+    alloc: Global,
+    case: &Case,
+    words: &[Bytes],
+    journal: &[u8],
+    differences: &mut Differences,
+) -> Result<(), Memory> {
+    let words = audit_words(alloc, words)?;
+    let mut world = audit_world(alloc, case, journal)?;
+    let gate = CountingGate::new();
+    let status = answer(rt, alloc, words.as_slice(), &mut world, &gate);
+    if status == 0 && world.out.written().starts_with(b"ok ") {
+        return Ok(());
+    }
+    let mut line = Bytes::copy(alloc, b"its journal is refused: ")?;
+    append_text(&mut line, world.out.written())?;
+    differences.tell(line.as_bytes())
 }
 
 fn is_run(words: &[Bytes]) -> bool {

@@ -5,6 +5,7 @@
 //! written. A wrong case is told with its file, its line and what differs. The last line counts them.
 #![tactic(auto)]
 
+mod audits;
 mod bodies;
 mod calls;
 mod cases;

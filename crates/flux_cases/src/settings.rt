@@ -26,6 +26,7 @@ pub fn read_entry(alloc: Global, line: &str, lines: &[Line]) -> Result<Entry, Li
         b"out" => gain(alloc, Stream::Out, rest, lines),
         b"err" => gain(alloc, Stream::Err, rest, lines),
         b"status" => Ok(Entry::Status(number_of(rest)?)),
+        b"calls" => Ok(Entry::Calls(number_of(rest)?)),
         b"asked" => Ok(Entry::Asked(words_of(alloc, rest)?)),
         b"opened" => Ok(Entry::Opened(words_of(alloc, rest)?)),
         _ => Err(LineFault::NoLine),

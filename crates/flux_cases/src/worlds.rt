@@ -16,7 +16,8 @@ pub type Memories = World<WatchedStore, WatchedFolder, MemorySink, MemorySink>;
 /// How many bytes a stream has room for, and takes a call, where a case says nothing of it.
 const ROOM: usize = 16_777_216;
 
-fn store(alloc: Global, case: &Case) -> Result<WatchedStore, Memory> {
+/// The files that are there.
+pub fn files_of(alloc: Global, case: &Case) -> Result<List<FileBytes>, Memory> {
     let mut files = List::new(alloc);
     for line in case.own.iter().chain(case.shared) {
         if let Entry::File(file) = &line.entry {
@@ -26,13 +27,11 @@ fn store(alloc: Global, case: &Case) -> Result<WatchedStore, Memory> {
             })?;
         }
     }
-    Ok(WatchedStore {
-        store: MemoryStore::new(files, case.fails(alloc, Part::Store)?),
-        names: Names::new(alloc),
-    })
+    Ok(files)
 }
 
-fn folder(alloc: Global, case: &Case) -> Result<WatchedFolder, Memory> {
+/// The folder that is there, of which these calls fail.
+pub fn folder(alloc: Global, case: &Case, fails: List<u64>) -> Result<WatchedFolder, Memory> {
     let mut docs = List::new(alloc);
     for line in case.own.iter().chain(case.shared) {
         if let Entry::Documents(documents) = &line.entry {
@@ -42,7 +41,7 @@ fn folder(alloc: Global, case: &Case) -> Result<WatchedFolder, Memory> {
     // A folder without a name is asked for by no words.
     let dir = Bytes::copy(alloc, case.folder.unwrap_or(b""))?;
     Ok(WatchedFolder {
-        folder: MemoryFolder::new(dir, docs, case.fails(alloc, Part::Folder)?),
+        folder: MemoryFolder::new(dir, docs, fails),
         names: Names::new(alloc),
     })
 }
@@ -56,8 +55,11 @@ fn sink(alloc: Global, shape: Shape, fails: List<u64>) -> Result<MemorySink, Mem
 /// The world that a case's command line meets.
 pub fn world_of(alloc: Global, case: &Case) -> Result<Memories, Memory> {
     Ok(World {
-        store: store(alloc, case)?,
-        folder: folder(alloc, case)?,
+        store: WatchedStore {
+            store: MemoryStore::new(files_of(alloc, case)?, case.fails(alloc, Part::Store)?),
+            names: Names::new(alloc),
+        },
+        folder: folder(alloc, case, case.fails(alloc, Part::Folder)?)?,
         out: sink(
             alloc,
             case.out,

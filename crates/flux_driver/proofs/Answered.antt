@@ -4,18 +4,20 @@ use Rattle.std.proofs.lemmas.List.{append-nil}
 use Rattle.flux_words.specs.Commands.{Command, Spells, SpellsNone}
 use Rattle.flux_driver.specs.declared.statuses.Status.{Status}
 use Rattle.flux_driver.specs.declared.statuses.Status.TheVariants as statuses
+use Rattle.flux_driver.specs.declared.prepared.Prepared.{Prepared}
+use Rattle.flux_driver.specs.declared.prepared.Prepared.TheVariants.{Text, No}
 use Rattle.flux_driver.specs.declared.refusals.Refusal.{Refusal}
 use Rattle.flux_driver.specs.declared.refusals.Refusal.TheVariants as refusals
-use Rattle.flux_outside.specs.Streams.{Stream, Wrote, WroteOrBroke}
+use Rattle.flux_outside.specs.Streams.{Stream, Wrote, Broke, WroteOrBroke}
 use Rattle.flux_driver.specs.Worlds.{Told}
 use Rattle.flux_driver.specs.Causes.{write_line}
 use Rattle.flux_driver.specs.Answers.{Libraries, IsAnswer, OrMemory}
 use Rattle.flux_driver.specs.Documents.{WithDocs}
 use Rattle.flux_driver.specs.Commands.{folder_of}
-use Rattle.flux_driver.specs.Top.{AreFiles, IsStopped, AsksFor, HasAsked, HasAnswered, RoseForReading, Decides, IsComplete, HasDone}
+use Rattle.flux_driver.specs.Top.{AreFiles, IsStopped, AsksFor, HasAsked, MayBreak, HasAnswered, RoseForReading, Decides, IsComplete, HasDone}
 use Rattle.flux_driver.specs.steps.Refusals.{status_of, line_of}
-use Rattle.flux_driver.specs.steps.Preparing.{AsksAll, IsRefusedAll, AreSteady, CountsBothRefusal, AnswersDue, AnswersWords, PrintsWords}
-use Rattle.flux_driver.specs.steps.Telling.{IsTold, IsPut}
+use Rattle.flux_driver.specs.steps.Preparing.{status_with, AsksAll, IsRefusedAll, AreSteady, CountsBothRefusal, AnswersDue, AnswersWords, PreparesWords}
+use Rattle.flux_driver.specs.steps.Telling.{IsTold, IsWritten, IsNoWritten, IsPut}
 use Rattle.flux_outside.proofs.Writes.{wrote_none}
 
 -- ---- statuses of refusals
@@ -71,8 +73,8 @@ module _ (library : Libraries) (words : List (List ℕ)) (told : Told) where
   words_refused command refusal spelled (inr (inl happened)) = inr (inl (record { command = command; spelled = spelled; cause = inr happened }))
   words_refused command refusal spelled (inr (inr short)) = inr (inr (ap status_of short, refl, ap line_of short))
 
-  pub result_refused : (command : Command) (result : Result (List ℕ) Refusal) → Spells words command → IfErr result (IsRefusedAll library command told) → IfErr result (λ refusal. IsAnswer library words told (status_of refusal) [] (line_of refusal))
-  result_refused command (Ok text) spelled refused = tt
+  pub result_refused : (command : Command) (result : Result Prepared Refusal) → Spells words command → IfErr result (IsRefusedAll library command told) → IfErr result (λ refusal. IsAnswer library words told (status_of refusal) [] (line_of refusal))
+  result_refused command (Ok prepared) spelled refused = tt
   result_refused command (Err refusal) spelled refused = words_refused command refusal spelled refused
 
   -- the words spell this command alone
@@ -121,7 +123,7 @@ module _ (library : Libraries) (words : List (List ℕ)) (told after : Told) (fo
 
   -- ---- a text was printed, or writing it failed
 
-  module _ (text : List ℕ) (asked : Asked statuses.Done) (prints : PrintsWords library words told text) (same : AreSteady s t f g) (due : AnswersWords library words told statuses.Done) where
+  module _ (text : List ℕ) (asked : Asked statuses.Done) (prints : PreparesWords library words told (Text text)) (same : AreSteady s t f g) (due : AnswersWords library words told statuses.Done) where
     asked_put : (status : Status) → Asked status
     asked_put status = asked_then library words told statuses.Done status folder folder_after store store_after (λ dir stopped. absurd stopped) (λ e. absurd cc) asked
 
@@ -134,8 +136,8 @@ module _ (library : Libraries) (words : List (List ℕ)) (told after : Told) (fo
         decide (inr (inl e)) a = absurd cc
         decide (inr (inr e)) a = absurd cc
 
-    pub put_done : (status : Status) (out out_after err err_after : Stream) → out.faults ≤ out_after.faults → err.faults ≤ err_after.faults → IsPut text status out out_after err err_after → Done status out out_after err err_after
-    put_done status out out_after err err_after out_later err_later (inl put) = record {
+    text_done : (status : Status) (out out_after err err_after : Stream) → out.faults ≤ out_after.faults → err.faults ≤ err_after.faults → IsWritten text status out out_after err err_after → Done status out out_after err err_after
+    text_done status out out_after err err_after out_later err_later (inl put) = record {
       kept = kept;
       later = record { store = later; folder = later_folder; out = out_later; err = err_later };
       asked = asked_put status;
@@ -151,7 +153,7 @@ module _ (library : Libraries) (words : List (List ℕ)) (told after : Told) (fo
       usage = λ none. absurd (none prints.0 prints.1);
       complete = complete_put status (inl put.0);
     }
-    put_done status out out_after err err_after out_later err_later (inr put) = record {
+    text_done status out out_after err err_after out_later err_later (inr put) = record {
       kept = kept;
       later = record { store = later; folder = later_folder; out = out_later; err = err_later };
       asked = asked_put status;
@@ -159,14 +161,52 @@ module _ (library : Libraries) (words : List (List ℕ)) (told after : Told) (fo
         text = text;
         line = write_line;
         cause = subst (λ (x : Status). IsAnswer library words told x text write_line) (sym put.0) (inr (inl (record { command = prints.0; spelled = prints.1; cause = inr (prints.2, refl) })));
-        out = inr (put.0, put.1);
+        out = inr (subst MayBreak (sym put.0) tt, put.1);
         err = put.2;
       };
       reading = record { failed = λ h. let no = sym put.0 ∙ h in absurd cc; steady = λ other. (same.store_, same.folder_) };
-      writing = record { failed = λ h. let broke = put.1 in broke.rose; steady = λ other. absurd (other put.0) };
+      writing = record { failed = λ h. let broke = put.1 in broke.rose; steady = λ other. absurd (other (subst MayBreak (sym put.0) tt)) };
       usage = λ none. absurd (none prints.0 prints.1);
       complete = complete_put status (inr put.0);
     }
+
+  -- ---- a verdict that is no was printed, or a front of it
+
+  module _ (text : List ℕ) (asked : Asked statuses.No) (prints : PreparesWords library words told (No text)) (same : AreSteady s t f g) (due : AnswersWords library words told statuses.No) where
+    complete_no : (status : Status) → status ≡ statuses.No → IsComplete library words told status
+    complete_no status own command spelled tells other u m d = decide (due command spelled tells other u m d)
+      where
+        decide : (statuses.No ≡ other) ⊎ ((statuses.No ≡ statuses.Read) ⊎ (statuses.No ≡ statuses.Memory)) → OrMemory status (Decides status other)
+        decide (inl e) = inl (inl (own ∙ e))
+        decide (inr (inl e)) = absurd cc
+        decide (inr (inr e)) = absurd cc
+
+    written : (status : Status) (out out_after : Stream) → status ≡ statuses.No → WroteOrBroke out out_after text → Wrote out out_after text ⊎ (MayBreak status × Broke out out_after text)
+    written status out out_after own (inl wrote) = inl wrote
+    written status out out_after own (inr broke) = inr (subst MayBreak (sym own) tt, broke)
+
+    no_done : (status : Status) (out out_after err err_after : Stream) → out.faults ≤ out_after.faults → err.faults ≤ err_after.faults → IsNoWritten text status out out_after err err_after → Done status out out_after err err_after
+    no_done status out out_after err err_after out_later err_later put = record {
+      kept = kept;
+      later = record { store = later; folder = later_folder; out = out_later; err = err_later };
+      asked = subst Asked (sym put.0) asked;
+      answered = record {
+        text = text;
+        line = [];
+        cause = subst (λ (x : Status). IsAnswer library words told x text []) (sym put.0) (inr (inl (record { command = prints.0; spelled = prints.1; cause = inl (prints.2, refl) })));
+        out = written status out out_after put.0 put.1;
+        err = inl put.2;
+      };
+      reading = record { failed = λ h. let no = sym put.0 ∙ h in absurd cc; steady = λ other. (same.store_, same.folder_) };
+      writing = record { failed = λ h. let no = sym put.0 ∙ h in absurd cc; steady = λ other. absurd (other (subst MayBreak (sym put.0) tt)) };
+      usage = λ none. absurd (none prints.0 prints.1);
+      complete = complete_no status put.0;
+    }
+
+  pub put_done : (prepared : Prepared) → Asked (status_with prepared) → PreparesWords library words told prepared → AreSteady s t f g → AnswersWords library words told (status_with prepared)
+      → (status : Status) (out out_after err err_after : Stream) → out.faults ≤ out_after.faults → err.faults ≤ err_after.faults → IsPut prepared status out out_after err err_after → Done status out out_after err err_after
+  put_done (Text text) asked prints same due status out out_after err err_after out_later err_later put = text_done text asked prints same due status out out_after err err_after out_later err_later put
+  put_done (No text) asked prints same due status out out_after err err_after out_later err_later put = no_done text asked prints same due status out out_after err err_after out_later err_later put
 
   -- ---- a refusal was told
 

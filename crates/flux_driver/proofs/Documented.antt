@@ -5,7 +5,9 @@ use Rattle.std.proofs.lemmas.List.{append-nil}
 use Rattle.flux_library.specs.Documents.{DocMap}
 use Rattle.flux_library.specs.laws.Documents.{same_docs}
 use Rattle.flux_docs.proofs.Once.{one_docs, not_lost}
-use Rattle.flux_words.specs.Commands.{Command, check, plan, format, run, help}
+use Rattle.flux_words.specs.Commands.{Command, check, plan, format, run, audit, load, help}
+use Rattle.flux_driver.specs.declared.prepared.Prepared.{Prepared}
+use Rattle.flux_driver.specs.declared.prepared.Prepared.TheVariants.{Text, No}
 use Rattle.flux_driver.specs.declared.refusals.Refusal.{Refusal}
 use Rattle.flux_driver.specs.declared.refusals.Refusal.TheVariants as refusals
 use Rattle.flux_driver.specs.declared.statuses.Status.{Status}
@@ -13,13 +15,13 @@ use Rattle.flux_driver.specs.declared.statuses.Status.TheVariants as statuses
 use Rattle.flux_driver.specs.Worlds.{Files, Folders, Told}
 use Rattle.flux_driver.specs.Commands.{ReadsProgram, folder_of}
 use Rattle.flux_driver.specs.Documents.{AreDocs, IsDirLost, TellsDocs}
-use Rattle.flux_driver.specs.Printed.{IsPrinted}
+use Rattle.flux_driver.specs.Origins.{named}
 use Rattle.flux_driver.specs.Causes.{lost_line}
-use Rattle.flux_driver.specs.Answers.{Libraries, Decided, IsFolderMissing, Prints}
+use Rattle.flux_driver.specs.Answers.{Libraries, Decided, IsFolderMissing}
 use Rattle.flux_driver.specs.Top.{IsStopped}
 use Rattle.flux_driver.specs.steps.Documents.{AreUnread}
 use Rattle.flux_driver.specs.steps.Refusals.{status_of, line_of, CountsRefusal, Counts, IsRefused}
-use Rattle.flux_driver.specs.steps.Preparing.{AsksFiles, AsksAll, IsRefusedAll, CountsBothRefusal, CountsBoth, AnswersDue, IsFirm, prepared_status}
+use Rattle.flux_driver.specs.steps.Preparing.{status_with, IsPrepared, PreparesAll, AsksFiles, AsksAll, IsRefusedAll, CountsBothRefusal, CountsBoth, AnswersDue, IsFirm, prepared_status}
 use Rattle.flux_driver.proofs.Once.{View, same_view}
 
 -- ---- the documents are one, or lost
@@ -83,11 +85,13 @@ module _ (library : Libraries) (command : Command) (told : Told) where
   lost_missing None name unread = absurd unread
   lost_missing (Some dir) name unread = unread
 
-  reads_program : (other : Command) → AreUnread told.folders (folder_of other) refusals.Read → (file : List ℕ) × ReadsProgram other file
+  reads_program : (other : Command) → AreUnread told.folders (folder_of other) refusals.Read → (file : List ℕ) × ReadsProgram other (named file)
   reads_program (check file) unread = absurd unread
   reads_program (plan file) unread = absurd unread
   reads_program (format file) unread = absurd unread
   reads_program (run file items manner) unread = (file, refl)
+  reads_program (audit file items journal docs) unread = (file, refl)
+  reads_program (load count first runtime) unread = absurd unread
   reads_program help unread = absurd unread
 
   none_unread : (dir : Option (List ℕ)) (refusal : Refusal) → (IsStopped dir (status_of refusal) → ⊥) → AreUnread told.folders dir refusal → ⊥
@@ -101,12 +105,16 @@ module _ (library : Libraries) (command : Command) (told : Told) where
   refused_unread (refusals.Static line) unread = absurd (none_unread (folder_of command) (refusals.Static line) (λ x. x) unread)
   refused_unread (refusals.Items fault) unread = absurd (none_unread (folder_of command) (refusals.Items fault) (λ x. x) unread)
 
-  pub prints_with : (docs : DocMap) (result : Result (List ℕ) Refusal) → AreDocs told.folders (folder_of command) docs → IfOk result (IsPrinted (library docs) command told.files) → IfOk result (Prints library command told)
-  prints_with docs (Ok text) are printed = record { docs = docs; are = are; says = printed }
-  prints_with docs (Err refusal) are printed = tt
+  one_with : (docs : DocMap) (prepared : Prepared) → AreDocs told.folders (folder_of command) docs → IsPrepared (library docs) command told.files prepared → PreparesAll library command told prepared
+  one_with docs (Text text) are prepared = record { docs = docs; are = are; says = prepared }
+  one_with docs (No text) are prepared = record { docs = docs; are = are; says = prepared }
 
-  pub result_refused : (docs : DocMap) (result : Result (List ℕ) Refusal) → AreDocs told.folders (folder_of command) docs → IfErr result (IsRefused (library docs) command told.files) → IfErr result (IsRefusedAll library command told)
-  result_refused docs (Ok text) are refused = tt
+  pub prepares_with : (docs : DocMap) (result : Result Prepared Refusal) → AreDocs told.folders (folder_of command) docs → IfOk result (IsPrepared (library docs) command told.files) → IfOk result (PreparesAll library command told)
+  prepares_with docs (Ok own) are prepared = one_with docs own are prepared
+  prepares_with docs (Err refusal) are prepared = tt
+
+  pub result_refused : (docs : DocMap) (result : Result Prepared Refusal) → AreDocs told.folders (folder_of command) docs → IfErr result (IsRefused (library docs) command told.files) → IfErr result (IsRefusedAll library command told)
+  result_refused docs (Ok prepared) are refused = tt
   result_refused docs (Err refusal) are refused = refused_with docs refusal are refused
 
 -- ---- counts
@@ -119,8 +127,8 @@ both_store (refusals.Items fault) s t f g same counts = record { store_ = counts
 both_store (refusals.Missing name) s t f g same counts = record { store_ = counts; folder_ = same }
 both_store refusals.Memory s t f g same counts = record { store_ = counts; folder_ = same }
 
-pub counts_store : (result : Result (List ℕ) Refusal) (s t f g : ℕ) → g ≡ f → Counts result s t → CountsBoth result s t f g
-counts_store (Ok text) s t f g same counts = record { store_ = counts; folder_ = same }
+pub counts_store : (result : Result Prepared Refusal) (s t f g : ℕ) → g ≡ f → Counts result s t → CountsBoth result s t f g
+counts_store (Ok prepared) s t f g same counts = record { store_ = counts; folder_ = same }
 counts_store (Err refusal) s t f g same counts = both_store refusal s t f g same counts
 
 pub counts_folder : (refusal : Refusal) (s f g : ℕ) → CountsRefusal refusal f g → CountsBothRefusal refusal s s f g
@@ -146,30 +154,29 @@ module _ (library : Libraries) (command : Command) (files : Files) (folders : Fo
   -- what is decided is decided with documents, or they are lost
   seen : (due : Status) (text line : List ℕ) → Decided library command told due text line → Seen_with due text line ⊎ Missed due line
   seen statuses.Done text line d = let w = d.0 in inl (w.docs, w.are, inl (refl, w.says))
-  seen statuses.Static text line d = let w = d.0 in inl (w.docs, w.are, inr (inl (refl, w.says)))
-  seen statuses.Items text line d = let w = d.0 in inl (w.docs, w.are, inr (inr (inl (refl, w.says))))
+  seen statuses.No text line d = let w = d.0 in inl (w.docs, w.are, inr (inl (refl, w.says)))
+  seen statuses.Static text line d = let w = d.0 in inl (w.docs, w.are, inr (inr (inl (refl, w.says))))
+  seen statuses.Items text line d = let w = d.0 in inl (w.docs, w.are, inr (inr (inr (inl (refl, w.says)))))
   seen statuses.Missing text line (inl lost, none) = inr (refl, lost)
-  seen statuses.Missing text line (inr w, none) = inl (w.docs, w.are, inr (inr (inr (refl, w.says))))
+  seen statuses.Missing text line (inr w, none) = inl (w.docs, w.are, inr (inr (inr (inr (refl, w.says)))))
   seen statuses.Usage text line d = absurd d
   seen statuses.Read text line d = absurd d
   seen statuses.Write text line d = absurd d
   seen statuses.Door text line d = absurd d
-  seen statuses.No text line d = absurd d
   seen statuses.NotServed text line d = absurd d
   seen statuses.Memory text line d = absurd d
 
   pub due_with : (docs : DocMap) (status : Status) (text line : List ℕ) → AreDocs folders (folder_of command) docs → View (library docs) command files status text line
-      → IfSome files (λ held. IsFirm (library docs) command (Some held) status) → AnswersDue library command told status
+      → IsFirm (library docs) command files status → AnswersDue library command told status
   due_with docs status text line are view firm tells due u m d = inl (one (seen due u m d))
     where
-      same : (held : Files) → files ≡ held → (due : Status) (other : DocMap) → docs ≡ other → View (library other) command files due u m → status ≡ due
-      same None is due other e theirs = let told_ = rw is at tells.files in absurd cc
-      same (Some held) is due other e theirs =
-          same_view (library docs) held command status due text line u m (rw is at firm) (rw is at view)
-          (rw is at (subst (λ (x : DocMap). View (library x) command files due u m) (sym e) theirs))
+      same : (other : DocMap) → docs ≡ other → View (library other) command files due u m → status ≡ due
+      same other e theirs =
+          same_view (library docs) files command tells.files status due text line u m firm view
+          (subst (λ (x : DocMap). View (library x) command files due u m) (sym e) theirs)
 
       one : Seen_with due u m ⊎ Missed due m → status ≡ due
-      one (inl (other, theirs, v)) = same files refl due other (docs_once folders (folder_of command) docs other tells.docs are theirs) v
+      one (inl (other, theirs, v)) = same other (docs_once folders (folder_of command) docs other tells.docs are theirs) v
       one (inr (is, missing)) = absurd (not_both folders (folder_of command) docs missing.name tells.docs are missing.lost)
 
   pub due_lost : (name : List ℕ) → IsDirLost folders (folder_of command) name → AnswersDue library command told statuses.Missing
@@ -182,10 +189,10 @@ module _ (library : Libraries) (command : Command) (files : Files) (folders : Fo
   -- ---- of a refusal, and of what was prepared
 
   pub due_refused : (docs : DocMap) (refusal : Refusal) → AreDocs folders (folder_of command) docs → IsRefused (library docs) command files refusal
-      → IfSome files (λ held. IsFirm (library docs) command (Some held) (status_of refusal)) → AnswersDue library command told (status_of refusal)
-  due_refused docs (refusals.Static line) are (inl judged) firm = due_with docs statuses.Static [] line are (inr (inl (refl, judged))) firm
-  due_refused docs (refusals.Items fault) are (inl judged) firm = due_with docs statuses.Items [] (line_of (refusals.Items fault)) are (inr (inr (inl (refl, judged)))) firm
-  due_refused docs (refusals.Missing name) are (inl judged) firm = due_with docs statuses.Missing [] (lost_line name.now) are (inr (inr (inr (refl, judged)))) firm
+      → IsFirm (library docs) command files (status_of refusal) → AnswersDue library command told (status_of refusal)
+  due_refused docs (refusals.Static line) are (inl judged) firm = due_with docs statuses.Static [] line are (inr (inr (inl (refl, judged)))) firm
+  due_refused docs (refusals.Items fault) are (inl judged) firm = due_with docs statuses.Items [] (line_of (refusals.Items fault)) are (inr (inr (inr (inl (refl, judged))))) firm
+  due_refused docs (refusals.Missing name) are (inl judged) firm = due_with docs statuses.Missing [] (lost_line name.now) are (inr (inr (inr (inr (refl, judged))))) firm
   due_refused docs refusals.Usage are (inl judged) firm = absurd judged
   due_refused docs refusals.Read are (inl judged) firm = absurd judged
   due_refused docs refusals.Memory are (inl judged) firm = absurd judged
@@ -200,7 +207,11 @@ module _ (library : Libraries) (command : Command) (files : Files) (folders : Fo
   due_unread (refusals.Static line) unread = absurd (none_unread library command told (folder_of command) (refusals.Static line) (λ x. x) unread)
   due_unread (refusals.Items fault) unread = absurd (none_unread library command told (folder_of command) (refusals.Items fault) (λ x. x) unread)
 
-  pub due_prepared : (docs : DocMap) (result : Result (List ℕ) Refusal) → AreDocs folders (folder_of command) docs → IfOk result (IsPrinted (library docs) command files) → IfErr result (IsRefused (library docs) command files)
-      → IfSome files (λ held. IsFirm (library docs) command (Some held) (prepared_status result)) → AnswersDue library command told (prepared_status result)
-  due_prepared docs (Ok text) are printed refused firm = due_with docs statuses.Done text [] are (inl (refl, printed)) firm
-  due_prepared docs (Err refusal) are printed refused firm = due_refused docs refusal are refused firm
+  due_one : (docs : DocMap) (prepared : Prepared) → AreDocs folders (folder_of command) docs → IsPrepared (library docs) command files prepared → IsFirm (library docs) command files (status_with prepared) → AnswersDue library command told (status_with prepared)
+  due_one docs (Text text) are prepared firm = due_with docs statuses.Done text [] are (inl (refl, prepared)) firm
+  due_one docs (No text) are prepared firm = due_with docs statuses.No text [] are (inr (inl (refl, prepared))) firm
+
+  pub due_prepared : (docs : DocMap) (result : Result Prepared Refusal) → AreDocs folders (folder_of command) docs → IfOk result (IsPrepared (library docs) command files) → IfErr result (IsRefused (library docs) command files)
+      → IsFirm (library docs) command files (prepared_status result) → AnswersDue library command told (prepared_status result)
+  due_prepared docs (Ok own) are prepared refused firm = due_one docs own are prepared firm
+  due_prepared docs (Err refusal) are prepared refused firm = due_refused docs refusal are refused firm

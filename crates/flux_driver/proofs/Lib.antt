@@ -4,9 +4,12 @@ pub mod Once
 pub mod Fitting
 pub mod RuleLists
 pub mod Runs
-pub mod Prepared
+pub mod Loading
 pub mod Documented
 pub mod Answered
 pub mod Told
 pub mod Passed
+pub mod Answering
 mod Headline
+mod Audits
+mod Loads

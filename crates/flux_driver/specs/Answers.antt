@@ -8,7 +8,8 @@ use Rattle.flux_driver.specs.declared.statuses.Status.TheVariants as statuses
 use Rattle.flux_driver.specs.Worlds.{Told}
 use Rattle.flux_driver.specs.Documents.{WithDocs, IsDirLost}
 use Rattle.flux_driver.specs.Commands.{ReadsProgram, folder_of}
-use Rattle.flux_driver.specs.Printed.{IsPrinted}
+use Rattle.flux_driver.specs.Origins.{named}
+use Rattle.flux_driver.specs.Printed.{IsPrinted, IsRefuted}
 use Rattle.flux_driver.specs.Causes.{IsStatic, IsItems, IsMissing, usage_line, read_line, write_line, lost_line}
 
 -- a library's meaning, by its documents
@@ -21,6 +22,11 @@ Libraries = DocMap → LibraryMeaning
 abbrev pub Prints : Libraries → Command → Told → List ℕ → Type 0
 Prints library command told text =
     WithDocs library command told (λ meaning. IsPrinted meaning command told.files text)
+
+-- or it prints this, and says no
+abbrev pub Refutes : Libraries → Command → Told → List ℕ → Type 0
+Refutes library command told text =
+    WithDocs library command told (λ meaning. IsRefuted meaning command told.files text)
 
 -- the folder of documents isn't there, or is past a limit
 pub record IsFolderMissing (command : Command) (told : Told) (line : List ℕ) : Type 0 where
@@ -37,6 +43,8 @@ Misses library command told line = IsFolderMissing command told line
 abbrev pub Decided : Libraries → Command → Told → Status → List ℕ → List ℕ → Type 0
 Decided library command told statuses.Done text line =
     Prints library command told text × (line ≡ [])
+Decided library command told statuses.No text line =
+    Refutes library command told text × (line ≡ [])
 Decided library command told statuses.Static text line =
     WithDocs library command told (λ meaning. IsStatic meaning command told.files line) × (text ≡ [])
 Decided library command told statuses.Items text line =
@@ -49,7 +57,7 @@ Decided library command told other text line = ⊥
 -- be printed)
 abbrev pub Happened : Libraries → Command → Told → Status → List ℕ → List ℕ → Type 0
 Happened library command told statuses.Read text line =
-    ((file : List ℕ) × ReadsProgram command file) × (text ≡ []) × (line ≡ read_line)
+    ((file : List ℕ) × ReadsProgram command (named file)) × (text ≡ []) × (line ≡ read_line)
 Happened library command told statuses.Write text line =
     Prints library command told text × (line ≡ write_line)
 Happened library command told other text line = ⊥

@@ -2,7 +2,6 @@
 use Rattle.std.specs.Prelude.{◌≡◌, ℕ, ◌⊎◌, List, [], ◌++◌, codes}
 use Rattle.std.specs.Fmt.{decimal}
 use Rattle.flux_values.specs.Meanings.{LibraryMeaning}
-use Rattle.flux_outside.specs.declared.stores.File.TheVariants.{Found}
 use Rattle.flux_faults.specs.declared.faults.StaticFault.{StaticFault}
 use Rattle.flux_faults.specs.Faults.{printed_fault}
 use Rattle.flux_syntax.specs.declared.declarations.Decl.{Decl}
@@ -11,11 +10,13 @@ use Rattle.flux_check.specs.Judgement.{IsTextFault}
 use Rattle.flux_items.specs.declared.rules.ItemFault.{ItemFault}
 use Rattle.flux_items.specs.declared.rules.ItemFault.TheVariants as items_
 use Rattle.flux_items.specs.Faults.{line_of, IsFaultOf}
-use Rattle.flux_words.specs.Commands.{Command, check, plan, format, run, help}
-use Rattle.flux_driver.specs.declared.files.TheConstants.{PROGRAM_FILE_LIMIT, ITEMS_FILE_LIMIT}
-use Rattle.flux_driver.specs.Worlds.{Files, Gives, IsLost}
+use Rattle.flux_load.specs.Loads.{program_text, items_text}
+use Rattle.flux_words.specs.Commands.{Command, check, plan, format, run, audit, load, help}
+use Rattle.flux_driver.specs.declared.files.TheConstants.{PROGRAM_FILE_LIMIT, ITEMS_FILE_LIMIT, JOURNAL_FILE_LIMIT}
+use Rattle.flux_driver.specs.Worlds.{Files, IsLost}
+use Rattle.flux_driver.specs.Origins.{Origin, named, made, GivesText}
 use Rattle.flux_driver.specs.Commands.{ReadsProgram}
-use Rattle.flux_driver.specs.Inputs.{HasProgram, HasItems}
+use Rattle.flux_driver.specs.Inputs.{HasProgram, HasItems, GivesItems}
 use Rattle.flux_driver.specs.Items.{rules_in}
 
 -- ---- lines
@@ -55,23 +56,25 @@ IsStaticOf meaning (check file) text fault = IsTextFault meaning text fault
 IsStaticOf meaning (plan file) text fault = IsTextFault meaning text fault
 IsStaticOf meaning (format file) text fault = IsFaulty fault.kind fault.at text × (fault.path ≡ [])
 IsStaticOf meaning (run file items manner) text fault = IsTextFault meaning text fault
+IsStaticOf meaning (audit file items journal docs) text fault = IsTextFault meaning text fault
+IsStaticOf meaning (load count first runtime) text fault = IsTextFault meaning text fault
 IsStaticOf meaning help text fault = ⊥
 
 pub record IsStatic (meaning : LibraryMeaning) (command : Command) (told : Files) (line : List ℕ)
     : Type 0 where
-  pub file : List ℕ
-  pub reads : ReadsProgram command file
+  pub program : Origin
+  pub reads : ReadsProgram command program
   pub text : List ℕ
-  pub gives : Gives told file PROGRAM_FILE_LIMIT (Found text)
+  pub gives : GivesText told program PROGRAM_FILE_LIMIT text
   pub fault : StaticFault
   pub stands : IsStaticOf meaning command text fault
   pub said : line ≡ fault_text text fault
 
 -- ---- the items text has a fault
 
-pub record IsItemsText (meaning : LibraryMeaning) (told : Files) (file items line : List ℕ)
-    : Type 0 where
-  pub has : HasItems meaning told file items
+pub record IsItemsText (meaning : LibraryMeaning) (told : Files) (program items : Origin)
+    (line : List ℕ) : Type 0 where
+  pub has : HasItems meaning told program items
   pub fault : ItemFault
   pub stands : let own = has.program_ in IsFaultOf (rules_in meaning has.decls own.sound) fault has.text
   pub said : line ≡ item_fault_line fault
@@ -80,24 +83,47 @@ abbrev pub IsItems : LibraryMeaning → Command → Files → List ℕ → Type 
 IsItems meaning (check file) told line = ⊥
 IsItems meaning (plan file) told line = ⊥
 IsItems meaning (format file) told line = ⊥
-IsItems meaning (run file items manner) told line = IsItemsText meaning told file items line
+IsItems meaning (run file items manner) told line =
+    IsItemsText meaning told (named file) (named items) line
+IsItems meaning (audit file items journal docs) told line =
+    IsItemsText meaning told (named file) (named items) line
+IsItems meaning (load count first runtime) told line =
+    IsItemsText meaning told (made program_text) (made (items_text count first)) line
 IsItems meaning help told line = ⊥
 
 -- ---- a file isn't there, or is past its limit
 
 -- the items file of a sound program
-abbrev pub AreItemsLost : LibraryMeaning → Command → Files → List ℕ → Type 0
-AreItemsLost meaning (check file) told name = ⊥
-AreItemsLost meaning (plan file) told name = ⊥
-AreItemsLost meaning (format file) told name = ⊥
-AreItemsLost meaning (run file items manner) told name = (name ≡ items)
-    × IsLost told items ITEMS_FILE_LIMIT × (decls : List Decl) × HasProgram meaning told file decls
-AreItemsLost meaning help told name = ⊥
+pub record IsItemsFileLost (meaning : LibraryMeaning) (told : Files) (file items name : List ℕ)
+    : Type 0 where
+  pub is : name ≡ items
+  pub lost : IsLost told items ITEMS_FILE_LIMIT
+  pub decls : List Decl
+  pub program_ : HasProgram meaning told (named file) decls
 
--- the program's file, or that of the items
+abbrev pub AreItemsLost : LibraryMeaning → Command → Files → List ℕ → Type 0
+AreItemsLost meaning (run file items manner) told name =
+    IsItemsFileLost meaning told file items name
+AreItemsLost meaning (audit file items journal docs) told name =
+    IsItemsFileLost meaning told file items name
+AreItemsLost meaning other told name = ⊥
+
+-- the journal's file, behind the items
+pub record IsJournalFileLost (meaning : LibraryMeaning) (told : Files)
+    (file items journal name : List ℕ) : Type 0 where
+  pub is : name ≡ journal
+  pub lost : IsLost told journal JOURNAL_FILE_LIMIT
+  pub given : GivesItems meaning told (named file) (named items)
+
+abbrev pub IsJournalLost : LibraryMeaning → Command → Files → List ℕ → Type 0
+IsJournalLost meaning (audit file items journal docs) told name =
+    IsJournalFileLost meaning told file items journal name
+IsJournalLost meaning other told name = ⊥
+
+-- the program's file, or that of the items, or that of the journal
 pub record IsMissing (meaning : LibraryMeaning) (command : Command) (told : Files) (line : List ℕ)
     : Type 0 where
   pub name : List ℕ
-  pub lost : (ReadsProgram command name × IsLost told name PROGRAM_FILE_LIMIT)
-      ⊎ AreItemsLost meaning command told name
+  pub lost : (ReadsProgram command (named name) × IsLost told name PROGRAM_FILE_LIMIT)
+      ⊎ (AreItemsLost meaning command told name ⊎ IsJournalLost meaning command told name)
   pub said : line ≡ lost_line name

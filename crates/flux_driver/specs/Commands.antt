@@ -1,14 +1,19 @@
 -- What a command reads.
-use Rattle.std.specs.Prelude.{◌≡◌, ℕ, List, Option, None}
-use Rattle.flux_words.specs.Commands.{Command, check, plan, format, run, help}
+use Rattle.std.specs.Prelude.{◌≡◌, ℕ, List, Option, None, IsSome, ⊤}
+use Rattle.flux_load.specs.Loads.{program_text}
+use Rattle.flux_words.specs.Commands.{Command, check, plan, format, run, audit, load, help}
+use Rattle.flux_driver.specs.Worlds.{Files}
+use Rattle.flux_driver.specs.Origins.{Origin, named, made}
 
--- the command reads a program, from a file of this name
-abbrev pub ReadsProgram : Command → List ℕ → Type 0
-ReadsProgram (check file) name = name ≡ file
-ReadsProgram (plan file) name = name ≡ file
-ReadsProgram (format file) name = name ≡ file
-ReadsProgram (run file items manner) name = name ≡ file
-ReadsProgram help name = ⊥
+-- the command reads a program from there
+abbrev pub ReadsProgram : Command → Origin → Type 0
+ReadsProgram (check file) from = from ≡ named file
+ReadsProgram (plan file) from = from ≡ named file
+ReadsProgram (format file) from = from ≡ named file
+ReadsProgram (run file items manner) from = from ≡ named file
+ReadsProgram (audit file items journal docs) from = from ≡ named file
+ReadsProgram (load count first runtime) from = from ≡ made program_text
+ReadsProgram help from = ⊥
 
 -- the folder of documents, where one is named
 abbrev pub folder_of : Command → Option (List ℕ)
@@ -16,4 +21,16 @@ folder_of (check file) = None
 folder_of (plan file) = None
 folder_of (format file) = None
 folder_of (run file items manner) = manner.docs
+folder_of (audit file items journal docs) = docs
+folder_of (load count first runtime) = None
 folder_of help = None
+
+-- what files hold is told, where the command reads any
+abbrev pub TellsFiles : Files → Command → Type 0
+TellsFiles told (check file) = IsSome told
+TellsFiles told (plan file) = IsSome told
+TellsFiles told (format file) = IsSome told
+TellsFiles told (run file items manner) = IsSome told
+TellsFiles told (audit file items journal docs) = IsSome told
+TellsFiles told (load count first runtime) = ⊤
+TellsFiles told help = ⊤

@@ -6,7 +6,7 @@ use Rattle.flux_library.specs.Documents.{DocMap}
 use Rattle.flux_docs.specs.Folders.{GivesDocs, IsFolderLost}
 use Rattle.flux_words.specs.Commands.{Command}
 use Rattle.flux_driver.specs.Worlds.{Folders, Told}
-use Rattle.flux_driver.specs.Commands.{folder_of}
+use Rattle.flux_driver.specs.Commands.{folder_of, TellsFiles}
 
 -- none where no folder is named, else what the folder gives, where it is told
 abbrev pub AreDocs : Folders → Option (List ℕ) → DocMap → Type 0
@@ -32,5 +32,5 @@ TellsDocs told (Some dir) = IsSome told
 
 -- all that a command reads is told
 pub record TellsAll (told : Told) (command : Command) : Type 0 where
-  pub files : IsSome told.files
+  pub files : TellsFiles told.files command
   pub docs : TellsDocs told.folders (folder_of command)

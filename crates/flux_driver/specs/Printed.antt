@@ -8,36 +8,58 @@ use Rattle.flux_model.specs.declared.signatures.NodeSig.{NodeSig}
 use Rattle.flux_types.specs.Signatures.{AreSigs}
 use Rattle.flux_hoist.specs.Reports.{IsReport}
 use Rattle.flux_hoist.specs.Plans.{printed_plan}
-use Rattle.flux_words.specs.Commands.{Command, check, plan, format, run, help}
+use Rattle.flux_load.specs.Loads.{program_text, items_text}
+use Rattle.flux_audit.specs.declared.verdicts.Rule.{Rule}
+use Rattle.flux_audit.specs.declared.verdicts.Verdict.TheVariants.{Yes, No}
+use Rattle.flux_audit.specs.Printed.{printed_verdict}
+use Rattle.flux_words.specs.Commands.{Command, check, plan, format, run, audit, load, help}
+use Rattle.flux_driver.specs.declared.running.Printing.TheVariants.{Journal, Summary}
 use Rattle.flux_driver.specs.Worlds.{Files}
+use Rattle.flux_driver.specs.Origins.{Origin, named, made}
 use Rattle.flux_driver.specs.Inputs.{HasDecls, HasProgram}
-use Rattle.flux_driver.specs.TrueRuns.{IsJournalText}
+use Rattle.flux_driver.specs.TrueRuns.{IsRunText}
+use Rattle.flux_driver.specs.Audited.{IsAudited}
 
 -- a line for each command that is built
 abbrev pub help_text : List ℕ
-help_text = codes "flux check FILE\nflux plan FILE\nflux format FILE\nflux run FILE ITEMS [--runtime R] [--docs DIR] [--journal J]\nflux help or --help\n"
+help_text = codes "flux check FILE\nflux plan FILE\nflux format FILE\nflux run FILE ITEMS [--runtime R] [--docs DIR] [--journal J]\nflux audit FILE ITEMS JOURNAL [--docs DIR]\nflux load N K [--runtime R]\nflux help or --help\n"
 
 -- the report on the locks of a sound program
-pub record IsReportText (meaning : LibraryMeaning) (told : Files) (file text : List ℕ) : Type 0 where
+pub record IsReportText (meaning : LibraryMeaning) (told : Files) (program : Origin) (text : List ℕ)
+    : Type 0 where
   pub decls : List Decl
-  pub has : HasProgram meaning told file decls
+  pub has : HasProgram meaning told program decls
   pub report : let sound = has.sound in IsReport (program_of decls) sound.locks text
 
 -- the plan of a sound program, by its locks and by what its nodes take and give
-pub record IsPlanText (meaning : LibraryMeaning) (told : Files) (file text : List ℕ) : Type 0 where
+pub record IsPlanText (meaning : LibraryMeaning) (told : Files) (program : Origin) (text : List ℕ)
+    : Type 0 where
   pub decls : List Decl
-  pub has : HasProgram meaning told file decls
+  pub has : HasProgram meaning told program decls
   pub sigs : List NodeSig
   pub are_sigs : AreSigs meaning.kind decls sigs
   pub is : let sound = has.sound in text ≡ printed_plan meaning (program_of decls) sigs sound.locks
 
--- `check` prints the report, `plan` the plan, `format` the formatted text of the declarations, `run` a
--- journal, and `help` the help text
+-- `check` prints the report, `plan` the plan, `format` the formatted text of the declarations, `run` a journal, `audit`
+-- that a journal is right, with the number of its events, `load` the summary of a run of its own two texts, and `help`
+-- the help text
 abbrev pub IsPrinted : LibraryMeaning → Command → Files → List ℕ → Type 0
-IsPrinted meaning (check file) told text = IsReportText meaning told file text
-IsPrinted meaning (plan file) told text = IsPlanText meaning told file text
+IsPrinted meaning (check file) told text = IsReportText meaning told (named file) text
+IsPrinted meaning (plan file) told text = IsPlanText meaning told (named file) text
 IsPrinted meaning (format file) told text =
-    (decls : List Decl) × HasDecls told file decls × (text ≡ formatted decls)
+    (decls : List Decl) × HasDecls told (named file) decls × (text ≡ formatted decls)
 IsPrinted meaning (run file items manner) told text =
-    IsJournalText meaning told file items manner.runtime manner.journal text
+    IsRunText meaning told (named file) (named items) manner.runtime (Journal manner.journal) text
+IsPrinted meaning (audit file items journal docs) told text = (events : ℕ)
+    × IsAudited meaning told (named file) (named items) journal (Yes events)
+    × (text ≡ printed_verdict (Yes events))
+IsPrinted meaning (load count first runtime) told text =
+    IsRunText meaning told (made program_text) (made (items_text count first)) runtime Summary text
 IsPrinted meaning help told text = text ≡ help_text
+
+-- `audit` prints that a journal isn't right: the first line that breaks a rule, and the rule
+abbrev pub IsRefuted : LibraryMeaning → Command → Files → List ℕ → Type 0
+IsRefuted meaning (audit file items journal docs) told text = (line : ℕ) × (rule : Rule)
+    × IsAudited meaning told (named file) (named items) journal (No line rule)
+    × (text ≡ printed_verdict (No line rule))
+IsRefuted meaning other told text = ⊥

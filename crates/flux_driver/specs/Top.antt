@@ -3,26 +3,35 @@ use Rattle.std.specs.Prelude.{◌≡◌, ◌≢◌, ◌≤◌, ℕ, ◌⊎◌, L
 use Rattle.flux_values.specs.Meanings.{LibraryMeaning}
 use Rattle.flux_outside.specs.Causes.{Rose}
 use Rattle.flux_syntax.specs.declared.declarations.Decl.{Decl}
-use Rattle.flux_words.specs.Commands.{Command, check, plan, format, run, help, Spells, SpellsNone}
+use Rattle.flux_words.specs.Commands.{Command, check, plan, format, run, audit, load, help, Spells, SpellsNone}
 use Rattle.flux_driver.specs.declared.statuses.Status.{Status}
 use Rattle.flux_driver.specs.declared.statuses.Status.TheVariants as statuses
 use Rattle.flux_outside.specs.Streams.{Wrote, Broke, WroteOrBroke}
 use Rattle.flux_driver.specs.Worlds.{Files, Told, Seen}
 use Rattle.flux_driver.specs.Documents.{WithDocs, TellsAll}
 use Rattle.flux_driver.specs.Commands.{folder_of}
-use Rattle.flux_driver.specs.Inputs.{HasProgram}
+use Rattle.flux_driver.specs.Origins.{named}
+use Rattle.flux_driver.specs.Inputs.{HasProgram, GivesItems}
 use Rattle.flux_driver.specs.Answers.{Libraries, Decided, IsAnswer, OrMemory}
 
 -- ---- what was asked for
 
--- the names of files that a command asks for, in order: `run` asks for the items only behind a sound
--- program
+-- the file of a program alone, or that of items too, behind a sound program
+abbrev pub AreTwoFiles : LibraryMeaning → Files → List ℕ → List ℕ → List (List ℕ) → Type 0
+AreTwoFiles meaning told file items names = (names ≡ file ∷ [])
+    ⊎ ((names ≡ file ∷ items ∷ [])
+    × (decls : List Decl) × HasProgram meaning told (named file) decls)
+
+-- the names of files that a command asks for, in order: a journal is asked for only behind items
 abbrev pub AreFiles : LibraryMeaning → Command → Files → List (List ℕ) → Type 0
 AreFiles meaning (check file) told names = names ≡ file ∷ []
 AreFiles meaning (plan file) told names = names ≡ file ∷ []
 AreFiles meaning (format file) told names = names ≡ file ∷ []
-AreFiles meaning (run file items manner) told names = (names ≡ file ∷ [])
-    ⊎ ((names ≡ file ∷ items ∷ []) × (decls : List Decl) × HasProgram meaning told file decls)
+AreFiles meaning (run file items manner) told names = AreTwoFiles meaning told file items names
+AreFiles meaning (audit file items journal docs) told names =
+    AreTwoFiles meaning told file items names
+    ⊎ ((names ≡ file ∷ items ∷ journal ∷ []) × GivesItems meaning told (named file) (named items))
+AreFiles meaning (load count first runtime) told names = names ≡ []
 AreFiles meaning help told names = names ≡ []
 
 -- the statuses that come where the documents weren't read; where no folder is named, memory was short
@@ -57,6 +66,12 @@ pub record HasAsked (library : Libraries) (words : List (List ℕ)) (told : Told
 
 -- ---- what was printed and said
 
+-- the statuses with which writing can have failed: 6, and 8, which stays what it is
+abbrev pub MayBreak : Status → Type 0
+MayBreak statuses.Write = ⊤
+MayBreak statuses.No = ⊤
+MayBreak other = ⊥
+
 -- the text is on `out`, all of it, or a front of it where writing failed; the line is on `err`, all of
 -- it, or a front of it where `err` failed
 pub record HasAnswered (library : Libraries) (words : List (List ℕ)) (before : Seen)
@@ -65,7 +80,7 @@ pub record HasAnswered (library : Libraries) (words : List (List ℕ)) (before :
   pub line : List ℕ
   pub cause : IsAnswer library words before.told status text line
   pub out : Wrote before.out after.out text
-      ⊎ ((status ≡ statuses.Write) × Broke before.out after.out text)
+      ⊎ (MayBreak status × Broke before.out after.out text)
   pub err : WroteOrBroke before.err after.err line
 
 -- ---- counts of failures
@@ -75,10 +90,10 @@ pub record RoseForReading (status : Status) (store store_after folder folder_aft
   pub failed : status ≡ statuses.Read → Rose store store_after ⊎ Rose folder folder_after
   pub steady : status ≢ statuses.Read → (store_after ≡ store) × (folder_after ≡ folder)
 
--- the same of status 6 and the count of `out`
+-- the same of status 6 and the count of `out`, but that it may rise with status 8 too
 pub record RoseForWriting (status : Status) (out out_after : ℕ) : Type 0 where
   pub failed : status ≡ statuses.Write → Rose out out_after
-  pub steady : status ≢ statuses.Write → out_after ≡ out
+  pub steady : (MayBreak status → ⊥) → out_after ≡ out
 
 -- none of the four counts fell
 pub record AreLater (before after : Seen) : Type 0 where
@@ -107,7 +122,7 @@ IsComplete library words told status = (command : Command) → Spells words comm
 --   folder and which files were asked for, in which order;
 --   the status has its cause, and `out` and `err` have gained what belongs to it;
 --   with status 5 the count of the store or of the folder rose, and with any other both stand as
---   before; the same of status 6 and the count of `out`;
+--   before; the same of status 6 and the count of `out`, which may rise with status 8 too;
 --   words that are no command are refused, and what is due is answered, unless memory was short.
 pub record HasDone (library : Libraries) (words : List (List ℕ)) (before : Seen)
     (status : Status) (after : Seen) : Type 0 where

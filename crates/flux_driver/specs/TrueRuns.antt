@@ -1,4 +1,4 @@
--- True runs, and their printed journals: what `run` prints with status 0.
+-- True runs, and what is printed of them with status 0.
 use Rattle.std.specs.Prelude.{◌≡◌, ℕ, List, [], length}
 use Rattle.flux_values.specs.Meanings.{LibraryMeaning}
 use Rattle.flux_values.specs.Cells.{no_cell}
@@ -8,18 +8,22 @@ use Rattle.flux_model.specs.declared.items.Item.{Item}
 use Rattle.flow_model.specs.declared.journals.Journal.{Journal}
 use Rattle.flux_model.specs.Locks.{Holds}
 use Rattle.flow_model.specs.Setup.{Setup}
+use Rattle.flow_model.specs.CellsAfter.{cells_after}
+use Rattle.flow_model.specs.Keys.{Cells}
 use Rattle.flow_model.specs.Legal.{IsLegal, IsWhole}
 use Rattle.flow_model.specs.Texts.{printed_journal}
 use Rattle.flux_journal.specs.Formats.{printed_journal_2}
-use Rattle.flux_items.specs.Items.{AreItemsOf}
 use Rattle.flux_syntax.specs.ProgramOfText.{program_of}
 use Rattle.rt_all.specs.Orders.{IsOrderOf}
 use Rattle.flux_words.specs.declared.values.Runtime.{Runtime}
 use Rattle.flux_words.specs.declared.values.JournalFormat.{JournalFormat}
 use Rattle.flux_words.specs.declared.values.JournalFormat.TheVariants.{One, Two}
+use Rattle.flux_driver.specs.declared.running.Printing.{Printing}
+use Rattle.flux_driver.specs.declared.running.Printing.TheVariants as printings
 use Rattle.flux_driver.specs.Worlds.{Files}
-use Rattle.flux_driver.specs.Inputs.{HasItems}
-use Rattle.flux_driver.specs.Items.{rules_in}
+use Rattle.flux_driver.specs.Origins.{Origin}
+use Rattle.flux_driver.specs.Inputs.{GivesItems}
+use Rattle.flux_driver.specs.Summaries.{printed_summary}
 
 -- a program with its locks, items, a library, and cells that are all empty at the start
 abbrev pub setup_of : Program → Holds → List Item → LibraryMeaning → Setup
@@ -51,13 +55,21 @@ abbrev pub printed_in : JournalFormat → Program → ℕ → Journal → List �
 printed_in One program flows journal = printed_journal program journal
 printed_in Two program flows journal = printed_journal_2 program flows journal
 
--- the text is the printed journal of a true run: of the items of the one file, through the program of
--- the other, by a runtime and in a format
-pub record IsJournalText (meaning : LibraryMeaning) (told : Files) (file items : List ℕ)
-    (runtime : Runtime) (format : JournalFormat) (text : List ℕ) : Type 0 where
-  pub has : HasItems meaning told file items
-  pub its : List Item
-  pub are_items : let own = has.program_ in AreItemsOf (rules_in meaning has.decls own.sound) its has.text
+-- what is printed of a run of so many flows: its journal in a format, or its summary
+abbrev pub printed_by : Printing → Program → ℕ → Journal → Cells → List ℕ
+printed_by (printings.Journal format) program flows journal cells =
+    printed_in format program flows journal
+printed_by printings.Summary program flows journal cells =
+    printed_summary program flows journal.entries cells
+
+-- the text is what is printed of a true run of the items of the one text, through the program of the other, by a
+-- runtime
+pub record IsRunText (meaning : LibraryMeaning) (told : Files) (program items : Origin)
+    (runtime : Runtime) (printing : Printing) (text : List ℕ) : Type 0 where
+  pub given : GivesItems meaning told program items
   pub journal : Journal
-  pub true_run : IsTrueRun (program_of has.decls) its meaning runtime journal.entries
-  pub printed : text ≡ printed_in format (program_of has.decls) (length its) journal
+  pub true_run : let has = given.has in
+      IsTrueRun (program_of has.decls) given.its meaning runtime journal.entries
+  pub printed : let has = given.has in let p = program_of has.decls in
+      text ≡ printed_by printing p (length given.its) journal
+      (cells_after (setup_of p true_run.locks given.its meaning) journal.entries)

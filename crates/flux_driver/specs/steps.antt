@@ -4,3 +4,5 @@ pub mod Refusals
 pub mod Running
 pub mod Preparing
 pub mod Telling
+pub mod Loading
+pub mod Auditing

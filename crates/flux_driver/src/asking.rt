@@ -5,13 +5,14 @@ ghost use Rattle.std.specs.Arc.{arc_value};
 ghost use Rattle.flux_words.specs.Asking.{asked};
 ghost use Rattle.flux_driver.specs.BuiltIn.{built_in};
 ghost use Rattle.flux_driver.specs.Commands.{folder_of};
-ghost use Rattle.flux_driver.specs.Answers.{Prints, IsAnswer};
+ghost use Rattle.flux_driver.specs.Answers.{IsAnswer};
 ghost use Rattle.flux_driver.specs.Top.{HasAsked};
 ghost use Rattle.flux_driver.specs.steps.Refusals.{status_of, line_of};
-ghost use Rattle.flux_driver.specs.steps.Preparing.{AsksAll, IsRefusedAll, CountsBoth, AnswersDue, AnswersWords, PrintsWords, prepared_status};
+ghost use Rattle.flux_driver.specs.steps.Preparing.{AsksAll, PreparesAll, IsRefusedAll, CountsBoth, AnswersDue, AnswersWords, PreparesWords, prepared_status};
 
 use crate::commands::prepare;
 use crate::documents::load_docs;
+use crate::prepared::Prepared;
 use crate::refusals::Refusal;
 use flow_core::Gate;
 use flux_library::Docs;
@@ -28,6 +29,7 @@ fn dir_of<'a>(wanted: &Asked<'a>) -> Option<&'a [u8]>
 {
     match wanted {
         Asked::Run { docs, .. } => *docs,
+        Asked::Audit { docs, .. } => *docs,
         _ => None,
     }
 }
@@ -46,7 +48,7 @@ fn prepare_asked<'a, S: Store, F: Folder, G: Gate>(
     folder: &mut F,
     gate: &G,
     wanted: Asked<'a>,
-) -> Result<Bytes, Refusal<'a>>
+) -> Result<Prepared, Refusal<'a>>
     ensures kept { S.files store.new ≡ S.files store.old }
     ensures kept_folders { F.folders folder.new ≡ F.folders folder.old }
     ensures later { S.faults store.old ≤ S.faults store.new }
@@ -55,7 +57,7 @@ fn prepare_asked<'a, S: Store, F: Folder, G: Gate>(
         (record { files = S.files store.old; folders = F.folders folder.old })
         (prepared_status result) (F.asked folder.old) (F.asked folder.new)
         (S.asked store.old) (S.asked store.new) }
-    ensures done { IfOk result (Prints built_in (asked wanted.entry)
+    ensures done { IfOk result (PreparesAll built_in (asked wanted.entry)
         (record { files = S.files store.old; folders = F.folders folder.old })) }
     ensures refused { IfErr result (IsRefusedAll built_in (asked wanted.entry)
         (record { files = S.files store.old; folders = F.folders folder.old })) }
@@ -77,7 +79,7 @@ pub fn prepare_words<'a, S: Store, F: Folder, G: Gate>(
     folder: &mut F,
     gate: &G,
     words: &'a [Bytes],
-) -> Result<Bytes, Refusal<'a>>
+) -> Result<Prepared, Refusal<'a>>
     ensures kept { S.files store.new ≡ S.files store.old }
     ensures kept_folders { F.folders folder.new ≡ F.folders folder.old }
     ensures later { S.faults store.old ≤ S.faults store.new }
@@ -86,7 +88,7 @@ pub fn prepare_words<'a, S: Store, F: Folder, G: Gate>(
         (record { files = S.files store.old; folders = F.folders folder.old })
         (prepared_status result) (F.asked folder.old) (F.asked folder.new)
         (S.asked store.old) (S.asked store.new) }
-    ensures done { IfOk result (PrintsWords built_in words.now
+    ensures done { IfOk result (PreparesWords built_in words.now
         (record { files = S.files store.old; folders = F.folders folder.old })) }
     ensures refused { IfErr result (λ refusal. IsAnswer built_in words.now
         (record { files = S.files store.old; folders = F.folders folder.old })

@@ -1,30 +1,35 @@
 //! The commands: each makes all of its text before any of it is written.
 
-ghost use Rattle.std.specs.Prelude.{◌≡◌, ◌≤◌, IfOk, IfErr, IfSome, Some};
+ghost use Rattle.std.specs.Prelude.{◌≡◌, ◌≤◌, IfOk, IfErr, ℕ, List, Option};
 ghost use Rattle.std.specs.Arc.{arc_value};
-ghost use Rattle.flux_words.specs.Commands.{check, plan, format};
+ghost use Rattle.flux_words.specs.Commands.{check, plan, format, audit, load};
 ghost use Rattle.flux_words.specs.Asking.{asked};
-ghost use Rattle.flux_driver.specs.Printed.{IsPrinted, help_text};
+ghost use Rattle.flux_driver.specs.Worlds.{Files};
+ghost use Rattle.flux_driver.specs.Printed.{help_text};
 ghost use Rattle.flux_driver.specs.steps.Refusals.{Counts, IsRefused};
-ghost use Rattle.flux_driver.specs.steps.Preparing.{run_of, AsksFiles, prepared_status, IsFirm};
+ghost use Rattle.flux_driver.specs.steps.Preparing.{run_of, AsksFiles, IsPrepared, prepared_status, IsFirm};
 
-use crate::files::{ITEMS_FILE_LIMIT, PROGRAM_FILE_LIMIT, load};
+use crate::audited::audit_text;
+use crate::files::{JOURNAL_FILE_LIMIT, PROGRAM_FILE_LIMIT, load};
+use crate::loaded::{Loaded, load_files, load_texts};
+use crate::prepared::Prepared;
 use crate::refusals::Refusal;
-use crate::running::{Wanted, run_text};
+use crate::running::{Printing, Wanted, run_items};
 use crate::texts::{check_text, read_text};
 use flow_core::Gate;
 use flux_hoist::{print_plan, report};
 use flux_library::Library;
+use flux_load::make;
 use flux_outside::Store;
 use flux_syntax::format;
 use flux_values::{Bytes, Memory};
-use flux_words::Asked;
+use flux_words::{Asked, JournalFormat, Runtime};
 use std::alloc::Global;
 use std::sync::Arc;
 
 /// What `help` prints: a line for each command that is built.
 const HELP: &[u8] =
-    b"flux check FILE\nflux plan FILE\nflux format FILE\nflux run FILE ITEMS [--runtime R] [--docs DIR] [--journal J]\nflux help or --help\n";
+    b"flux check FILE\nflux plan FILE\nflux format FILE\nflux run FILE ITEMS [--runtime R] [--docs DIR] [--journal J]\nflux audit FILE ITEMS JOURNAL [--docs DIR]\nflux load N K [--runtime R]\nflux help or --help\n";
 
 /// The report that `check` prints.
 fn prepare_check<'a, L: Library, S: Store>(
@@ -32,22 +37,23 @@ fn prepare_check<'a, L: Library, S: Store>(
     library: &L,
     store: &mut S,
     file: &'a [u8],
-) -> Result<Bytes, Refusal<'a>>
+) -> Result<Prepared, Refusal<'a>>
     ensures kept { S.files store.new ≡ S.files store.old }
     ensures later { S.faults store.old ≤ S.faults store.new }
     ensures asked { AsksFiles (L.meaning library.now) (check file.now) (S.files store.old)
         (S.asked store.old) (S.asked store.new) }
-    ensures done { IfOk result (IsPrinted (L.meaning library.now) (check file.now)
+    ensures done { IfOk result (IsPrepared (L.meaning library.now) (check file.now)
         (S.files store.old)) }
     ensures refused { IfErr result (IsRefused (L.meaning library.now) (check file.now)
         (S.files store.old)) }
     ensures counts { Counts result (S.faults store.old) (S.faults store.new) }
-    ensures firm { IfSome (S.files store.old) (λ told. IsFirm (L.meaning library.now)
-        (check file.now) (Some told) (prepared_status result)) }
+    ensures firm { IsFirm (L.meaning library.now) (check file.now) (S.files store.old)
+        (prepared_status result) }
 {
     let text = load(alloc, store, file, PROGRAM_FILE_LIMIT)?;
     let checked = check_text(alloc, library, text.as_bytes())?;
-    Ok(report(alloc, &checked.program, &checked.order, &checked.sets)?)
+    let text = report(alloc, &checked.program, &checked.order, &checked.sets)?;
+    Ok(Prepared::Text(text))
 }
 
 /// The plan that `plan` prints.
@@ -56,22 +62,22 @@ fn prepare_plan<'a, L: Library, S: Store>(
     library: &L,
     store: &mut S,
     file: &'a [u8],
-) -> Result<Bytes, Refusal<'a>>
+) -> Result<Prepared, Refusal<'a>>
     ensures kept { S.files store.new ≡ S.files store.old }
     ensures later { S.faults store.old ≤ S.faults store.new }
     ensures asked { AsksFiles (L.meaning library.now) (plan file.now) (S.files store.old)
         (S.asked store.old) (S.asked store.new) }
-    ensures done { IfOk result (IsPrinted (L.meaning library.now) (plan file.now)
+    ensures done { IfOk result (IsPrepared (L.meaning library.now) (plan file.now)
         (S.files store.old)) }
     ensures refused { IfErr result (IsRefused (L.meaning library.now) (plan file.now)
         (S.files store.old)) }
     ensures counts { Counts result (S.faults store.old) (S.faults store.new) }
-    ensures firm { IfSome (S.files store.old) (λ told. IsFirm (L.meaning library.now)
-        (plan file.now) (Some told) (prepared_status result)) }
+    ensures firm { IsFirm (L.meaning library.now) (plan file.now) (S.files store.old)
+        (prepared_status result) }
 {
     let text = load(alloc, store, file, PROGRAM_FILE_LIMIT)?;
     let checked = check_text(alloc, library, text.as_bytes())?;
-    Ok(print_plan(alloc, &checked, library)?)
+    Ok(Prepared::Text(print_plan(alloc, &checked, library)?))
 }
 
 /// The text that `format` prints.
@@ -80,23 +86,23 @@ fn prepare_format<'a, L: Library, S: Store>(
     library: &L,
     store: &mut S,
     file: &'a [u8],
-) -> Result<Bytes, Refusal<'a>>
+) -> Result<Prepared, Refusal<'a>>
     ensures kept { S.files store.new ≡ S.files store.old }
     ensures later { S.faults store.old ≤ S.faults store.new }
     ensures asked { AsksFiles (L.meaning library.now) (format file.now) (S.files store.old)
         (S.asked store.old) (S.asked store.new) }
-    ensures done { IfOk result (IsPrinted (L.meaning library.now) (format file.now)
+    ensures done { IfOk result (IsPrepared (L.meaning library.now) (format file.now)
         (S.files store.old)) }
     ensures refused { IfErr result (IsRefused (L.meaning library.now) (format file.now)
         (S.files store.old)) }
     ensures counts { Counts result (S.faults store.old) (S.faults store.new) }
-    ensures firm { IfSome (S.files store.old) (λ told. IsFirm (L.meaning library.now)
-        (format file.now) (Some told) (prepared_status result)) }
+    ensures firm { IsFirm (L.meaning library.now) (format file.now) (S.files store.old)
+        (prepared_status result) }
 {
     let _ = library;
     let text = load(alloc, store, file, PROGRAM_FILE_LIMIT)?;
     let decls = read_text(alloc, text.as_bytes())?;
-    Ok(format(alloc, &decls)?)
+    Ok(Prepared::Text(format(alloc, &decls)?))
 }
 
 /// The journal that `run` prints.
@@ -107,24 +113,82 @@ fn prepare_run<'a, L: Library, S: Store, G: Gate>(
     gate: &G,
     file: &'a [u8],
     items: &'a [u8],
-    wanted: Wanted,
-) -> Result<Bytes, Refusal<'a>>
+    runtime: Runtime,
+    journal: JournalFormat,
+) -> Result<Prepared, Refusal<'a>>
     ensures kept { S.files store.new ≡ S.files store.old }
     ensures later { S.faults store.old ≤ S.faults store.new }
-    ensures asked { AsksFiles (L.meaning (arc_value library)) (run_of file.now items.now wanted)
-        (S.files store.old) (S.asked store.old) (S.asked store.new) }
-    ensures done { IfOk result (IsPrinted (L.meaning (arc_value library))
-        (run_of file.now items.now wanted) (S.files store.old)) }
-    ensures refused { IfErr result (IsRefused (L.meaning (arc_value library))
-        (run_of file.now items.now wanted) (S.files store.old)) }
+    ensures asked { (docs : Option (List ℕ)) → AsksFiles (L.meaning (arc_value library))
+        (run_of file.now items.now runtime docs journal) (S.files store.old)
+        (S.asked store.old) (S.asked store.new) }
+    ensures done { (docs : Option (List ℕ)) → IfOk result (IsPrepared (L.meaning (arc_value library))
+        (run_of file.now items.now runtime docs journal) (S.files store.old)) }
+    ensures refused { (docs : Option (List ℕ)) → IfErr result (IsRefused (L.meaning (arc_value library))
+        (run_of file.now items.now runtime docs journal) (S.files store.old)) }
     ensures counts { Counts result (S.faults store.old) (S.faults store.new) }
-    ensures firm { IfSome (S.files store.old) (λ told. IsFirm (L.meaning (arc_value library))
-        (run_of file.now items.now wanted) (Some told) (prepared_status result)) }
+    ensures firm { (docs : Option (List ℕ)) → IsFirm (L.meaning (arc_value library))
+        (run_of file.now items.now runtime docs journal) (S.files store.old)
+        (prepared_status result) }
 {
-    let text = load(alloc, store, file, PROGRAM_FILE_LIMIT)?;
-    let checked = check_text(alloc, &*library, text.as_bytes())?;
-    let items_text = load(alloc, store, items, ITEMS_FILE_LIMIT)?;
-    run_text(alloc, library, checked, items_text.as_bytes(), wanted, gate)
+    let loaded = load_files(alloc, &*library, store, file, items)?;
+    let printing = Printing::Journal(journal);
+    let wanted = Wanted { runtime, printing };
+    let text = run_items(alloc, library, loaded.checked, loaded.items, wanted, gate)?;
+    Ok(Prepared::Text(text))
+}
+
+/// The verdict that `audit` prints.
+fn prepare_audit<'a, L: Library, S: Store>(
+    alloc: Global,
+    library: Arc<L>,
+    store: &mut S,
+    file: &'a [u8],
+    items: &'a [u8],
+    journal: &'a [u8],
+) -> Result<Prepared, Refusal<'a>>
+    ensures kept { S.files store.new ≡ S.files store.old }
+    ensures later { S.faults store.old ≤ S.faults store.new }
+    ensures asked { (docs : Option (List ℕ)) → AsksFiles (L.meaning (arc_value library))
+        (audit file.now items.now journal.now docs) (S.files store.old)
+        (S.asked store.old) (S.asked store.new) }
+    ensures done { (docs : Option (List ℕ)) → IfOk result (IsPrepared (L.meaning (arc_value library))
+        (audit file.now items.now journal.now docs) (S.files store.old)) }
+    ensures refused { (docs : Option (List ℕ)) → IfErr result (IsRefused (L.meaning (arc_value library))
+        (audit file.now items.now journal.now docs) (S.files store.old)) }
+    ensures counts { Counts result (S.faults store.old) (S.faults store.new) }
+    ensures firm { (docs : Option (List ℕ)) → IsFirm (L.meaning (arc_value library))
+        (audit file.now items.now journal.now docs) (S.files store.old)
+        (prepared_status result) }
+{
+    let loaded = load_files(alloc, &*library, store, file, items)?;
+    let text = load(alloc, store, journal, JOURNAL_FILE_LIMIT)?;
+    let Loaded { checked, items } = loaded;
+    Ok(audit_text(alloc, library, checked, items, text.as_bytes())?)
+}
+
+/// The summary that `load` prints.
+fn prepare_load<'a, L: Library, G: Gate>(
+    alloc: Global,
+    library: Arc<L>,
+    gate: &G,
+    count: u32,
+    first: u32,
+    runtime: Runtime,
+) -> Result<Prepared, Refusal<'a>>
+    ensures done { (told : Files) → IfOk result (IsPrepared (L.meaning (arc_value library))
+        (load count first runtime) told) }
+    ensures refused { (told : Files) → IfErr result (IsRefused (L.meaning (arc_value library))
+        (load count first runtime) told) }
+    ensures counts { (faults : ℕ) → Counts result faults faults }
+    ensures firm { (told : Files) → IsFirm (L.meaning (arc_value library))
+        (load count first runtime) told (prepared_status result) }
+{
+    let (program, items) = make(alloc, count, first)?;
+    let loaded = load_texts(alloc, &*library, program.as_bytes(), items.as_bytes())?;
+    let printing = Printing::Summary;
+    let wanted = Wanted { runtime, printing };
+    let summary = run_items(alloc, library, loaded.checked, loaded.items, wanted, gate)?;
+    Ok(Prepared::Text(summary))
 }
 
 /// What `help` prints.
@@ -141,18 +205,18 @@ pub fn prepare<'a, L: Library, S: Store, G: Gate>(
     store: &mut S,
     gate: &G,
     wanted: Asked<'a>,
-) -> Result<Bytes, Refusal<'a>>
+) -> Result<Prepared, Refusal<'a>>
     ensures kept { S.files store.new ≡ S.files store.old }
     ensures later { S.faults store.old ≤ S.faults store.new }
     ensures asked { AsksFiles (L.meaning (arc_value library)) (asked wanted.entry)
         (S.files store.old) (S.asked store.old) (S.asked store.new) }
-    ensures done { IfOk result (IsPrinted (L.meaning (arc_value library)) (asked wanted.entry)
+    ensures done { IfOk result (IsPrepared (L.meaning (arc_value library)) (asked wanted.entry)
         (S.files store.old)) }
     ensures refused { IfErr result (IsRefused (L.meaning (arc_value library)) (asked wanted.entry)
         (S.files store.old)) }
     ensures counts { Counts result (S.faults store.old) (S.faults store.new) }
-    ensures firm { IfSome (S.files store.old) (λ told. IsFirm (L.meaning (arc_value library))
-        (asked wanted.entry) (Some told) (prepared_status result)) }
+    ensures firm { IsFirm (L.meaning (arc_value library)) (asked wanted.entry)
+        (S.files store.old) (prepared_status result) }
 {
     match wanted {
         Asked::Check { file } => prepare_check(alloc, &*library, store, file),
@@ -164,10 +228,18 @@ pub fn prepare<'a, L: Library, S: Store, G: Gate>(
             runtime,
             docs: _,
             journal,
-        } => {
-            let wanted = Wanted { runtime, journal };
-            prepare_run(alloc, library, store, gate, file, items, wanted)
-        }
-        Asked::Help => Ok(prepare_help(alloc)?),
+        } => prepare_run(alloc, library, store, gate, file, items, runtime, journal),
+        Asked::Audit {
+            file,
+            items,
+            journal,
+            docs: _,
+        } => prepare_audit(alloc, library, store, file, items, journal),
+        Asked::Load {
+            count,
+            first,
+            runtime,
+        } => prepare_load(alloc, library, gate, count, first, runtime),
+        Asked::Help => Ok(Prepared::Text(prepare_help(alloc)?)),
     }
 }

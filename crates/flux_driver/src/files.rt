@@ -16,6 +16,9 @@ pub const PROGRAM_FILE_LIMIT: usize = 2_097_152;
 /// An items file has at most so many bytes.
 pub const ITEMS_FILE_LIMIT: usize = 16_777_216;
 
+/// A journal's file has at most so many bytes.
+pub const JOURNAL_FILE_LIMIT: usize = 268_435_456;
+
 /// The bytes of a file.
 pub fn load<'a, S: Store>(
     alloc: Global,

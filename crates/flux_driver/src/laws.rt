@@ -1,6 +1,8 @@
 //! The headline, as the contracts of functions that do nothing.
 
 ghost use Rattle.flux_driver.specs.Headline.{RunsAreTrue, RunsAreAnswered};
+ghost use Rattle.flux_driver.specs.Audits.{YesIsTrue, NoIsTrue, AuditsAreAnswered};
+ghost use Rattle.flux_driver.specs.Loads.{LoadsAreTrue, LoadsAreAnswered};
 
 /// Where the words spell `run` and `top` has answered 0, it has printed the journal of a true run of the items of the
 /// one file through the program of the other.
@@ -12,4 +14,28 @@ pub fn runs_are_true()
 /// short.
 pub fn runs_are_answered()
     ensures { RunsAreAnswered }
+{}
+
+/// Where the words spell `audit` and `top` has answered 0, the journal is that of a true run; where it has answered 8,
+/// it has printed the first line that breaks a rule.
+pub fn audits_are_true()
+    ensures yes { YesIsTrue }
+    ensures no { NoIsTrue }
+{}
+
+/// Where a sound program, items of it and a journal's file are there, and no reading or writing fails, `audit` answers 0
+/// or 8, unless memory is short.
+pub fn audits_are_answered()
+    ensures { AuditsAreAnswered }
+{}
+
+/// Where the words spell `load` and `top` has answered 0, it has printed the summary of a true run of its own texts.
+pub fn loads_are_true()
+    ensures { LoadsAreTrue }
+{}
+
+/// Where the program of a load is sound and its items have no fault, and no writing fails, `load` answers 0, unless
+/// memory is short.
+pub fn loads_are_answered()
+    ensures { LoadsAreAnswered }
 {}

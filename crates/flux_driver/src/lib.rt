@@ -6,20 +6,27 @@
 #![tactic(auto)]
 
 mod asking;
+mod audited;
 mod commands;
 mod documents;
 mod files;
 mod laws;
+mod loaded;
 mod outermost;
+mod prepared;
 mod refusals;
 mod rules;
 mod running;
 mod statuses;
+mod summaries;
 mod telling;
 mod texts;
 
 pub use flow_core::{Gate, OpenGate};
 pub use flux_words::needs_threads;
-pub use laws::{runs_are_answered, runs_are_true};
+pub use laws::{
+    audits_are_answered, audits_are_true, loads_are_answered, loads_are_true, runs_are_answered,
+    runs_are_true,
+};
 pub use outermost::{World, answer, top, top_alone};
 pub use statuses::Status;

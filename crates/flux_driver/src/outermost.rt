@@ -43,7 +43,7 @@ pub fn top_alone<S: Store, F: Folder, O: Sink, E: Sink, G: Gate>(
         HasDone built_in words.now (seen world.old) result (seen world.new) }
 {
     match prepare_words(alloc, &mut world.store, &mut world.folder, gate, words) {
-        Ok(text) => print(&mut world.out, &mut world.err, text.as_bytes()),
+        Ok(prepared) => print(&mut world.out, &mut world.err, &prepared),
         Err(refusal) => refuse(alloc, &mut world.err, refusal),
     }
 }
@@ -53,8 +53,9 @@ pub fn top_alone<S: Store, F: Folder, O: Sink, E: Sink, G: Gate>(
 /// The words are those behind the program's own name. `check FILE` says whether a program is sound
 /// and reports on its locks, `plan FILE` prints what its nodes take, give, hold and count,
 /// `format FILE` prints its formatted text, `run FILE ITEMS` runs the items of one file through the program
-/// of another and prints the journal of their flows, and `help` prints the commands. The clause speaks of
-/// what is seen of the world before and after the call. The gate is told before and after each call of a
+/// of another and prints the journal of their flows, `audit FILE ITEMS JOURNAL` prints whether a file is the
+/// journal of such a run, `load N K` runs a large load of its own and prints what it counted, and `help` prints
+/// the commands. The clause speaks of what is seen of the world before and after the call. The gate is told before and after each call of a
 /// node.
 pub fn top<S: Store, F: Folder, O: Sink, E: Sink, G: Gate, Rt: Threads + Wait + Sync>(
     rt: &Rt,

@@ -1,29 +1,20 @@
-//! The run of an items text, from a checked program to the printed journal.
+//! The run of items, from a checked program to what is printed of it.
 
-ghost use Rattle.std.specs.Prelude.{◌≡◌, [], List, IfOk, IfErr};
+ghost use Rattle.std.specs.Prelude.{◌≡◌, ◌≤◌, [], length, IfOk};
 ghost use Rattle.std.specs.Arc.{arc_value};
-ghost use Rattle.flux_model.specs.declared.items.Item.{Item};
-ghost use Rattle.flux_model.specs.Kinds.{kinds_at};
-ghost use Rattle.flux_model.specs.Soundness.{IsSound};
-ghost use Rattle.flux_plan.specs.Runs.{ArePlansOf};
-ghost use Rattle.flux_hoist.specs.Sets.{held_by};
-ghost use Rattle.flux_items.specs.declared.rules.ItemFault.{ItemFault};
-ghost use Rattle.flux_items.specs.Items.{AreItemsOf};
-ghost use Rattle.flux_items.specs.Faults.{IsFaultOf};
-ghost use Rattle.flow_core.specs.States.{setup_in, opened};
-ghost use Rattle.flux_driver.specs.declared.refusals.Refusal.TheVariants as refusals;
-ghost use Rattle.flux_driver.specs.TrueRuns.{printed_in};
-ghost use Rattle.flux_driver.specs.Items.{rules_of};
-ghost use Rattle.flux_driver.specs.steps.Running.{HasSources, CanRun, IsDriven, IsJournalOf, IsWritten, AreRefused};
+ghost use Rattle.flux_model.specs.declared.programs.TheConstants.{COUNT_LIMIT};
+ghost use Rattle.flow_model.specs.CellsAfter.{cells_after};
+ghost use Rattle.flux_cells.specs.Kept.{cells_of};
+ghost use Rattle.flow_core.specs.States.{setup_in};
+ghost use Rattle.flux_driver.specs.TrueRuns.{printed_in, printed_by};
+ghost use Rattle.flux_driver.specs.steps.Running.{CanRun, IsDriven, IsRun, HasParts};
 
-use crate::refusals::Refusal;
-use crate::rules::rules_for;
+use crate::summaries::print_summary;
 use flow_core::{Core, Gate, Setup};
 use flow_model::Journal;
 use flux_cells::Cells;
 use flux_compile::compile;
 use flux_hoist::Checked;
-use flux_items::read_items;
 use flux_journal::{print_journal, print_journal_2};
 use flux_library::Library;
 use flux_model::{Item, Program};
@@ -34,50 +25,59 @@ use rt_all::Chosen;
 use std::alloc::Global;
 use std::sync::Arc;
 
-/// How items are run: by which runtime, and in which format their journal is printed.
+/// What is printed of a run.
+#[derive(Clone, Copy, Debug, PartialEq, Eq)]
+pub enum Printing {
+    Journal(JournalFormat),
+    Summary,
+}
+
+/// How items are run, and what is printed of the run.
 #[derive(Debug, Drop)]
 pub struct Wanted {
     pub runtime: Runtime,
-    pub journal: JournalFormat,
+    pub printing: Printing,
 }
 
-/// The journal of a core that is driven to its end.
-fn drive<L: Library, G: Gate>(core: Core<L>, runtime: Runtime, gate: &G) -> Result<Journal, Memory>
+/// The journal of a core that is driven to its end, and its cells then.
+fn drive<L: Library, G: Gate>(
+    core: Core<L>,
+    runtime: Runtime,
+    gate: &G,
+) -> Result<(Journal, Cells), Memory>
     requires { core.entries ≡ [] }
-    ensures { IfOk result (λ journal. IsDriven (setup_in L.meaning core) runtime journal.entries) }
+    ensures driven { IfOk result (λ ended. IsDriven (setup_in L.meaning core) runtime ended.0.entries) }
+    ensures cells { IfOk result (λ ended. cells_of ended.1
+        ≡ cells_after (setup_in L.meaning core) ended.0.entries) }
 {
     match Chosen::by(runtime).drive_alone(core, gate) {
-        Ok(core) => Ok(core.into_parts().0),
+        Ok(core) => Ok(core.into_parts()),
         Err(_) => Err(Memory),
     }
 }
 
-/// The core of the items' flows, which have done nothing yet.
-fn open<L: Library>(
+/// What the items' flows run in: cells that are all empty at the start.
+pub fn set_up<L: Library>(
     alloc: Global,
     library: Arc<L>,
     program: Arc<Program>,
     plans: List<VerifiedPlan>,
     items: List<Item>,
-) -> Result<Core<L>, Memory>
-    requires can { CanRun (L.meaning (arc_value library)) (arc_value program) items }
-    requires plans { ArePlansOf (arc_value program) plans }
-    ensures { IfOk result (λ core. core ≡ opened (arc_value program) plans items []
-        (arc_value library)) }
+) -> Result<Setup<L>, Memory>
+    ensures { IfOk result (HasParts (arc_value program) plans items (arc_value library)) }
 {
     let plans = Arc::new(alloc, plans)?;
-    let setup = Setup {
+    Ok(Setup {
         program,
         plans,
         items,
         opening: Cells::new(alloc),
         library,
-    };
-    Core::new(alloc, setup)
+    })
 }
 
 /// The text of a journal of so many flows.
-fn print(
+fn print_format(
     alloc: Global,
     format: JournalFormat,
     program: &Program,
@@ -92,8 +92,27 @@ fn print(
     }
 }
 
-/// The printed journal of items.
-fn run_items<L: Library, G: Gate>(
+/// What is printed of a run of so many flows, by its journal and the cells at its end.
+fn print(
+    alloc: Global,
+    printing: Printing,
+    program: &Program,
+    flows: u32,
+    journal: &Journal,
+    cells: &Cells,
+) -> Result<Bytes, Memory>
+    requires { length program.now.classes ≤ COUNT_LIMIT }
+    ensures { IfOk result (λ text. text
+        ≡ printed_by printing program.now flows journal.now (cells_of cells.now)) }
+{
+    match printing {
+        Printing::Journal(format) => print_format(alloc, format, program, flows, journal),
+        Printing::Summary => print_summary(alloc, program, flows, journal, cells),
+    }
+}
+
+/// What is printed of the run of items.
+pub fn run_items<L: Library, G: Gate>(
     alloc: Global,
     library: Arc<L>,
     checked: Checked,
@@ -102,45 +121,14 @@ fn run_items<L: Library, G: Gate>(
     gate: &G,
 ) -> Result<Bytes, Memory>
     requires { CanRun (L.meaning (arc_value library)) checked.program items }
-    ensures { IfOk result (IsJournalOf (L.meaning (arc_value library)) checked.program items
-        wanted) }
+    ensures { IfOk result (IsRun (L.meaning (arc_value library)) checked.program items wanted) }
 {
     let flows = items.len() as u32;
     let plans = compile(alloc, &checked)?;
     let program = Arc::new(alloc, checked.program)?;
     let kept = Arc::try_clone(&program)?;
-    let core = open(alloc, library, program, plans, items)?;
-    let journal = drive(core, wanted.runtime, gate)?;
-    print(alloc, wanted.journal, &kept, flows, &journal)
-}
-
-/// The printed journal of an items text's flows.
-pub fn run_text<'a, L: Library, G: Gate>(
-    alloc: Global,
-    library: Arc<L>,
-    checked: Checked,
-    text: &[u8],
-    wanted: Wanted,
-    gate: &G,
-) -> Result<Bytes, Refusal<'a>>
-    requires sound { IsSound (L.meaning (arc_value library)) checked.program
-        (kinds_at checked.sigs.nodes) }
-    requires sources { HasSources checked.program (held_by checked.sets.nodes) checked.sizes }
-    ensures printed { let rules = rules_of checked.program (kinds_at checked.sigs.nodes)
-        (held_by checked.sets.nodes) in
-        IfOk result (IsWritten (L.meaning (arc_value library)) checked.program rules text.now
-        wanted) }
-    ensures refused { let rules = rules_of checked.program (kinds_at checked.sigs.nodes)
-        (held_by checked.sets.nodes) in
-        IfErr result (AreRefused rules text.now) }
-    ensures items { let rules = rules_of checked.program (kinds_at checked.sigs.nodes)
-        (held_by checked.sets.nodes) in (items : List Item) → AreItemsOf rules items text.now
-        → IfErr result (λ refusal. refusal ≡ refusals.Memory) }
-    ensures fault { let rules = rules_of checked.program (kinds_at checked.sigs.nodes)
-        (held_by checked.sets.nodes) in (fault : ItemFault) → IsFaultOf rules fault text.now
-        → IfOk result (λ _. ⊥) }
-{
-    let rules = rules_for(alloc, &checked)?;
-    let items = read_items(alloc, text, &rules)?;
-    Ok(run_items(alloc, library, checked, items, wanted, gate)?)
+    let setup = set_up(alloc, library, program, plans, items)?;
+    let core = Core::new(alloc, setup)?;
+    let (journal, cells) = drive(core, wanted.runtime, gate)?;
+    print(alloc, wanted.printing, &kept, flows, &journal, &cells)
 }

@@ -20,7 +20,7 @@ pub enum Status {
     Write,
     /// The door failed; it comes with serving.
     Door,
-    /// The audit's verdict is no; it comes with auditing.
+    /// The audit's verdict is no.
     No,
     /// A named file is missing or too long.
     Missing,

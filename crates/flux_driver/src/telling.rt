@@ -4,6 +4,7 @@ ghost use Rattle.std.specs.Prelude.{◌≤◌};
 ghost use Rattle.flux_outside.specs.Streams.{WroteOrBroke};
 ghost use Rattle.flux_driver.specs.steps.Telling.{IsTold, IsPut};
 
+use crate::prepared::Prepared;
 use crate::refusals::Refusal;
 use crate::statuses::Status;
 use flux_outside::{Sink, write_all};
@@ -39,20 +40,26 @@ pub fn refuse<E: Sink>(alloc: Global, err: &mut E, refusal: Refusal) -> Status
     }
 }
 
-/// Writes what is to be printed; where that failed, the line about it.
-pub fn print<O: Sink, E: Sink>(out: &mut O, err: &mut E, text: &[u8]) -> Status
+/// Writes what is to be printed; where that failed, the line about it. A verdict that is no stays so.
+pub fn print<O: Sink, E: Sink>(out: &mut O, err: &mut E, prepared: &Prepared) -> Status
     ensures later { (O.faults out.old ≤ O.faults out.new) × (E.faults err.old ≤ E.faults err.new) }
-    ensures put { IsPut text.now result
+    ensures put { IsPut prepared.now result
         (record { written = O.written out.old; faults = O.faults out.old })
         (record { written = O.written out.new; faults = O.faults out.new })
         (record { written = E.written err.old; faults = E.faults err.old })
         (record { written = E.written err.new; faults = E.faults err.new }) }
 {
-    match write_all(out, text) {
-        Ok(()) => Status::Done,
-        Err(_) => {
-            say(err, b"flux: write failed\n");
-            Status::Write
+    match prepared {
+        Prepared::Text(text) => match write_all(out, text.as_bytes()) {
+            Ok(()) => Status::Done,
+            Err(_) => {
+                say(err, b"flux: write failed\n");
+                Status::Write
+            }
+        },
+        Prepared::No(text) => {
+            say(out, text.as_bytes());
+            Status::No
         }
     }
 }

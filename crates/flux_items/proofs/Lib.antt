@@ -5,4 +5,4 @@ mod Valued
 mod NamedLines
 mod LineReads
 mod ItemReads
-mod OneAnswer
+pub mod OneAnswer

@@ -1,6 +1,6 @@
 -- What is given by the parts so far, and by all.
-use Rattle.std.proofs.Common.{◌≡◌, inl, inr, ℕ, ◌<◌, List, [], ◌∷◌, ◌++◌, length, sym, ap, ◌∙◌, subst, arith}
-use Rattle.std.specs.Prelude.{Option, Some, None, option_to_list, option_copied}
+use Rattle.std.proofs.Common.{◌≡◌, inl, inr, ℕ, ◌<◌, ◌≤◌, List, [], ◌∷◌, ◌++◌, length, sym, ap, ◌∙◌, subst, arith}
+use Rattle.std.specs.Prelude.{Option, Some, None, option_to_list}
 use Rattle.std.proofs.lemmas.List.{length-append}
 use Rattle.flux_words.specs.declared.names.OptionName.{OptionName}
 use Rattle.flux_words.specs.declared.names.OptionName.TheVariants.{Runtime, Docs, Journal}
@@ -8,7 +8,7 @@ use Rattle.flux_words.specs.declared.given.Given.{Given}
 use Rattle.flux_words.specs.declared.values.Runtime as values
 use Rattle.flux_words.specs.declared.values.JournalFormat.{JournalFormat}
 use Rattle.flux_words.specs.Values.{IsRuntime, IsFormat}
-use Rattle.flux_words.specs.Commands.{Manner, SpellsRun}
+use Rattle.flux_words.specs.Behind.{Manner, HasParts, FitsRun, FitsAudit, FitsLoad}
 use Rattle.flux_words.specs.Parts.{Part, word, option, Begins, BeginWith, if_for, words_in, values_of}
 use Rattle.flux_words.specs.steps.Given.{files_of, listed, HoldsAll, Adds, IsFull, IsTooMuch, IsGiven, AreSoFar}
 use Rattle.flux_words.proofs.Laid.{begin_more, past, one_part, one_parting, words_in-append, values_of-append, if_for-same}
@@ -71,56 +71,62 @@ too_much_there words rest next given p sofar some begins full all laid =
 pub all_given : (words rest : List (List ℕ)) (given : Given) → AreAllSoFar words rest given → rest ≡ [] → IsGiven words given
 all_given words rest given sofar none = record { parts = sofar.parts; laid = subst (λ (r : List (List ℕ)). BeginWith sofar.parts words r) none sofar.front; holds = sofar.holds }
 
--- ---- what `run` takes
+-- ---- what commands take
 
-few_runtimes : (vs : List (List ℕ)) (runtime : values.Runtime) → IsRuntime vs runtime → 1 < length vs → ⊥
-few_runtimes [] runtime is more = omega arith
-few_runtimes (v ∷ []) runtime is more = omega arith
-few_runtimes (v ∷ w ∷ vs) runtime is more = is
+-- no command takes more words than three, nor an option twice
+pub record IsFew (parts : List Part) : Type 0 where
+  pub words_ : length (words_in parts) ≤ 3
+  pub once : (name : OptionName) → length (values_of name parts) ≤ 1
 
-few_formats : (vs : List (List ℕ)) (journal : JournalFormat) → IsFormat vs journal → 1 < length vs → ⊥
-few_formats [] journal is more = omega arith
-few_formats (v ∷ []) journal is more = omega arith
-few_formats (v ∷ w ∷ vs) journal is more = is
+not_too_much : (parts : List Part) → IsFew parts → IsTooMuch parts → ⊥
+not_too_much parts few (inl more) = let most = few.words_ in omega (arith, most, more)
+not_too_much parts few (inr (name, more)) = let most = few.once name in omega (arith, most, more)
 
-few_docs : (docs : Option (List ℕ)) → 1 < length (option_to_list docs) → ⊥
-few_docs None more = omega arith
-few_docs (Some d) more = omega arith
+pub takes_less : (words : List (List ℕ)) (Fits : List Part → Type 0) → ((parts : List Part) → Fits parts → IsFew parts) → ((parts : List Part) → BeginWith parts words [] → IsTooMuch parts) → HasParts words Fits → ⊥
+takes_less words Fits few much has = not_too_much has.parts (few has.parts has.fits) (much has.parts has.laid)
 
-once_given : (name : OptionName) (manner : Manner) (parts : List Part) → IsRuntime (values_of Runtime parts) manner.runtime → values_of Docs parts ≡ option_to_list manner.docs → IsFormat (values_of Journal parts) manner.journal → 1 < length (values_of name parts) → ⊥
-once_given Runtime manner parts r d j more = few_runtimes (values_of Runtime parts) manner.runtime r more
-once_given Docs manner parts r d j more = few_docs manner.docs (omega (arith, more, ap length d))
-once_given Journal manner parts r d j more = few_formats (values_of Journal parts) manner.journal j more
+-- what fits a command is what was gathered
+pub fits_given : (words : List (List ℕ)) (given : Given) (is : IsGiven words given) (Fits : List Part → Type 0) → HasParts words Fits → Fits is.parts
+fits_given words given is Fits has = subst Fits (one_parting has.parts is.parts words has.laid is.laid) has.fits
 
--- more than it takes is no command
-pub takes_less : (words : List (List ℕ)) (file items : List ℕ) (manner : Manner) → ((parts : List Part) → BeginWith parts words [] → IsTooMuch parts) → SpellsRun words file items manner → ⊥
-takes_less words file items manner much spells = elim (much spells.parts spells.laid) [
-  | inl words_ ↦ omega (arith, words_, ap length spells.files)
-  | inr twice_ ↦ once_given twice_.0 manner spells.parts spells.runtime_ spells.docs_ spells.journal_ twice_.1
-]
+-- ---- lists of values that hold one at most
 
--- what is given fits what the words spell
-pub record Fits (given : Given) (file items : List ℕ) (manner : Manner) : Type 0 where
-  pub files_ : files_of given.files ≡ file ∷ items ∷ []
-  pub runtime_ : IsRuntime (listed given.runtime) manner.runtime
-  pub journal_ : IsFormat (listed given.journal) manner.journal
+runtime_once : (vs : List (List ℕ)) (runtime : values.Runtime) → IsRuntime vs runtime → length vs ≤ 1
+runtime_once [] runtime is = omega arith
+runtime_once (v ∷ []) runtime is = omega arith
+runtime_once (v ∷ w ∷ vs) runtime is = absurd is
 
-pub fits_given : (words : List (List ℕ)) (given : Given) (file items : List ℕ) (manner : Manner) → IsGiven words given → SpellsRun words file items manner → Fits given file items manner
-fits_given words given file items manner is spells =
-    let same = one_parting spells.parts is.parts words spells.laid is.laid in record {
-      files_ = is.holds.words_ ∙ ap words_in (sym same) ∙ spells.files;
-      runtime_ = subst (λ (l : List (List ℕ)). IsRuntime l manner.runtime) (ap (values_of Runtime) same ∙ sym is.holds.runtime_) spells.runtime_;
-      journal_ = subst (λ (l : List (List ℕ)). IsFormat l manner.journal) (ap (values_of Journal) same ∙ sym is.holds.journal_) spells.journal_;
-    }
+format_once : (vs : List (List ℕ)) (journal : JournalFormat) → IsFormat vs journal → length vs ≤ 1
+format_once [] journal is = omega arith
+format_once (v ∷ []) journal is = omega arith
+format_once (v ∷ w ∷ vs) journal is = absurd is
 
--- and what is given is spelled
-pub given_spelled : (words : List (List ℕ)) (given : Given) (file items : List ℕ) (runtime : values.Runtime) (journal : JournalFormat) → IsGiven words given → files_of given.files ≡ file ∷ items ∷ [] → IsRuntime (listed given.runtime) runtime → IsFormat (listed given.journal) journal
-    → SpellsRun words file items (record { runtime = runtime; docs = option_copied given.docs; journal = journal })
-given_spelled words given file items runtime journal is files_ r j = record {
-  parts = is.parts;
-  laid = is.laid;
-  files = sym is.holds.words_ ∙ files_;
-  runtime_ = subst (λ (l : List (List ℕ)). IsRuntime l runtime) is.holds.runtime_ r;
-  docs_ = sym is.holds.docs_;
-  journal_ = subst (λ (l : List (List ℕ)). IsFormat l journal) is.holds.journal_ j;
+docs_once : (vs : List (List ℕ)) (docs : Option (List ℕ)) → vs ≡ option_to_list docs → length vs ≤ 1
+docs_once vs None is = omega (arith, ap length is)
+docs_once vs (Some d) is = omega (arith, ap length is)
+
+none_once : (vs : List (List ℕ)) → vs ≡ [] → length vs ≤ 1
+none_once vs is = omega (arith, ap length is)
+
+by_name : (parts : List Part) → length (values_of Runtime parts) ≤ 1 → length (values_of Docs parts) ≤ 1 → length (values_of Journal parts) ≤ 1 → (name : OptionName) → length (values_of name parts) ≤ 1
+by_name parts r d j Runtime = r
+by_name parts r d j Docs = d
+by_name parts r d j Journal = j
+
+pub few_run : (file items : List ℕ) (manner : Manner) (parts : List Part) → FitsRun file items manner parts → IsFew parts
+few_run file items manner parts fits = record {
+  words_ = omega (arith, ap length fits.files);
+  once = by_name parts (runtime_once (values_of Runtime parts) manner.runtime fits.runtime_) (docs_once (values_of Docs parts) manner.docs fits.docs_) (format_once (values_of Journal parts) manner.journal fits.journal_);
+}
+
+pub few_audit : (file items journal : List ℕ) (docs : Option (List ℕ)) (parts : List Part) → FitsAudit file items journal docs parts → IsFew parts
+few_audit file items journal docs parts fits = record {
+  words_ = omega (arith, ap length fits.files);
+  once = by_name parts (none_once (values_of Runtime parts) fits.no_runtime) (docs_once (values_of Docs parts) docs fits.docs_) (none_once (values_of Journal parts) fits.no_journal);
+}
+
+pub few_load : (count first : ℕ) (runtime : values.Runtime) (parts : List Part) → FitsLoad count first runtime parts → IsFew parts
+few_load count first runtime parts fits = record {
+  words_ = omega (arith, ap length fits.numbers);
+  once = by_name parts (runtime_once (values_of Runtime parts) runtime fits.runtime_) (none_once (values_of Docs parts) fits.no_docs) (none_once (values_of Journal parts) fits.no_journal);
 }

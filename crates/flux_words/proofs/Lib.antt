@@ -3,4 +3,4 @@ pub mod Laid
 pub mod Gathered
 pub mod Numbers
 pub mod OneCommand
-pub mod RunWords
+pub mod Behind

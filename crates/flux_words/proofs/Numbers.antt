@@ -19,50 +19,52 @@ from_least before [] = omega arith
 from_least before (b ∷ digits) = let more = from_least (10 * before + (b - 48)) digits in omega (arith, more)
 
 -- how far digits have been read: the number so far, with those that are left
-pub record AreRead (digits rest : List ℕ) (number : ℕ) : Type 0 where
+pub record AreRead (most : ℕ) (digits rest : List ℕ) (number : ℕ) : Type 0 where
   pub same : number_from number rest ≡ number_from 0 digits
-  pub small : number ≤ NUMBER_LIMIT
+  pub small : number ≤ most
   pub to : AllByRecursion IsDigit rest → AllByRecursion IsDigit digits
   pub from : AllByRecursion IsDigit digits → AllByRecursion IsDigit rest
 
-pub none_read : (digits : List ℕ) → AreRead digits digits 0
-none_read digits = record { same = refl; small = omega arith; to = λ all. all; from = λ all. all }
+pub none_read : (most : ℕ) (digits : List ℕ) → AreRead most digits digits 0
+none_read most digits = record { same = refl; small = omega arith; to = λ all. all; from = λ all. all }
 
-pub one_read : (digits rest : List ℕ) (number b : ℕ) (others : List ℕ) → AreRead digits rest number → rest ≡ b ∷ others
-    → IsDigit b → 10 * number + (b - 48) ≤ NUMBER_LIMIT → AreRead digits others (10 * number + (b - 48))
-one_read digits rest number b others so is digit small = record {
-  same = ap (number_from number) (sym is) ∙ so.same;
-  small = small;
-  to = λ all. so.to (subst (AllByRecursion IsDigit) (sym is) (digit, all));
-  from = λ all. let own : AllByRecursion IsDigit (b ∷ others) = subst (AllByRecursion IsDigit) is (so.from all) in own.1;
-}
+module _ (most : ℕ) (digits rest : List ℕ) (number b : ℕ) (others : List ℕ) (so : AreRead most digits rest number) (is : rest ≡ b ∷ others) where
+  pub one_read : IsDigit b → 10 * number + (b - 48) ≤ most → AreRead most digits others (10 * number + (b - 48))
+  one_read digit small = record {
+    same = ap (number_from number) (sym is) ∙ so.same;
+    small = small;
+    to = λ all. so.to (subst (AllByRecursion IsDigit) (sym is) (digit, all));
+    from = λ all. let own : AllByRecursion IsDigit (b ∷ others) = subst (AllByRecursion IsDigit) is (so.from all) in own.1;
+  }
 
--- what is no digit is none of a number
-pub no_digit : (digits rest : List ℕ) (number b : ℕ) (others : List ℕ) → AreRead digits rest number → rest ≡ b ∷ others
-    → (IsDigit b → ⊥) → AllByRecursion IsDigit digits → ⊥
-no_digit digits rest number b others so is other all =
-    let own : AllByRecursion IsDigit (b ∷ others) = subst (AllByRecursion IsDigit) is (so.from all) in other own.0
+  -- what is no digit is none of a number
+  pub no_digit : (IsDigit b → ⊥) → AllByRecursion IsDigit digits → ⊥
+  no_digit other all =
+      let own : AllByRecursion IsDigit (b ∷ others) = subst (AllByRecursion IsDigit) is (so.from all) in other own.0
 
--- past the limit no digit leads back
-past_limit : (digits rest : List ℕ) (number b : ℕ) (others : List ℕ) → AreRead digits rest number → rest ≡ b ∷ others
-    → NUMBER_LIMIT < 10 * number + (b - 48) → number_from 0 digits ≤ NUMBER_LIMIT → ⊥
-past_limit digits rest number b others so is past small =
-    let whole : number_from (10 * number + (b - 48)) others ≡ number_from 0 digits = ap (number_from number) (sym is) ∙ so.same in
-    let least = from_least (10 * number + (b - 48)) others in
-    omega (arith, whole, least, past, small)
+  -- past the limit no digit leads back
+  past_limit : most < 10 * number + (b - 48) → number_from 0 digits ≤ most → ⊥
+  past_limit past small =
+      let whole : number_from (10 * number + (b - 48)) others ≡ number_from 0 digits = ap (number_from number) (sym is) ∙ so.same in
+      let least = from_least (10 * number + (b - 48)) others in
+      omega (arith, whole, least, past, small)
 
-pub past_first : (digits rest : List ℕ) (number x : ℕ) → AreRead digits rest number → 1 ≤ length rest → x ≡ get_or rest 0 0 - 48
-    → NUMBER_LIMIT < 10 * number + x → number_from 0 digits ≤ NUMBER_LIMIT → ⊥
-past_first digits [] number x so some is past small = omega (arith, some)
-past_first digits (b ∷ others) number x so some is past small =
+pub past_first : (most : ℕ) (digits rest : List ℕ) (number x : ℕ) → AreRead most digits rest number → 1 ≤ length rest → x ≡ get_or rest 0 0 - 48
+    → most < 10 * number + x → number_from 0 digits ≤ most → ⊥
+past_first most digits [] number x so some is past small = omega (arith, some)
+past_first most digits (b ∷ others) number x so some is past small =
     let own : x ≡ b - 48 = is in
-    past_limit digits (b ∷ others) number b others so refl (omega (arith, own, past)) small
+    past_limit most digits (b ∷ others) number b others so refl (omega (arith, own, past)) small
 
 pub same_flow : (a b : FlowNo) → a.0 ≡ b.0 → a ≡ b
 same_flow a b e = ap (λ (n : ℕ). let f : FlowNo = record { 0 = n } in f) e
 
-one_flow : (digits : List ℕ) (a b : FlowNo) → SpellsNumber digits a → SpellsNumber digits b → a ≡ b
-one_flow digits a b s t = same_flow a b (s.value ∙ sym t.value)
+pub one_number : (least most : ℕ) (digits : List ℕ) (a b : ℕ) → SpellsNumber least most digits a → SpellsNumber least most digits b → a ≡ b
+one_number least most digits a b s t = s.value ∙ sym t.value
+
+-- digits of a number past a limit, or below the least, spell none
+pub none_past : (least most : ℕ) (digits : List ℕ) → (AllByRecursion IsDigit digits → number_from 0 digits ≤ most → ⊥) → (number : ℕ) → SpellsNumber least most digits number → ⊥
+none_past least most digits past number s = past s.decimal_ (omega (arith, s.value, s.to))
 
 -- ---- numbers
 
@@ -73,7 +75,7 @@ one_list [] (x ∷ xs) ys s t = absurd s
 one_list (digits ∷ pieces) [] ys s t = absurd s
 one_list (digits ∷ pieces) (x ∷ xs) [] s t = absurd t
 one_list (digits ∷ pieces) (x ∷ xs) (y ∷ ys) s t =
-    ap (λ (f : FlowNo). f ∷ xs) (one_flow digits x y s.0 t.0) ∙ ap (λ (l : List FlowNo). y ∷ l) (one_list pieces xs ys s.1 t.1)
+    ap (λ (f : FlowNo). f ∷ xs) (same_flow x y (one_number 0 NUMBER_LIMIT digits x.0 y.0 s.0 t.0)) ∙ ap (λ (l : List FlowNo). y ∷ l) (one_list pieces xs ys s.1 t.1)
 
 -- no number is spelled by nothing
 none_empty : (ys : List FlowNo) → SpellEach ([] ∷ []) ys → ⊥
@@ -93,7 +95,7 @@ one_numbers list xs ys a b = by a.laid b.laid
     by (inr e) (inl f) = absurd (empty_split list xs f.0 e)
     by (inr e) (inr f) = one_list (slice_split is_comma list) xs ys e f
 
-each_more : (pieces : List (List ℕ)) (xs : List FlowNo) (digits : List ℕ) (y : FlowNo) → SpellEach pieces xs → SpellsNumber digits y
+each_more : (pieces : List (List ℕ)) (xs : List FlowNo) (digits : List ℕ) (y : FlowNo) → SpellEach pieces xs → SpellsNumber 0 NUMBER_LIMIT digits y.0
     → SpellEach (pieces ++ digits ∷ []) (xs ++ y ∷ [])
 each_more [] [] digits y s t = (t, tt)
 each_more [] (x ∷ xs) digits y s t = absurd s
@@ -101,7 +103,7 @@ each_more (piece ∷ pieces) [] digits y s t = absurd s
 each_more (piece ∷ pieces) (x ∷ xs) digits y s t = (s.0, each_more pieces xs digits y s.1 t)
 
 pub number_more : (list : List ℕ) (n : ℕ) (digits : List ℕ) (numbers new : List FlowNo) (flow : FlowNo) → AreSoFar list n numbers
-    → (n < length (slice_split is_comma list)) × (digits ≡ get_or (slice_split is_comma list) n digits) → SpellsNumber digits flow
+    → (n < length (slice_split is_comma list)) × (digits ≡ get_or (slice_split is_comma list) n digits) → SpellsNumber 0 NUMBER_LIMIT digits flow.0
     → new ≡ numbers ++ flow ∷ [] → AreSoFar list (n + 1) new
 number_more list n digits numbers new flow so at spells new_ =
     let pieces = slice_split is_comma list in
@@ -116,17 +118,17 @@ all_numbers list n numbers so end =
 
 -- where a piece spells no number, the pieces spell none
 no_piece : (pieces : List (List ℕ)) (numbers : List FlowNo) (n : ℕ) (digits : List ℕ) → n < length pieces
-    → digits ≡ get_or pieces n digits → ((flow : FlowNo) → SpellsNumber digits flow → ⊥) → SpellEach pieces numbers → ⊥
+    → digits ≡ get_or pieces n digits → ((number : ℕ) → SpellsNumber 0 NUMBER_LIMIT digits number → ⊥) → SpellEach pieces numbers → ⊥
 no_piece [] numbers n digits lt is none spell = absurd (omega (arith, lt))
 no_piece (piece ∷ pieces) [] n digits lt is none spell = spell
 no_piece (piece ∷ pieces) (flow ∷ numbers) zero digits lt is none spell =
-    none flow (subst (λ (d : List ℕ). SpellsNumber d flow) (sym is) spell.0)
+    none flow.0 (subst (λ (d : List ℕ). SpellsNumber 0 NUMBER_LIMIT d flow.0) (sym is) spell.0)
 no_piece (piece ∷ pieces) (flow ∷ numbers) (suc n) digits lt is none spell =
     no_piece pieces numbers n digits (omega (arith, lt)) is none spell.1
 
 pub no_numbers : (list : List ℕ) (n : ℕ) (digits : List ℕ) → (list ≡ [] → ⊥)
     → (n < length (slice_split is_comma list)) × (digits ≡ get_or (slice_split is_comma list) n digits)
-    → ((flow : FlowNo) → SpellsNumber digits flow → ⊥) → (numbers : List FlowNo) → SpellsNumbers list numbers → ⊥
+    → ((number : ℕ) → SpellsNumber 0 NUMBER_LIMIT digits number → ⊥) → (numbers : List FlowNo) → SpellsNumbers list numbers → ⊥
 no_numbers list n digits some at none numbers spells = elim spells.laid [
   | inl e ↦ some e.0
   | inr e ↦ no_piece (slice_split is_comma list) numbers n digits at.0 at.1 none e

@@ -2,7 +2,7 @@
 use Rattle.std.specs.Prelude.{option_copied}
 use Rattle.flux_words.specs.declared.commands.Asked.{Asked}
 use Rattle.flux_words.specs.declared.commands.Asked.TheVariants as reads
-use Rattle.flux_words.specs.Commands.{Command, check, plan, format, run, help}
+use Rattle.flux_words.specs.Commands.{Command, check, plan, format, run, audit, load, help}
 
 -- the command that was asked for
 abbrev pub asked : Asked → Command
@@ -14,4 +14,7 @@ asked (reads.Run file items runtime docs journal) = run file.now items.now (reco
   docs = option_copied docs;
   journal = journal;
 })
+asked (reads.Audit file items journal docs) =
+    audit file.now items.now journal.now (option_copied docs)
+asked (reads.Load count first runtime) = load count first runtime
 asked reads.Help = help

@@ -1,48 +1,51 @@
 -- Which words spell which command.
-use Rattle.std.specs.Prelude.{◌≡◌, ◌⊎◌, ℕ, List, [], ◌∷◌, Option, option_to_list, codes}
-use Rattle.flux_words.specs.declared.names.OptionName.TheVariants as names
+use Rattle.std.specs.Prelude.{◌≡◌, ℕ, List, [], ◌∷◌, Option}
+use Rattle.flux_words.specs.declared.names.CommandName.{CommandName}
+use Rattle.flux_words.specs.declared.names.CommandName.TheVariants as names
 use Rattle.flux_words.specs.declared.values.Runtime.{Runtime}
 use Rattle.flux_words.specs.declared.values.Runtime.TheVariants.{Event, Script}
-use Rattle.flux_words.specs.declared.values.JournalFormat.{JournalFormat}
-use Rattle.flux_words.specs.Parts.{Part, IsPositional, BeginWith, words_in, values_of}
-use Rattle.flux_words.specs.Values.{IsRuntime, IsFormat}
+use Rattle.flux_words.specs.Names.{IsNamed}
+use Rattle.flux_words.specs.Behind.{Manner, IsFile, HasParts, FitsRun, FitsAudit, FitsLoad}
 
--- how items are run: the runtime, the folder of documents, the journal's format
-pub record Manner : Type 0 where
-  pub runtime : Runtime
-  pub docs : Option (List ℕ)
-  pub journal : JournalFormat
-
--- `check FILE`, `plan FILE`, `format FILE`, `run FILE ITEMS` with options, and `help` or `--help`
+-- `check FILE`, `plan FILE`, `format FILE`, `run FILE ITEMS` with options, `audit FILE ITEMS JOURNAL` with documents,
+-- `load N K` with a runtime, and `help` or `--help`
 pub data Command : Type 0 where
   check : List ℕ → Command
   plan : List ℕ → Command
   format : List ℕ → Command
   run : List ℕ → List ℕ → Manner → Command
+  audit : List ℕ → List ℕ → List ℕ → Option (List ℕ) → Command
+  load : ℕ → ℕ → Runtime → Command
   help : Command
 
--- the words behind `run`: FILE, ITEMS, and anywhere `--runtime R`, `--docs DIR` and `--journal J`,
--- each at most once
-pub record SpellsRun (words : List (List ℕ)) (file items : List ℕ) (manner : Manner) : Type 0 where
-  pub parts : List Part
-  pub laid : BeginWith parts words []
-  pub files : words_in parts ≡ file ∷ items ∷ []
-  pub runtime_ : IsRuntime (values_of names.Runtime parts) manner.runtime
-  pub docs_ : values_of names.Docs parts ≡ option_to_list manner.docs
-  pub journal_ : IsFormat (values_of names.Journal parts) manner.journal
+-- a command's name
+abbrev pub name_of : Command → CommandName
+name_of (check file) = names.Check
+name_of (plan file) = names.Plan
+name_of (format file) = names.Format
+name_of (run file items manner) = names.Run
+name_of (audit file items journal docs) = names.Audit
+name_of (load count first runtime) = names.Load
+name_of help = names.Help
 
--- a command's word and one file
-abbrev pub SpellsFile : List (List ℕ) → List ℕ → List ℕ → Type 0
-SpellsFile words name file = (words ≡ name ∷ file ∷ []) × IsPositional file
+-- these words stand behind its name
+abbrev pub StandsBehind : Command → List (List ℕ) → Type 0
+StandsBehind (check file) words = IsFile file words
+StandsBehind (plan file) words = IsFile file words
+StandsBehind (format file) words = IsFile file words
+StandsBehind (run file items manner) words = HasParts words (FitsRun file items manner)
+StandsBehind (audit file items journal docs) words =
+    HasParts words (FitsAudit file items journal docs)
+StandsBehind (load count first runtime) words = HasParts words (FitsLoad count first runtime)
+StandsBehind help words = words ≡ []
 
--- the words spell this command
-abbrev pub Spells : List (List ℕ) → Command → Type 0
-Spells words (check file) = SpellsFile words (codes "check") file
-Spells words (plan file) = SpellsFile words (codes "plan") file
-Spells words (format file) = SpellsFile words (codes "format") file
-Spells words (run file items manner) =
-    (rest : List (List ℕ)) × (words ≡ codes "run" ∷ rest) × SpellsRun rest file items manner
-Spells words help = (words ≡ codes "help" ∷ []) ⊎ (words ≡ codes "--help" ∷ [])
+-- the words spell this command: the first is its name
+pub record Spells (words : List (List ℕ)) (command : Command) : Type 0 where
+  pub first : List ℕ
+  pub rest : List (List ℕ)
+  pub are : words ≡ first ∷ rest
+  pub named : IsNamed (name_of command) first
+  pub behind : StandsBehind command rest
 
 -- the words spell no command
 abbrev pub SpellsNone : List (List ℕ) → Type 0
@@ -59,4 +62,6 @@ NeedsThreads (check file) = ⊥
 NeedsThreads (plan file) = ⊥
 NeedsThreads (format file) = ⊥
 NeedsThreads (run file items manner) = StartsThreads manner.runtime
+NeedsThreads (audit file items journal docs) = ⊥
+NeedsThreads (load count first runtime) = StartsThreads runtime
 NeedsThreads help = ⊥

@@ -1,4 +1,4 @@
--- The values of options: runtimes and formats of journals.
+-- Numbers, and the values of options: runtimes and formats of journals.
 use Rattle.std.specs.Prelude.{◌≡◌, ◌⊎◌, ℕ, ◌+◌, ◌-◌, ◌*◌, ◌==◌, ◌<◌, ◌≤◌, List, [], ◌∷◌, ◌++◌, length, codes, ⊤}
 use Rattle.std.specs.List.{AllByRecursion, slice_split}
 use Rattle.flux_model.specs.declared.items.FlowNo.{FlowNo}
@@ -21,20 +21,22 @@ abbrev pub number_from : ℕ → List ℕ → ℕ
 number_from before [] = before
 number_from before (b ∷ digits) = number_from (10 * before + (b - 48)) digits
 
--- a flow's number, which is at most 4,095, in 1 to 10 decimal digits, leading zeros included
-pub record SpellsNumber (digits : List ℕ) (flow : FlowNo) : Type 0 where
+-- a number in a range, in 1 to 10 decimal digits, leading zeros included
+pub record SpellsNumber (least most : ℕ) (digits : List ℕ) (number : ℕ) : Type 0 where
   pub some : 0 < length digits
-  pub most : length digits ≤ DIGIT_LIMIT
+  pub few : length digits ≤ DIGIT_LIMIT
   pub decimal_ : AllByRecursion IsDigit digits
-  pub value : flow.0 ≡ number_from 0 digits
-  pub small : flow.0 ≤ NUMBER_LIMIT
+  pub value : number ≡ number_from 0 digits
+  pub from : least ≤ number
+  pub to : number ≤ most
 
--- pieces spell numbers, one each
+-- pieces spell flows' numbers, one each, of at most 4,095
 abbrev pub SpellEach : List (List ℕ) → List FlowNo → Type 0
 SpellEach [] [] = ⊤
 SpellEach [] (flow ∷ numbers) = ⊥
 SpellEach (digits ∷ pieces) [] = ⊥
-SpellEach (digits ∷ pieces) (flow ∷ numbers) = SpellsNumber digits flow × SpellEach pieces numbers
+SpellEach (digits ∷ pieces) (flow ∷ numbers) =
+    SpellsNumber 0 NUMBER_LIMIT digits flow.0 × SpellEach pieces numbers
 
 -- numbers with commas between them, or nothing
 pub record SpellsNumbers (list : List ℕ) (numbers : List FlowNo) : Type 0 where

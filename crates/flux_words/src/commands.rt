@@ -1,13 +1,16 @@
 //! The commands of the command line.
 
-ghost use Rattle.std.specs.Prelude.{◌≡◌, ◌≢◌, ◌↔◌, [], ◌∷◌, ℕ, List, codes, IsTrue, IfOk, IfSome, IfNone, Some, option_map};
-ghost use Rattle.flux_words.specs.Commands.{Command, Manner, Spells, SpellsNone, SpellsRun, NeedsThreads};
+ghost use Rattle.std.specs.Prelude.{◌≡◌, ◌↔◌, IsTrue, IfOk, IfSome, IfNone, Some, option_map};
+ghost use Rattle.flux_words.specs.Commands.{Command, Spells, SpellsNone, NeedsThreads};
 ghost use Rattle.flux_words.specs.Asking.{asked};
-ghost use Rattle.flux_words.specs.steps.Asking.{IsAsked, IsRunRead};
+ghost use Rattle.flux_words.specs.steps.Asking.{IsAsked, IsAskedBehind, IsFileRead};
 
-use crate::given::{Files, gather};
+use crate::audits::read_audit;
+use crate::loads::read_load;
+use crate::names::{CommandName, read_name};
 use crate::parts::is_positional;
-use crate::values::{JournalFormat, Runtime, read_format, read_runtime};
+use crate::runs::read_run;
+use crate::values::{JournalFormat, Runtime};
 use flux_values::{Bytes, Memory};
 use std::alloc::Global;
 
@@ -31,57 +34,55 @@ pub enum Asked<'a> {
         docs: Option<&'a [u8]>,
         journal: JournalFormat,
     },
+    Audit {
+        file: &'a [u8],
+        items: &'a [u8],
+        journal: &'a [u8],
+        /// The folder of documents.
+        docs: Option<&'a [u8]>,
+    },
+    Load {
+        /// How many items, from 1 to 4,096.
+        count: u32,
+        first: u32,
+        runtime: Runtime,
+    },
     Help,
 }
 
-fn read_alone<'a>(command: &[u8]) -> Option<Asked<'a>>
-    requires { command.now ≢ codes "run" }
-    ensures { IsAsked (command.now ∷ []) result }
+/// The one file that words are.
+fn read_file<'a>(words: &'a [Bytes]) -> Option<&'a [u8]>
+    ensures { IsFileRead words.now result }
 {
-    match command {
-        b"help" | b"--help" => Some(Asked::Help),
-        _ => None,
-    }
-}
-
-fn read_file<'a>(command: &[u8], file: &'a [u8]) -> Option<Asked<'a>>
-    requires { command.now ≢ codes "run" }
-    ensures { IsAsked (command.now ∷ file.now ∷ []) result }
-{
-    if !is_positional(file) {
+    let [word] = words else {
         return None;
-    }
-    match command {
-        b"check" => Some(Asked::Check { file }),
-        b"plan" => Some(Asked::Plan { file }),
-        b"format" => Some(Asked::Format { file }),
-        _ => None,
+    };
+    let file = word.as_bytes();
+    if is_positional(file) {
+        Some(file)
+    } else {
+        None
     }
 }
 
-/// What the words behind `run` ask for.
-fn read_run<'a>(alloc: Global, words: &'a [Bytes]) -> Result<Option<Asked<'a>>, Memory>
-    ensures { IfOk result (IsRunRead words.now) }
+/// What the words behind a command's name ask for.
+fn read_behind<'a>(
+    alloc: Global,
+    name: CommandName,
+    words: &'a [Bytes],
+) -> Result<Option<Asked<'a>>, Memory>
+    ensures { IfOk result (IsAskedBehind name words.now) }
 {
-    let Some(given) = gather(words) else {
-        return Ok(None);
-    };
-    let Files::Two(file, items) = given.files else {
-        return Ok(None);
-    };
-    let Some(journal) = read_format(given.journal) else {
-        return Ok(None);
-    };
-    let Some(runtime) = read_runtime(alloc, given.runtime)? else {
-        return Ok(None);
-    };
-    Ok(Some(Asked::Run {
-        file,
-        items,
-        runtime,
-        docs: given.docs,
-        journal,
-    }))
+    match name {
+        CommandName::Check => Ok(read_file(words).map(|file| Asked::Check { file })),
+        CommandName::Plan => Ok(read_file(words).map(|file| Asked::Plan { file })),
+        CommandName::Format => Ok(read_file(words).map(|file| Asked::Format { file })),
+        CommandName::Run => read_run(alloc, words),
+        CommandName::Audit => Ok(read_audit(words)),
+        CommandName::Load => read_load(alloc, words),
+        CommandName::Help if words.is_empty() => Ok(Some(Asked::Help)),
+        CommandName::Help => Ok(None),
+    }
 }
 
 fn read_command<'a>(alloc: Global, words: &'a [Bytes]) -> Result<Option<Asked<'a>>, Memory>
@@ -90,21 +91,17 @@ fn read_command<'a>(alloc: Global, words: &'a [Bytes]) -> Result<Option<Asked<'a
     let [first, rest @ ..] = words else {
         return Ok(None);
     };
-    let command = first.as_bytes();
-    if command == b"run".as_slice() {
-        return read_run(alloc, rest);
-    }
-    match rest {
-        [] => Ok(read_alone(command)),
-        [file] => Ok(read_file(command, file.as_bytes())),
-        _ => Ok(None),
-    }
+    let Some(name) = read_name(first.as_bytes()) else {
+        return Ok(None);
+    };
+    read_behind(alloc, name, rest)
 }
 
 /// What the words ask for; None exactly where they spell no command.
 ///
 /// The words are those behind the program's own name: `check FILE`, `plan FILE`, `format FILE`,
-/// `run FILE ITEMS [--runtime R] [--docs DIR] [--journal J]`, and `help` or `--help`.
+/// `run FILE ITEMS [--runtime R] [--docs DIR] [--journal J]`, `audit FILE ITEMS JOURNAL [--docs DIR]`,
+/// `load N K [--runtime R]`, and `help` or `--help`.
 pub fn read_words<'a>(alloc: Global, words: &'a [Bytes]) -> Result<Option<Asked<'a>>, Memory>
     // Each answer has its cause.
     ensures found { IfOk result (λ found. IfSome found (λ a. Spells words.now (asked a))) }

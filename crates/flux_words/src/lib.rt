@@ -4,11 +4,15 @@
 //! memory alone is free. Which words spell which command is one relation, `Spells`.
 #![tactic(auto)]
 
+mod audits;
 mod commands;
 mod given;
+mod loads;
 mod names;
 mod parts;
+mod runs;
 mod values;
 
 pub use commands::{Asked, needs_threads, read_words};
+pub use loads::{FIRST_LIMIT, LOAD_LIMIT};
 pub use values::{JournalFormat, NUMBER_LIMIT, Runtime};

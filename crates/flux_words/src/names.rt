@@ -1,8 +1,22 @@
-//! The names of options.
+//! The names of commands and of options.
 
 ghost use Rattle.std.specs.Prelude.{◌≡◌, ◌++◌, ℕ, List, IfSome, IfNone};
+ghost use Rattle.flux_words.specs.declared.names.CommandName.{CommandName};
 ghost use Rattle.flux_words.specs.declared.names.OptionName.{OptionName};
+ghost use Rattle.flux_words.specs.Names.{IsNamed};
 ghost use Rattle.flux_words.specs.Parts.{spelled};
+
+/// A command, by the first word.
+#[derive(Clone, Copy, Debug, PartialEq, Eq)]
+pub enum CommandName {
+    Check,
+    Plan,
+    Format,
+    Run,
+    Audit,
+    Load,
+    Help,
+}
 
 /// An option of the command line.
 #[derive(Clone, Copy, Debug, PartialEq, Eq)]
@@ -10,6 +24,23 @@ pub enum OptionName {
     Runtime,
     Docs,
     Journal,
+}
+
+/// The command that a first word names.
+pub fn read_name(word: &[u8]) -> Option<CommandName>
+    ensures found { IfSome result (λ name. IsNamed name word.now) }
+    ensures none { IfNone result ((name : CommandName) → IsNamed name word.now → ⊥) }
+{
+    match word {
+        b"check" => Some(CommandName::Check),
+        b"plan" => Some(CommandName::Plan),
+        b"format" => Some(CommandName::Format),
+        b"run" => Some(CommandName::Run),
+        b"audit" => Some(CommandName::Audit),
+        b"load" => Some(CommandName::Load),
+        b"help" | b"--help" => Some(CommandName::Help),
+        _ => None,
+    }
 }
 
 /// What stands behind a mark at the front.

@@ -1,4 +1,4 @@
-//! The values of options.
+//! The values of options, and numbers.
 
 ghost use Rattle.std.specs.Prelude.{IfOk};
 ghost use Rattle.flux_words.specs.steps.Given.{listed};
@@ -32,34 +32,35 @@ pub enum JournalFormat {
     Two,
 }
 
-/// The number that decimal digits spell, if it isn't greater than a flow's.
-fn value_of(digits: &[u8]) -> Option<u32>
-    ensures { IsValueRead digits.now result }
+/// The number that decimal digits spell, if it isn't greater than a limit.
+fn value_of(digits: &[u8], most: u32) -> Option<u32>
+    ensures { IsValueRead most digits.now result }
 {
-    let mut number = 0;
+    let mut number: u64 = 0;
     let mut rest = digits;
     while let [digit, others @ ..] = rest {
         if *digit < b'0' || b'9' < *digit {
             return None;
         }
-        number = 10 * number + u32::from(*digit - b'0');
-        if number > NUMBER_LIMIT {
+        number = 10 * number + u64::from(*digit - b'0');
+        if number > u64::from(most) {
             return None;
         }
         rest = others;
     }
-    Some(number)
+    Some(number as u32)
 }
 
-fn read_number(digits: &[u8]) -> Option<FlowNo>
-    ensures { IsNumberRead digits.now result }
+/// The number that 1 to 10 decimal digits spell, if it is neither too small nor too great.
+pub fn read_number(digits: &[u8], least: u32, most: u32) -> Option<u32>
+    ensures { IsNumberRead least most digits.now result }
 {
     if digits.is_empty() || digits.len() > DIGIT_LIMIT {
         return None;
     }
-    match value_of(digits) {
-        Some(number) => Some(FlowNo(number)),
-        None => None,
+    match value_of(digits, most) {
+        Some(number) if number >= least => Some(number),
+        _ => None,
     }
 }
 
@@ -71,8 +72,8 @@ fn read_numbers(alloc: Global, list: &[u8]) -> Result<Option<List<FlowNo>>, Memo
         return Ok(Some(numbers));
     }
     'numbers: for digits in list.split(|byte| *byte == b',') {
-        match read_number(digits) {
-            Some(number) => numbers.add(number)?,
+        match read_number(digits, 0, NUMBER_LIMIT) {
+            Some(number) => numbers.add(FlowNo(number))?,
             None => return Ok(None),
         }
     }

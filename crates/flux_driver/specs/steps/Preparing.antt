@@ -1,33 +1,53 @@
 -- Steps of a command: what is prepared before anything is written.
-use Rattle.std.specs.Prelude.{◌≡◌, ℕ, ◌⊎◌, List, [], ◌++◌, ⊤, None, Result, Ok, Err}
+use Rattle.std.specs.Prelude.{◌≡◌, ℕ, ◌⊎◌, List, [], ◌++◌, ⊤, Option, Result, Ok, Err}
 use Rattle.flux_values.specs.Meanings.{LibraryMeaning}
 use Rattle.flux_outside.specs.Causes.{Rose}
-use Rattle.flux_words.specs.Commands.{Command, run, Spells}
+use Rattle.flux_model.specs.Names.{IsNamed}
+use Rattle.flux_items.specs.Rules.{AreRules}
+use Rattle.flux_syntax.specs.declared.declarations.Decl.{Decl}
+use Rattle.flux_syntax.specs.ProgramOfText.{program_of}
+use Rattle.flux_load.specs.Loads.{program_text}
+use Rattle.flux_words.specs.declared.values.Runtime.{Runtime}
+use Rattle.flux_words.specs.declared.values.JournalFormat.{JournalFormat}
+use Rattle.flux_words.specs.Commands.{Command, run, audit, load, Spells}
 use Rattle.flux_driver.specs.declared.refusals.Refusal.{Refusal}
 use Rattle.flux_driver.specs.declared.refusals.Refusal.TheVariants.{Usage, Static, Items, Read, Missing, Memory}
 use Rattle.flux_driver.specs.declared.statuses.Status.{Status}
 use Rattle.flux_driver.specs.declared.statuses.Status.TheVariants as statuses
-use Rattle.flux_driver.specs.declared.running.Wanted.{Wanted}
+use Rattle.flux_driver.specs.declared.prepared.Prepared.{Prepared}
+use Rattle.flux_driver.specs.declared.prepared.Prepared.TheVariants as prepared_
 use Rattle.flux_driver.specs.Worlds.{Files, Told}
 use Rattle.flux_driver.specs.Documents.{TellsAll}
-use Rattle.flux_driver.specs.Printed.{IsPrinted}
-use Rattle.flux_driver.specs.Causes.{IsItems}
-use Rattle.flux_driver.specs.Answers.{Libraries, Prints, Decided, Happened}
+use Rattle.flux_driver.specs.Origins.{Origin, named, made}
+use Rattle.flux_driver.specs.Commands.{TellsFiles}
+use Rattle.flux_driver.specs.Inputs.{HasProgram}
+use Rattle.flux_driver.specs.Items.{rules_in}
+use Rattle.flux_driver.specs.Printed.{IsPrinted, IsRefuted}
+use Rattle.flux_driver.specs.Answers.{Libraries, Prints, Refutes, Decided, Happened}
 use Rattle.flux_driver.specs.Top.{AreFiles, AsksFor}
 use Rattle.flux_driver.specs.steps.Refusals.{status_of, line_of}
 
--- the command of `run`, without its documents
-abbrev pub run_of : List ℕ → List ℕ → Wanted → Command
-run_of file items wanted = run file items (record {
-  runtime = wanted.runtime;
-  docs = None;
-  journal = wanted.journal;
+-- the command of `run`
+abbrev pub run_of : List ℕ → List ℕ → Runtime → Option (List ℕ) → JournalFormat → Command
+run_of file items runtime docs journal = run file items (record {
+  runtime = runtime;
+  docs = docs;
+  journal = journal;
 })
 
 -- the status of what was prepared
-abbrev pub prepared_status : Result (List ℕ) Refusal → Status
-prepared_status (Ok text) = statuses.Done
+abbrev pub status_with : Prepared → Status
+status_with (prepared_.Text text) = statuses.Done
+status_with (prepared_.No text) = statuses.No
+
+abbrev pub prepared_status : Result Prepared Refusal → Status
+prepared_status (Ok prepared) = status_with prepared
 prepared_status (Err refusal) = status_of refusal
+
+-- what was prepared is what a command prints
+abbrev pub IsPrepared : LibraryMeaning → Command → Files → Prepared → Type 0
+IsPrepared meaning command told (prepared_.Text text) = IsPrinted meaning command told text
+IsPrepared meaning command told (prepared_.No text) = IsRefuted meaning command told text
 
 -- ---- behind the documents
 
@@ -38,13 +58,30 @@ pub record AsksFiles (meaning : LibraryMeaning) (command : Command) (told : File
   pub more : after ≡ before ++ names
   pub are : AreFiles meaning command told names
 
--- where a journal is printed the items text has no fault, and where it has one no journal is
+-- the program's names are names, and its items are read by rules
+pub record AreRead (meaning : LibraryMeaning) (told : Files) (program : Origin) : Type 0 where
+  pub named_ : (decls : List Decl) → HasProgram meaning told program decls
+      → IsNamed (program_of decls)
+  pub rules : (decls : List Decl) (own : HasProgram meaning told program decls)
+      → AreRules (rules_in meaning decls own.sound)
+
+-- so it is where a command's answer stands on its items
+abbrev pub StandsOnItems : Status → Type 0
+StandsOnItems statuses.Done = ⊤
+StandsOnItems statuses.No = ⊤
+StandsOnItems statuses.Items = ⊤
+StandsOnItems statuses.Missing = ⊤
+StandsOnItems other = ⊥
+
+abbrev pub ReadsItems : LibraryMeaning → Command → Files → Type 0
+ReadsItems meaning (run file items manner) told = AreRead meaning told (named file)
+ReadsItems meaning (audit file items journal docs) told = AreRead meaning told (named file)
+ReadsItems meaning (load count first runtime) told = AreRead meaning told (made program_text)
+ReadsItems meaning other told = ⊤
+
 abbrev pub IsFirm : LibraryMeaning → Command → Files → Status → Type 0
-IsFirm meaning command told statuses.Done =
-    (line : List ℕ) → IsItems meaning command told line → ⊥
-IsFirm meaning command told statuses.Items =
-    (text : List ℕ) → IsPrinted meaning command told text → ⊥
-IsFirm meaning command told other = ⊤
+IsFirm meaning command told status =
+    TellsFiles told command → StandsOnItems status → ReadsItems meaning command told
 
 -- ---- with the documents
 
@@ -76,8 +113,8 @@ CountsBothRefusal (Items fault) s t f g = AreSteady s t f g
 CountsBothRefusal (Missing name) s t f g = AreSteady s t f g
 CountsBothRefusal Memory s t f g = AreSteady s t f g
 
-abbrev pub CountsBoth : Result (List ℕ) Refusal → ℕ → ℕ → ℕ → ℕ → Type 0
-CountsBoth (Ok text) s t f g = AreSteady s t f g
+abbrev pub CountsBoth : Result Prepared Refusal → ℕ → ℕ → ℕ → ℕ → Type 0
+CountsBoth (Ok prepared) s t f g = AreSteady s t f g
 CountsBoth (Err refusal) s t f g = CountsBothRefusal refusal s t f g
 
 -- what is decided for a command, where all that it reads is told, is the status; or reading failed, or memory was short
@@ -91,7 +128,12 @@ abbrev pub AnswersWords : Libraries → List (List ℕ) → Told → Status → 
 AnswersWords library words told status =
     (command : Command) → Spells words command → AnswersDue library command told status
 
--- a command that the words spell prints this
-abbrev pub PrintsWords : Libraries → List (List ℕ) → Told → List ℕ → Type 0
-PrintsWords library words told text =
-    (command : Command) × Spells words command × Prints library command told text
+-- what was prepared is what a command prints, with its documents
+abbrev pub PreparesAll : Libraries → Command → Told → Prepared → Type 0
+PreparesAll library command told (prepared_.Text text) = Prints library command told text
+PreparesAll library command told (prepared_.No text) = Refutes library command told text
+
+-- a command that the words spell prints it
+abbrev pub PreparesWords : Libraries → List (List ℕ) → Told → Prepared → Type 0
+PreparesWords library words told prepared =
+    (command : Command) × Spells words command × PreparesAll library command told prepared

@@ -13,6 +13,7 @@ use Rattle.flux_driver.specs.declared.statuses.Status.TheVariants as statuses
 use Rattle.flux_driver.specs.declared.refusals.Refusal.{Refusal}
 use Rattle.flux_driver.specs.declared.refusals.Refusal.TheVariants.{Usage, Static, Items, Read, Missing, Memory}
 use Rattle.flux_driver.specs.Worlds.{Files, IsLost}
+use Rattle.flux_driver.specs.Origins.{named}
 use Rattle.flux_driver.specs.Commands.{ReadsProgram}
 use Rattle.flux_driver.specs.Causes.{usage_line, fault_text, item_fault_line, read_line, lost_line, IsStatic, IsItems, IsMissing}
 
@@ -104,7 +105,7 @@ IsJudged meaning command told other line = ⊥
 -- reading failed
 pub record FailsToRead (command : Command) (refusal : Refusal) : Type 0 where
   pub file : List ℕ
-  pub reads : ReadsProgram command file
+  pub reads : ReadsProgram command (named file)
   pub is : refusal ≡ Read
 
 -- a command was refused: that is decided, or reading failed, or there was no memory

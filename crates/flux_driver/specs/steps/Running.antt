@@ -17,19 +17,22 @@ use Rattle.flux_model.specs.Kinds.{NodeKinds, kinds_at}
 use Rattle.flow_model.specs.Legal.{IsLegal, IsWhole}
 use Rattle.flux_model.specs.Locks.{Holds}
 use Rattle.flow_model.specs.Setup.{Setup}
+use Rattle.flow_model.specs.CellsAfter.{cells_after}
+use Rattle.flow_state.specs.declared.setups.Setup as code
+use Rattle.std.specs.Arc.{arc_value}
+use Rattle.flux_plan.specs.declared.plans.Plan.{Plan}
 use Rattle.flux_model.specs.Sizes.{source_size}
 use Rattle.flux_model.specs.Soundness.{IsSound}
 use Rattle.flux_model.specs.Texts.{source_name}
 use Rattle.flux_items.specs.declared.rules.ItemRules.{ItemRules}
 use Rattle.flux_items.specs.declared.rules.TheConstants.{ITEM_LIMIT}
-use Rattle.flux_items.specs.Items.{AreItemsOf}
 use Rattle.flux_items.specs.Faults.{IsFaultOf}
 use Rattle.flux_words.specs.declared.values.Runtime.{Runtime}
 use Rattle.rt_all.specs.Orders.{IsOrderOf}
 use Rattle.flux_driver.specs.declared.refusals.Refusal.{Refusal}
 use Rattle.flux_driver.specs.declared.refusals.Refusal.TheVariants.{Usage, Static, Items, Read, Missing, Memory}
 use Rattle.flux_driver.specs.declared.running.Wanted.{Wanted}
-use Rattle.flux_driver.specs.TrueRuns.{IsTrueRun, printed_in}
+use Rattle.flux_driver.specs.TrueRuns.{IsTrueRun, setup_of, printed_by}
 
 -- the kinds of what a node gives
 abbrev pub outs_at : List NodeSig → NodeNo → List Kind
@@ -57,19 +60,22 @@ pub record IsDriven (setup : Setup) (runtime : Runtime) (entries : List Entry) :
   pub whole : IsWhole setup entries
   pub order : IsOrderOf runtime setup [] entries
 
--- the journal of a true run of the items is printed
-pub record IsJournalOf (meaning : LibraryMeaning) (p : Program) (items : List Item) (wanted : Wanted)
+-- a setup is made of these, and of empty cells
+pub record HasParts {L : Type 0} (program : Program) (plans : List Plan) (items : List Item) (library : L)
+    (setup : code.Setup L) : Type 0 where
+  pub program_ : arc_value setup.program ≡ program
+  pub plans_ : arc_value setup.plans ≡ plans
+  pub items_ : setup.items ≡ items
+  pub opening : setup.opening ≡ []
+  pub library_ : arc_value setup.library ≡ library
+
+-- what is wanted of a true run of the items is printed
+pub record IsRun (meaning : LibraryMeaning) (p : Program) (items : List Item) (wanted : Wanted)
     (text : List ℕ) : Type 0 where
   pub journal : Journal
   pub true_run : IsTrueRun p items meaning wanted.runtime journal.entries
-  pub is : text ≡ printed_in wanted.journal p (length items) journal
-
--- that of the items of a text
-pub record IsWritten (meaning : LibraryMeaning) (p : Program) (rules : ItemRules)
-    (items_text : List ℕ) (wanted : Wanted) (text : List ℕ) : Type 0 where
-  pub items : List Item
-  pub are : AreItemsOf rules items items_text
-  pub journal : IsJournalOf meaning p items wanted text
+  pub is : text ≡ printed_by wanted.printing p (length items) journal
+      (cells_after (setup_of p true_run.locks items meaning) journal.entries)
 
 -- an items text is refused: it has a fault, or there was no memory
 abbrev pub AreRefused : ItemRules → List ℕ → Refusal → Type 0

@@ -1,5 +1,7 @@
 -- Steps of a command: what is written at the end.
 use Rattle.std.specs.Prelude.{◌≡◌, ◌⊎◌, List, ℕ, []}
+use Rattle.flux_driver.specs.declared.prepared.Prepared.{Prepared}
+use Rattle.flux_driver.specs.declared.prepared.Prepared.TheVariants.{Text, No}
 use Rattle.flux_driver.specs.declared.statuses.Status.{Status}
 use Rattle.flux_driver.specs.declared.statuses.Status.TheVariants as statuses
 use Rattle.flux_driver.specs.declared.refusals.Refusal.{Refusal}
@@ -15,7 +17,18 @@ pub record IsTold (refusal : Refusal) (status : Status) (before after : Stream) 
       ⊎ ((status ≡ statuses.Memory) × Wrote before after [])
 
 -- a text was printed; or writing failed, and that was said
-abbrev pub IsPut : List ℕ → Status → Stream → Stream → Stream → Stream → Type 0
-IsPut text status out out_after err err_after =
+abbrev pub IsWritten : List ℕ → Status → Stream → Stream → Stream → Stream → Type 0
+IsWritten text status out out_after err err_after =
     ((status ≡ statuses.Done) × Wrote out out_after text × Wrote err err_after [])
     ⊎ ((status ≡ statuses.Write) × Broke out out_after text × WroteOrBroke err err_after write_line)
+
+-- a verdict that is no stays so where writing it failed
+abbrev pub IsNoWritten : List ℕ → Status → Stream → Stream → Stream → Stream → Type 0
+IsNoWritten text status out out_after err err_after =
+    (status ≡ statuses.No) × WroteOrBroke out out_after text × Wrote err err_after []
+
+abbrev pub IsPut : Prepared → Status → Stream → Stream → Stream → Stream → Type 0
+IsPut (Text text) status out out_after err err_after =
+    IsWritten text status out out_after err err_after
+IsPut (No text) status out out_after err err_after =
+    IsNoWritten text status out out_after err err_after

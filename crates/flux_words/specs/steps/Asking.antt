@@ -1,7 +1,10 @@
 -- Steps of the reader: what was asked for.
-use Rattle.std.specs.Prelude.{◌∷◌, ℕ, List, codes, Option, Some, None}
+use Rattle.std.specs.Prelude.{◌≡◌, ℕ, List, Option, Some, None}
+use Rattle.std.specs.Borrow.{Bor}
+use Rattle.flux_words.specs.declared.names.CommandName.{CommandName}
 use Rattle.flux_words.specs.declared.commands.Asked.{Asked}
-use Rattle.flux_words.specs.Commands.{Spells, SpellsNone}
+use Rattle.flux_words.specs.Behind.{IsFile}
+use Rattle.flux_words.specs.Commands.{Command, name_of, StandsBehind, Spells, SpellsNone}
 use Rattle.flux_words.specs.Asking.{asked}
 
 -- the command that the words spell was read, or that they spell none
@@ -9,6 +12,17 @@ abbrev pub IsAsked : List (List ℕ) → Option Asked → Type 0
 IsAsked words (Some found) = Spells words (asked found)
 IsAsked words None = SpellsNone words
 
--- the same of the words behind `run`
-abbrev pub IsRunRead : List (List ℕ) → Option Asked → Type 0
-IsRunRead words found = IsAsked (codes "run" ∷ words) found
+-- a command of a name, with the words behind it
+pub record IsCommand (name : CommandName) (words : List (List ℕ)) (command : Command) : Type 0 where
+  pub is : name_of command ≡ name
+  pub behind : StandsBehind command words
+
+-- the same of the words behind a name
+abbrev pub IsAskedBehind : CommandName → List (List ℕ) → Option Asked → Type 0
+IsAskedBehind name words (Some found) = IsCommand name words (asked found)
+IsAskedBehind name words None = (command : Command) → IsCommand name words command → ⊥
+
+-- the one file that words are, or that they are none
+abbrev pub IsFileRead : List (List ℕ) → Option (Bor (List ℕ)) → Type 0
+IsFileRead words (Some file) = IsFile file.now words
+IsFileRead words None = (file : List ℕ) → IsFile file words → ⊥

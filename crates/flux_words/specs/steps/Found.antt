@@ -7,7 +7,6 @@ use Rattle.flux_words.specs.declared.parts.Part.TheVariants as reads
 use Rattle.flux_words.specs.declared.values.Runtime.{Runtime}
 use Rattle.flux_words.specs.declared.values.JournalFormat.{JournalFormat}
 use Rattle.flux_words.specs.Parts.{Part, word, option}
-use Rattle.flux_words.specs.declared.values.TheConstants.{NUMBER_LIMIT}
 use Rattle.flux_words.specs.Values.{is_comma, IsDigit, number_from, SpellsNumber, SpellEach, SpellsNumbers, IsRuntime, IsFormat}
 
 -- the part that was read
@@ -16,15 +15,15 @@ part_of (reads.Word name) = word name.now
 part_of (reads.Option name value) = option name value.now
 
 -- the number that digits spell, or that they are no digits of a number within its limit
-abbrev pub IsValueRead : List ℕ → Option ℕ → Type 0
-IsValueRead digits (Some number) =
-    AllByRecursion IsDigit digits × (number ≡ number_from 0 digits) × (number ≤ NUMBER_LIMIT)
-IsValueRead digits None = AllByRecursion IsDigit digits → number_from 0 digits ≤ NUMBER_LIMIT → ⊥
+abbrev pub IsValueRead : ℕ → List ℕ → Option ℕ → Type 0
+IsValueRead most digits (Some number) =
+    AllByRecursion IsDigit digits × (number ≡ number_from 0 digits) × (number ≤ most)
+IsValueRead most digits None = AllByRecursion IsDigit digits → number_from 0 digits ≤ most → ⊥
 
--- the flow's number that digits spell, or that they spell none
-abbrev pub IsNumberRead : List ℕ → Option FlowNo → Type 0
-IsNumberRead digits (Some flow) = SpellsNumber digits flow
-IsNumberRead digits None = (flow : FlowNo) → SpellsNumber digits flow → ⊥
+-- the number in a range that digits spell, or that they spell none
+abbrev pub IsNumberRead : ℕ → ℕ → List ℕ → Option ℕ → Type 0
+IsNumberRead least most digits (Some number) = SpellsNumber least most digits number
+IsNumberRead least most digits None = (number : ℕ) → SpellsNumber least most digits number → ⊥
 
 abbrev pub AreNumbersRead : List ℕ → Option (List FlowNo) → Type 0
 AreNumbersRead list (Some numbers) = SpellsNumbers list numbers

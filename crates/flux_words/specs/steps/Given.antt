@@ -13,6 +13,7 @@ abbrev pub files_of : Files → List (List ℕ)
 files_of files.None = []
 files_of (files.One first) = first.now ∷ []
 files_of (files.Two first second) = first.now ∷ second.now ∷ []
+files_of (files.Three first second third) = first.now ∷ second.now ∷ third.now ∷ []
 
 -- a value, or none
 abbrev pub listed : Option (Bor (List ℕ)) → List (List ℕ)
@@ -37,9 +38,9 @@ pub record Adds (before after : Given) (part : Part) : Type 0 where
   pub docs_ : listed after.docs ≡ listed before.docs ++ values_of Docs (part ∷ [])
   pub journal_ : listed after.journal ≡ listed before.journal ++ values_of Journal (part ∷ [])
 
--- there is no room for a part: two words, or a value of its option, are given
+-- there is no room for a part: three words, or a value of its option, are given
 abbrev pub IsFull : Given → Part → Type 0
-IsFull given (word name) = length (files_of given.files) ≡ 2
+IsFull given (word name) = length (files_of given.files) ≡ 3
 IsFull given (option Runtime value) = length (listed given.runtime) ≡ 1
 IsFull given (option Docs value) = length (listed given.docs) ≡ 1
 IsFull given (option Journal value) = length (listed given.journal) ≡ 1
@@ -50,10 +51,10 @@ pub record IsGiven (words : List (List ℕ)) (given : Given) : Type 0 where
   pub laid : BeginWith parts words []
   pub holds : HoldsAll given parts
 
--- more than two positional words, or an option twice
+-- more than three positional words, or an option twice
 abbrev pub IsTooMuch : List Part → Type 0
 IsTooMuch parts =
-    (2 < length (words_in parts)) ⊎ ((name : OptionName) × (1 < length (values_of name parts)))
+    (3 < length (words_in parts)) ⊎ ((name : OptionName) × (1 < length (values_of name parts)))
 
 -- the parts so far, and what they give
 pub record AreSoFar (words rest files runtime docs journal : List (List ℕ)) : Type 0 where

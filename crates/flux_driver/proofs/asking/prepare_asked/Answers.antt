@@ -9,7 +9,7 @@ use Rattle.flux_driver.specs.Documents.{AreDocs}
 use Rattle.flux_driver.specs.Top.{IsStopped}
 use Rattle.flux_driver.specs.steps.Preparing.{IsRefusedAll, AnswersDue, prepared_status}
 use Rattle.flux_driver.proofs.Passed.{passed, passed_status}
-use Rattle.flux_driver.proofs.Documented.{asks_with, asks_stopped, unread_stops, refused_unread, prints_with, result_refused, due_unread, due_prepared}
+use Rattle.flux_driver.proofs.Documented.{asks_with, asks_stopped, unread_stops, refused_unread, prepares_with, result_refused, due_unread, due_prepared}
 use Rattle.flux_driver.proofs.asking.prepare_asked.Goals as goal
 
 -- ---- the documents weren't read
@@ -58,7 +58,7 @@ returns-clause-done g c =
     let told : Told = record { files = g.S.Store.files c.args.store.now; folders = g.F.Folder.folders c.args.folder.now } in
     let all = arc_value c.in_ok-library.library in
     let are = subst (AreDocs (g.F.Folder.folders c.args.folder.now) (folder_of (asked c.args.wanted))) (sym c.in_ok-library.ensures) (rw c.dir_of.ensures at c.in_ok-docs.ensures.docs) in
-    prints_with built_in (asked c.args.wanted) told all.docs c.prepare.result are c.prepare.ensures.done
+    prepares_with built_in (asked c.args.wanted) told all.docs c.prepare.result are c.prepare.ensures.done
 
 pub returns-clause-refused : goal.returns-clause-refused
 returns-clause-refused g c =

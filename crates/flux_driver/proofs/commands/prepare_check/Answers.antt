@@ -1,7 +1,7 @@
 use Rattle.flux_words.specs.Commands.{check}
 use Rattle.flux_driver.specs.steps.Refusals.{IsRefused}
 use Rattle.flux_driver.proofs.Passed.{passed}
-use Rattle.flux_driver.proofs.Prepared.{check_refused, is_ordered, are_locks, is_reported}
+use Rattle.flux_driver.proofs.Loading.{check_refused, is_ordered, are_locks, is_reported}
 use Rattle.flux_driver.proofs.commands.prepare_check.Goals as goal
 
 pub returns-in_err-checked-clause-refused : goal.returns-in_err-checked-clause-refused
@@ -26,4 +26,4 @@ pub returns-clause-done : goal.returns-clause-done
 returns-clause-done g c =
     let checked = rw c.as_bytes.ensures at c.in_ok-checked.ensures.checked in
     is_reported (g.L.Meaning.meaning c.args.library.now) c.in_ok-text.text c.in_ok-checked.checked.program c.in_ok-checked.checked.sigs.nodes c.in_ok-checked.checked.order.nodes c.in_ok-checked.checked.sets.nodes c.in_ok-checked.checked.sizes checked
-    (g.S.Store.files c.args.store.now) c.args.file.now c.in_ok-report.field-0 c.in_ok-text.ensures.found c.in_ok-report.ensures
+    (g.S.Store.files c.args.store.now) c.args.file.now c.in_ok-text-2.text c.in_ok-text.ensures.found c.in_ok-text-2.ensures

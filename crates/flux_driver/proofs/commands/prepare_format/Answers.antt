@@ -1,7 +1,7 @@
 use Rattle.flux_words.specs.Commands.{format}
 use Rattle.flux_driver.specs.steps.Refusals.{IsRefused}
 use Rattle.flux_driver.proofs.Passed.{passed}
-use Rattle.flux_driver.proofs.Prepared.{format_refused}
+use Rattle.flux_driver.proofs.Loading.{format_refused}
 use Rattle.flux_driver.proofs.commands.prepare_format.Goals as goal
 
 pub returns-in_err-decls-clause-refused : goal.returns-in_err-decls-clause-refused

@@ -1,7 +1,7 @@
 use Rattle.flux_words.specs.Commands.{plan}
 use Rattle.flux_driver.specs.steps.Refusals.{IsRefused}
 use Rattle.flux_driver.proofs.Passed.{passed}
-use Rattle.flux_driver.proofs.Prepared.{plan_refused, is_planned}
+use Rattle.flux_driver.proofs.Loading.{plan_refused, is_planned}
 use Rattle.flux_driver.proofs.commands.prepare_plan.Goals as goal
 
 pub returns-in_err-checked-clause-refused : goal.returns-in_err-checked-clause-refused

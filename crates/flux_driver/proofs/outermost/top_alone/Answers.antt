@@ -13,8 +13,8 @@ returns-in-Ok g c =
     (g.S.Store.faults c.args.world.now.store) (g.S.Store.faults c.prepare_words.new.store) (g.F.Folder.faults c.args.world.now.folder) (g.F.Folder.faults c.prepare_words.new.folder)
     (told_same files (g.S.Store.files c.prepare_words.new.store) folders (g.F.Folder.folders c.prepare_words.new.folder) c.prepare_words.ensures.kept c.prepare_words.ensures.kept_folders)
     c.prepare_words.ensures.later c.prepare_words.ensures.later_folder
-    c.in-Ok.text c.in-Ok.ensures.asked c.in-Ok.ensures.done c.in-Ok.ensures.counts c.in-Ok.ensures.complete c.print.result _ _ _ _
-    c.print.ensures.later.0 c.print.ensures.later.1 (rw c.as_bytes.ensures at c.print.ensures.put)
+    c.in-Ok.prepared c.in-Ok.ensures.asked c.in-Ok.ensures.done c.in-Ok.ensures.counts c.in-Ok.ensures.complete c.print.result _ _ _ _
+    c.print.ensures.later.0 c.print.ensures.later.1 c.print.ensures.put
 
 pub returns-in-Err : goal.returns-in-Err
 returns-in-Err g c =

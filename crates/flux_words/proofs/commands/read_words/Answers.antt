@@ -1,4 +1,4 @@
-use Rattle.flux_words.proofs.RunWords.{all_asked}
+use Rattle.flux_words.proofs.Behind.{all_asked}
 use Rattle.flux_words.proofs.commands.read_words.Goals as goal
 
 pub returns-clause-command : goal.returns-clause-command

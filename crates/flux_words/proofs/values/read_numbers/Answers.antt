@@ -11,7 +11,7 @@ numbers-preserved c =
     let t = YieldsList-turn (YieldsList-from_slice_split _ is_comma c.args.list.now (cc) (cc) (cc) (λ x b q k. search (rules, tests))) c.numbers.yielded _ c.numbers.yielded_by _ _ c.in-Some.digits c.in-Some.is c.next.ensures.steps in
     let n = length_push c.numbers.yielded c.in-Some.digits in
     let read = c.in-Some-read_number.ensures in
-    rw n (number_more c.args.list.now (length c.numbers.yielded) c.in-Some.digits.now c.numbers.numbers c.add.new.self c.in-Some-read_number.number c.numbers.invariant t read c.in_ok-add-in-Some-read_number.ensures.added)
+    rw n (number_more c.args.list.now (length c.numbers.yielded) c.in-Some.digits.now c.numbers.numbers c.add.new.self (record { 0 = c.in-Some-read_number.number }) c.numbers.invariant t read c.in_ok-add-in-Some-read_number.ensures.added)
 
 pub returns-in-None-read_number : goal.returns-in-None-read_number
 returns-in-None-read_number c =

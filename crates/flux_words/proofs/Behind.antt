@@ -1,0 +1,223 @@
+-- What words ask for, or why they ask for nothing.
+use Rattle.std.proofs.Common.{◌≡◌, ℕ, Bool, true, false, ◌-◌, ◌≤◌, List, [], ◌∷◌, length, take, drop, get_or, ap, sym, subst, arith, ◌∙◌}
+use Rattle.std.specs.Prelude.{Option, Some, None, IfNone, IfOk, Result, Ok, Err, option_map, option_copied}
+use Rattle.std.specs.Option.{is_some}
+use Rattle.std.proofs.lemmas.List.{take_all}
+use Rattle.std.specs.Borrow.{Bor}
+use Rattle.flux_values.specs.declared.failures.Memory.{Memory}
+use Rattle.flux_words.specs.declared.names.CommandName.{CommandName}
+use Rattle.flux_words.specs.declared.names.CommandName.TheVariants as names
+use Rattle.flux_words.specs.declared.given.Files.{Files}
+use Rattle.flux_words.specs.declared.given.Files.TheVariants as files
+use Rattle.flux_words.specs.declared.given.Given.{Given}
+use Rattle.flux_words.specs.declared.values.Runtime.{Runtime}
+use Rattle.flux_words.specs.declared.values.JournalFormat.{JournalFormat}
+use Rattle.flux_words.specs.declared.loads.TheConstants.{LOAD_LIMIT, FIRST_LIMIT}
+use Rattle.flux_words.specs.declared.commands.Asked.{Asked}
+use Rattle.flux_words.specs.Names.{IsNamed}
+use Rattle.flux_words.specs.Parts.{Part, BeginWith}
+use Rattle.flux_words.specs.Values.{SpellsNumber, IsRuntime, IsFormat}
+use Rattle.flux_words.specs.Behind.{Manner, HasParts, FitsRun, FitsAudit, FitsLoad}
+use Rattle.flux_words.specs.Commands.{Command, run, audit, load, name_of, StandsBehind, Spells, SpellsNone}
+use Rattle.flux_words.specs.Asking.{asked}
+use Rattle.flux_words.specs.steps.Given.{files_of, listed, IsGiven, IsTooMuch}
+use Rattle.flux_words.specs.steps.Asking.{IsAsked, IsCommand, IsAskedBehind}
+use Rattle.flux_words.proofs.Gathered.{fits_given, takes_less, few_run, few_audit, few_load}
+use Rattle.flux_words.proofs.OneCommand.{one_name, one_command}
+
+pub if_none : {A : Type 0} (r : Option A) (P : Type 0) → P → IfNone r P
+if_none None P p = p
+if_none (Some x) P p = tt
+
+-- a value is given
+pub some_given : (value : Option (Bor (List ℕ))) (r : Bool) → r ≡ is_some value → r ≡ true → listed value ≡ [] → ⊥
+some_given None r same is none = let e : false ≡ true = sym same ∙ is in absurd cc
+some_given (Some x) r same is none = absurd cc
+
+-- ---- words that no command of a name stands on
+
+abbrev pub Nothing : CommandName → List (List ℕ) → Type 0
+Nothing name words = (command : Command) → IsCommand name words command → ⊥
+
+pub none_of_run : (words : List (List ℕ)) → ((file items : List ℕ) (manner : Manner) → HasParts words (FitsRun file items manner) → ⊥) → Nothing names.Run words
+none_of_run words none (run file items manner) c = none file items manner c.behind
+none_of_run words none command c = let e = c.is in absurd cc
+
+pub none_of_audit : (words : List (List ℕ)) → ((file items journal : List ℕ) (docs : Option (List ℕ)) → HasParts words (FitsAudit file items journal docs) → ⊥) → Nothing names.Audit words
+none_of_audit words none (audit file items journal docs) c = none file items journal docs c.behind
+none_of_audit words none command c = let e = c.is in absurd cc
+
+pub none_of_load : (words : List (List ℕ)) → ((count first : ℕ) (runtime : Runtime) → HasParts words (FitsLoad count first runtime) → ⊥) → Nothing names.Load words
+none_of_load words none (load count first runtime) c = none count first runtime c.behind
+none_of_load words none command c = let e = c.is in absurd cc
+
+-- more than three words, or an option twice
+module _ (words : List (List ℕ)) (much : (parts : List Part) → BeginWith parts words [] → IsTooMuch parts) where
+  pub run_of_too_much : Nothing names.Run words
+  run_of_too_much = none_of_run words (λ file items manner has. takes_less words (FitsRun file items manner) (few_run file items manner) much has)
+
+  pub audit_of_too_much : Nothing names.Audit words
+  audit_of_too_much = none_of_audit words (λ file items journal docs has. takes_less words (FitsAudit file items journal docs) (few_audit file items journal docs) much has)
+
+  pub load_of_too_much : Nothing names.Load words
+  load_of_too_much = none_of_load words (λ count first runtime has. takes_less words (FitsLoad count first runtime) (few_load count first runtime) much has)
+
+not_two : (fs : Files) (file items : List ℕ) → ((x y : Bor (List ℕ)) → fs ≡ files.Two x y → ⊥) → files_of fs ≡ file ∷ items ∷ [] → ⊥
+not_two files.None file items other e = let n = ap length e in omega arith
+not_two (files.One x) file items other e = let n = ap length e in omega arith
+not_two (files.Two x y) file items other e = other x y (λ i. files.Two x y)
+not_two (files.Three x y z) file items other e = let n = ap length e in omega arith
+
+not_three : (fs : Files) (file items journal : List ℕ) → ((x y z : Bor (List ℕ)) → fs ≡ files.Three x y z → ⊥) → files_of fs ≡ file ∷ items ∷ journal ∷ [] → ⊥
+not_three files.None file items journal other e = let n = ap length e in omega arith
+not_three (files.One x) file items journal other e = let n = ap length e in omega arith
+not_three (files.Two x y) file items journal other e = let n = ap length e in omega arith
+not_three (files.Three x y z) file items journal other e = other x y z (λ i. files.Three x y z)
+
+module _ (words : List (List ℕ)) (given : Given) (is : IsGiven words given) where
+  run_fits : (file items : List ℕ) (manner : Manner) → HasParts words (FitsRun file items manner) → FitsRun file items manner is.parts
+  run_fits file items manner has = fits_given words given is (FitsRun file items manner) has
+
+  audit_fits : (file items journal : List ℕ) (docs : Option (List ℕ)) → HasParts words (FitsAudit file items journal docs) → FitsAudit file items journal docs is.parts
+  audit_fits file items journal docs has = fits_given words given is (FitsAudit file items journal docs) has
+
+  load_fits : (count first : ℕ) (runtime : Runtime) → HasParts words (FitsLoad count first runtime) → FitsLoad count first runtime is.parts
+  load_fits count first runtime has = fits_given words given is (FitsLoad count first runtime) has
+
+  -- ---- `run`
+
+  pub run_of_files : ((x y : Bor (List ℕ)) → given.files ≡ files.Two x y → ⊥) → Nothing names.Run words
+  run_of_files other = none_of_run words (λ file items manner has.
+      not_two given.files file items other (is.holds.words_ ∙ (run_fits file items manner has).files))
+
+  pub run_of_format : ((format : JournalFormat) → IsFormat (listed given.journal) format → ⊥) → Nothing names.Run words
+  run_of_format none = none_of_run words (λ file items manner has.
+      none manner.journal (subst (λ (l : List (List ℕ)). IsFormat l manner.journal) (sym is.holds.journal_) (run_fits file items manner has).journal_))
+
+  pub run_of_runtime : ((runtime : Runtime) → IsRuntime (listed given.runtime) runtime → ⊥) → Nothing names.Run words
+  run_of_runtime none = none_of_run words (λ file items manner has.
+      none manner.runtime (subst (λ (l : List (List ℕ)). IsRuntime l manner.runtime) (sym is.holds.runtime_) (run_fits file items manner has).runtime_))
+
+  pub run_given : (file items : List ℕ) (runtime : Runtime) (journal : JournalFormat) → files_of given.files ≡ file ∷ items ∷ [] → IsRuntime (listed given.runtime) runtime → IsFormat (listed given.journal) journal
+      → HasParts words (FitsRun file items (record { runtime = runtime; docs = option_copied given.docs; journal = journal }))
+  run_given file items runtime journal files_ r j = record {
+    parts = is.parts;
+    laid = is.laid;
+    fits = record {
+      files = sym is.holds.words_ ∙ files_;
+      runtime_ = subst (λ (l : List (List ℕ)). IsRuntime l runtime) is.holds.runtime_ r;
+      docs_ = sym is.holds.docs_;
+      journal_ = subst (λ (l : List (List ℕ)). IsFormat l journal) is.holds.journal_ j;
+    };
+  }
+
+  -- ---- `audit`
+
+  pub audit_of_files : ((x y z : Bor (List ℕ)) → given.files ≡ files.Three x y z → ⊥) → Nothing names.Audit words
+  audit_of_files other = none_of_audit words (λ file items journal docs has.
+      not_three given.files file items journal other (is.holds.words_ ∙ (audit_fits file items journal docs has).files))
+
+  pub audit_of_options : ((listed given.runtime ≡ []) → (listed given.journal ≡ []) → ⊥) → Nothing names.Audit words
+  audit_of_options some = none_of_audit words (λ file items journal docs has. let fits = audit_fits file items journal docs has in
+      some (is.holds.runtime_ ∙ fits.no_runtime) (is.holds.journal_ ∙ fits.no_journal))
+
+  pub audit_given : (file items journal : List ℕ) → files_of given.files ≡ file ∷ items ∷ journal ∷ [] → listed given.runtime ≡ [] → listed given.journal ≡ []
+      → HasParts words (FitsAudit file items journal (option_copied given.docs))
+  audit_given file items journal files_ r j = record {
+    parts = is.parts;
+    laid = is.laid;
+    fits = record {
+      files = sym is.holds.words_ ∙ files_;
+      docs_ = sym is.holds.docs_;
+      no_runtime = sym is.holds.runtime_ ∙ r;
+      no_journal = sym is.holds.journal_ ∙ j;
+    };
+  }
+
+  -- ---- `load`
+
+  pub load_of_options : ((listed given.docs ≡ []) → (listed given.journal ≡ []) → ⊥) → Nothing names.Load words
+  load_of_options some = none_of_load words (λ count first runtime has. let fits = load_fits count first runtime has in
+      some (is.holds.docs_ ∙ fits.no_docs) (is.holds.journal_ ∙ fits.no_journal))
+
+  pub load_of_files : ((x y : Bor (List ℕ)) → given.files ≡ files.Two x y → ⊥) → Nothing names.Load words
+  load_of_files other = none_of_load words (λ count first runtime has. let fits = load_fits count first runtime has in
+      not_two given.files fits.count_digits fits.first_digits other (is.holds.words_ ∙ fits.numbers))
+
+  pub load_of_count : (x y : List ℕ) → files_of given.files ≡ x ∷ y ∷ [] → ((number : ℕ) → SpellsNumber 1 LOAD_LIMIT x number → ⊥) → Nothing names.Load words
+  load_of_count x y files_ none = none_of_load words (λ count first runtime has. let fits = load_fits count first runtime has in
+      let both : fits.count_digits ∷ fits.first_digits ∷ [] ≡ x ∷ y ∷ [] = sym (is.holds.words_ ∙ fits.numbers) ∙ files_ in
+      let same : fits.count_digits ≡ x = cc in
+      none count (subst (λ (d : List ℕ). SpellsNumber 1 LOAD_LIMIT d count) same fits.count_))
+
+  pub load_of_first : (x y : List ℕ) → files_of given.files ≡ x ∷ y ∷ [] → ((number : ℕ) → SpellsNumber 0 FIRST_LIMIT y number → ⊥) → Nothing names.Load words
+  load_of_first x y files_ none = none_of_load words (λ count first runtime has. let fits = load_fits count first runtime has in
+      let both : fits.count_digits ∷ fits.first_digits ∷ [] ≡ x ∷ y ∷ [] = sym (is.holds.words_ ∙ fits.numbers) ∙ files_ in
+      let same : fits.first_digits ≡ y = cc in
+      none first (subst (λ (d : List ℕ). SpellsNumber 0 FIRST_LIMIT d first) same fits.first_))
+
+  pub load_of_runtime : ((runtime : Runtime) → IsRuntime (listed given.runtime) runtime → ⊥) → Nothing names.Load words
+  load_of_runtime none = none_of_load words (λ count first runtime has. let fits = load_fits count first runtime has in
+      none runtime (subst (λ (l : List (List ℕ)). IsRuntime l runtime) (sym is.holds.runtime_) fits.runtime_))
+
+  pub load_given : (x y : List ℕ) (count first : ℕ) (runtime : Runtime) → files_of given.files ≡ x ∷ y ∷ [] → SpellsNumber 1 LOAD_LIMIT x count → SpellsNumber 0 FIRST_LIMIT y first
+      → IsRuntime (listed given.runtime) runtime → listed given.docs ≡ [] → listed given.journal ≡ [] → HasParts words (FitsLoad count first runtime)
+  load_given x y count first runtime files_ n k r d j = record {
+    parts = is.parts;
+    laid = is.laid;
+    fits = record {
+      count_digits = x;
+      first_digits = y;
+      numbers = sym is.holds.words_ ∙ files_;
+      count_ = n;
+      first_ = k;
+      runtime_ = subst (λ (l : List (List ℕ)). IsRuntime l runtime) is.holds.runtime_ r;
+      no_docs = sym is.holds.docs_ ∙ d;
+      no_journal = sym is.holds.journal_ ∙ j;
+    };
+  }
+
+-- ---- all words
+
+-- the one command that words spell is what is read
+one_asked : (words : List (List ℕ)) (found : Option Asked) (command : Command) → IsAsked words found → Spells words command → option_map asked found ≡ Some command
+one_asked words (Some a) command is spells = ap Some (one_command words (asked a) command is spells)
+one_asked words None command none spells = absurd (none command spells)
+
+pub all_asked : (words : List (List ℕ)) (result : Result (Option Asked) Memory) (command : Command) → IfOk result (IsAsked words) → Spells words command → IfOk result (λ found. option_map asked found ≡ Some command)
+all_asked words (Ok found) command is spells = one_asked words found command is spells
+all_asked words (Err e) command is spells = tt
+
+-- a name and the words behind it
+asked_whole : (words rest : List (List ℕ)) (first : List ℕ) (name : CommandName) (found : Option Asked) → words ≡ first ∷ rest → IsNamed name first → IsAskedBehind name rest found → IsAsked words found
+asked_whole words rest first name (Some a) are named is = record { first = first; rest = rest; are = are; named = subst (λ (n : CommandName). IsNamed n first) (sym is.is) named; behind = is.behind }
+asked_whole words rest first name None are named none = λ command spells. none command (other command spells)
+  where
+    other : (command : Command) → Spells words command → IsCommand name rest command
+    other command spells =
+        let both : spells.first ∷ spells.rest ≡ first ∷ rest = sym spells.are ∙ are in
+        let same_first : spells.first ≡ first = cc in
+        let same_rest : spells.rest ≡ rest = cc in
+        record {
+          is = one_name (name_of command) name first (subst (IsNamed (name_of command)) same_first spells.named) named;
+          behind = subst (StandsBehind command) same_rest spells.behind;
+        }
+
+-- a first word and those behind it
+first_and_rest : (words : List (List ℕ)) (first : List ℕ) → 1 ≤ length words → first ≡ get_or words 0 first → words ≡ first ∷ take (length words - 1) (drop 1 words)
+first_and_rest [] first some is = absurd (omega arith)
+first_and_rest (v ∷ words) first some is =
+    ap (λ (w : List ℕ). w ∷ words) (sym is) ∙ ap (λ (l : List (List ℕ)). first ∷ l) (sym (take_all (length (v ∷ words) - 1) words (omega arith)))
+
+pub asked_behind : {E : Type 0} (words : List (List ℕ)) (first word : List ℕ) (name : CommandName) (result : Result (Option Asked) E) → 1 ≤ length words → first ≡ get_or words 0 first → first ≡ word → IsNamed name word
+    → IfOk result (IsAskedBehind name (take (length words - 1) (drop 1 words))) → IfOk result (IsAsked words)
+asked_behind words first word name (Err e) some is same named read = tt
+asked_behind words first word name (Ok found) some is same named read =
+    asked_whole words (take (length words - 1) (drop 1 words)) first name found (first_and_rest words first some is) (subst (IsNamed name) (sym same) named) read
+
+pub none_named : (words : List (List ℕ)) (first word : List ℕ) → 1 ≤ length words → first ≡ get_or words 0 first → first ≡ word → ((name : CommandName) → IsNamed name word → ⊥) → SpellsNone words
+none_named [] first word some is same none command spells = absurd (omega (arith, some))
+none_named (v ∷ words) first word some is same none command spells =
+    let both : spells.first ∷ spells.rest ≡ v ∷ words = sym spells.are in
+    let heads : spells.first ≡ v = cc in
+    none (name_of command) (subst (IsNamed (name_of command)) (heads ∙ sym is ∙ same) spells.named)

@@ -1,0 +1,50 @@
+-- What stands behind the word of each command.
+use Rattle.std.specs.Prelude.{◌≡◌, ℕ, List, [], ◌∷◌, Option, option_to_list}
+use Rattle.flux_words.specs.declared.names.OptionName.TheVariants as names
+use Rattle.flux_words.specs.declared.values.Runtime.{Runtime}
+use Rattle.flux_words.specs.declared.values.JournalFormat.{JournalFormat}
+use Rattle.flux_words.specs.declared.loads.TheConstants.{LOAD_LIMIT, FIRST_LIMIT}
+use Rattle.flux_words.specs.Parts.{Part, IsPositional, BeginWith, words_in, values_of}
+use Rattle.flux_words.specs.Values.{SpellsNumber, IsRuntime, IsFormat}
+
+-- how items are run: the runtime, the folder of documents, the journal's format
+pub record Manner : Type 0 where
+  pub runtime : Runtime
+  pub docs : Option (List ℕ)
+  pub journal : JournalFormat
+
+-- one file
+abbrev pub IsFile : List ℕ → List (List ℕ) → Type 0
+IsFile file words = (words ≡ file ∷ []) × IsPositional file
+
+-- positional words and options, which fit a command
+pub record HasParts (words : List (List ℕ)) (Fits : List Part → Type 0) : Type 0 where
+  pub parts : List Part
+  pub laid : BeginWith parts words []
+  pub fits : Fits parts
+
+-- `run`: FILE, ITEMS, and anywhere `--runtime R`, `--docs DIR` and `--journal J`, each at most once
+pub record FitsRun (file items : List ℕ) (manner : Manner) (parts : List Part) : Type 0 where
+  pub files : words_in parts ≡ file ∷ items ∷ []
+  pub runtime_ : IsRuntime (values_of names.Runtime parts) manner.runtime
+  pub docs_ : values_of names.Docs parts ≡ option_to_list manner.docs
+  pub journal_ : IsFormat (values_of names.Journal parts) manner.journal
+
+-- `audit`: FILE, ITEMS, JOURNAL, and anywhere `--docs DIR`, at most once
+pub record FitsAudit (file items journal : List ℕ) (docs : Option (List ℕ)) (parts : List Part)
+    : Type 0 where
+  pub files : words_in parts ≡ file ∷ items ∷ journal ∷ []
+  pub docs_ : values_of names.Docs parts ≡ option_to_list docs
+  pub no_runtime : values_of names.Runtime parts ≡ []
+  pub no_journal : values_of names.Journal parts ≡ []
+
+-- `load`: N, which is 1 to 4,096, K, which is at most 4,294,967,295, and anywhere `--runtime R`, at most once
+pub record FitsLoad (count first : ℕ) (runtime : Runtime) (parts : List Part) : Type 0 where
+  pub count_digits : List ℕ
+  pub first_digits : List ℕ
+  pub numbers : words_in parts ≡ count_digits ∷ first_digits ∷ []
+  pub count_ : SpellsNumber 1 LOAD_LIMIT count_digits count
+  pub first_ : SpellsNumber 0 FIRST_LIMIT first_digits first
+  pub runtime_ : IsRuntime (values_of names.Runtime parts) runtime
+  pub no_docs : values_of names.Docs parts ≡ []
+  pub no_journal : values_of names.Journal parts ≡ []
