@@ -13,7 +13,7 @@ use Rattle.flux_driver.specs.Documents.{AreDocs, WithDocs, TellsAll}
 use Rattle.flux_driver.specs.Commands.{folder_of}
 use Rattle.flux_driver.specs.Causes.{IsStatic, IsItems, IsMissing}
 use Rattle.flux_driver.specs.Answers.{Libraries, Decided, Happened, IsAnswer, OrMemory}
-use Rattle.flux_driver.specs.Top.{HasAnswered, HasDone}
+use Rattle.flux_driver.specs.Top.{HasDone}
 use Rattle.flux_driver.specs.Headline.{NoneRose}
 use Rattle.flux_driver.proofs.Documented.{docs_once, not_both}
 

@@ -1,10 +1,8 @@
 -- What `audit` has done, and why it answers 0 or 8.
-use Rattle.std.proofs.Common.{◌≡◌, ◌⊎◌, inl, inr, ℕ, List, [], Option, refl, sym, subst}
+use Rattle.std.proofs.Common.{◌≡◌, ◌⊎◌, inl, inr, ℕ, List, Option, subst}
 use Rattle.flux_values.specs.Meanings.{LibraryMeaning}
-use Rattle.flux_audit.specs.declared.verdicts.Verdict.TheVariants.{Yes, No}
-use Rattle.flux_audit.specs.Printed.{printed_verdict}
-use Rattle.flux_words.specs.Commands.{audit, Spells}
-use Rattle.flux_outside.specs.Streams.{Stream, Gains, Wrote, Broke, WroteOrBroke}
+use Rattle.flux_words.specs.Commands.{audit}
+use Rattle.flux_outside.specs.Streams.{Gains, Wrote, Broke, WroteOrBroke}
 use Rattle.flux_driver.specs.declared.files.TheConstants.{PROGRAM_FILE_LIMIT, ITEMS_FILE_LIMIT, JOURNAL_FILE_LIMIT}
 use Rattle.flux_driver.specs.declared.statuses.Status.{Status}
 use Rattle.flux_driver.specs.declared.statuses.Status.TheVariants as statuses
@@ -13,8 +11,6 @@ use Rattle.flux_driver.specs.Origins.{named}
 use Rattle.flux_driver.specs.Documents.{TellsAll}
 use Rattle.flux_driver.specs.Causes.{IsStatic, IsItemsText, AreItemsLost, IsJournalLost, IsMissing}
 use Rattle.flux_driver.specs.Answers.{Libraries, Decided, OrMemory}
-use Rattle.flux_driver.specs.Top.{HasDone}
-use Rattle.flux_driver.specs.Headline.{NoneRose}
 use Rattle.flux_driver.specs.Audits.{HasAgreed, YesIsTrue, HasRefuted, NoIsTrue, IsAuditable, AuditsAreAnswered}
 use Rattle.flux_driver.proofs.Once.{not_lost, gives_here, not_faulty, fault_here}
 use Rattle.flux_driver.proofs.Answering.{silent, gained, of_done, of_no, done_or_no, not_read, not_write, answered_by}

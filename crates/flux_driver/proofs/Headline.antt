@@ -1,8 +1,8 @@
 -- What `run` has done, and why it answers 0, from what a call of the program has done.
-use Rattle.std.proofs.Common.{◌≡◌, ◌⊎◌, inl, inr, ℕ, List, [], refl, subst}
+use Rattle.std.proofs.Common.{◌≡◌, ◌⊎◌, inl, inr, ℕ, List, subst}
 use Rattle.flux_values.specs.Meanings.{LibraryMeaning}
 use Rattle.flux_words.specs.Behind.{Manner}
-use Rattle.flux_words.specs.Commands.{run, Spells}
+use Rattle.flux_words.specs.Commands.{run}
 use Rattle.flux_outside.specs.Streams.{Gains, WroteOrBroke}
 use Rattle.flux_driver.specs.declared.files.TheConstants.{PROGRAM_FILE_LIMIT, ITEMS_FILE_LIMIT}
 use Rattle.flux_driver.specs.declared.statuses.Status.{Status}
@@ -13,10 +13,9 @@ use Rattle.flux_driver.specs.Documents.{TellsAll}
 use Rattle.flux_driver.specs.Inputs.{HasProgram, HasItems}
 use Rattle.flux_driver.specs.Causes.{IsStatic, IsItemsText, AreItemsLost, IsMissing}
 use Rattle.flux_driver.specs.Answers.{Libraries, Decided, Happened, OrMemory}
-use Rattle.flux_driver.specs.Top.{HasDone}
 use Rattle.flux_driver.proofs.Once.{not_lost, gives_here, not_faulty, fault_here}
 use Rattle.flux_driver.proofs.Answering.{silent, gained, of_done, done_or_no, not_read, not_write, answered_by}
-use Rattle.flux_driver.specs.Headline.{IsThere, HasRun, AreFaultless, RunsAreTrue, NoneRose, RunsAreAnswered}
+use Rattle.flux_driver.specs.Headline.{IsThere, HasRun, AreFaultless, RunsAreTrue, RunsAreAnswered}
 
 has_run : (library : Libraries) (before after : Seen) (file items : List ℕ) (manner : Manner) (text line : List ℕ) → Decided library (run file items manner) before.told statuses.Done text line
     → Gains before.out after.out text → WroteOrBroke before.err after.err line → HasRun library before after file items manner

@@ -1,7 +1,6 @@
 -- What the steps of a command give, behind its documents, is what it and its files decide.
-use Rattle.std.proofs.Common.{◌≡◌, ◌<◌, ℕ, zero, suc, inl, inr, ◌⊎◌, List, [], ◌∷◌, ◌++◌, length, Option, Some, None, Result, Ok, Err, IfOk, IfErr, refl, sym, ap, subst, ◌∙◌, append_assoc, arith}
+use Rattle.std.proofs.Common.{◌≡◌, ◌<◌, ℕ, zero, suc, inl, inr, List, [], ◌∷◌, ◌++◌, length, Option, Some, refl, sym, ap, subst, ◌∙◌, append_assoc, arith}
 use Rattle.std.specs.List.{AllByRecursion, slice_get}
-use Rattle.std.specs.Result.{IsErrAnd}
 use Rattle.std.proofs.lemmas.List.{append-nil}
 use Rattle.flux_values.specs.Identifiers.{IsIdentifier}
 use Rattle.flux_values.specs.Meanings.{LibraryMeaning}
@@ -11,7 +10,6 @@ use Rattle.flux_syntax.specs.declared.declarations.Decl.{Decl}
 use Rattle.flux_syntax.specs.Unexpected.{IsFaulty}
 use Rattle.flux_syntax.specs.ProgramOfText.{program_of}
 use Rattle.flow_model.specs.Setup.{Setup}
-use Rattle.flow_model.specs.CellsAfter.{cells_after}
 use Rattle.flux_model.specs.declared.programs.Program.{Program}
 use Rattle.flux_model.specs.declared.programs.Node.{Node}
 use Rattle.flux_model.specs.declared.programs.NodeNo.{NodeNo}
@@ -33,7 +31,7 @@ use Rattle.flux_hoist.specs.Sets.{held_by}
 use Rattle.flux_hoist.specs.Reports.{IsReport}
 use Rattle.flux_hoist.specs.Plans.{printed_plan}
 use Rattle.flux_types.proofs.Written.{sigs_same}
-use Rattle.flux_check.specs.Judgement.{AreSound, IsTextFault, IsChecked}
+use Rattle.flux_check.specs.Judgement.{IsTextFault, IsChecked}
 use Rattle.flux_items.specs.declared.rules.ItemRules.{ItemRules}
 use Rattle.flux_items.specs.Rules.{AreRules}
 use Rattle.flux_items.specs.Items.{AreItemsOf}
@@ -52,21 +50,18 @@ use Rattle.flux_driver.specs.declared.prepared.Prepared.TheVariants as prepared_
 use Rattle.flux_driver.specs.declared.refusals.Refusal.{Refusal}
 use Rattle.flux_driver.specs.declared.refusals.Refusal.TheVariants as refusals
 use Rattle.flux_driver.specs.declared.running.Wanted.{Wanted}
-use Rattle.flux_driver.specs.declared.statuses.Status.{Status}
-use Rattle.flux_driver.specs.declared.statuses.Status.TheVariants as statuses
 use Rattle.flux_driver.specs.Worlds.{Files, Gives, IsLost}
 use Rattle.flux_driver.specs.Origins.{Origin, named, made, GivesText, TellsText}
-use Rattle.flux_driver.specs.Commands.{ReadsProgram, TellsFiles}
+use Rattle.flux_driver.specs.Commands.{ReadsProgram}
 use Rattle.flux_driver.specs.Inputs.{HasProgram, HasItems, GivesItems}
 use Rattle.flux_driver.specs.Items.{rules_of, rules_in, kinds_in}
-use Rattle.flux_driver.specs.TrueRuns.{setup_of, IsTrueRun, IsRunText, printed_by}
-use Rattle.flux_driver.specs.Audited.{setup_given, IsAudited}
+use Rattle.flux_driver.specs.TrueRuns.{setup_of, IsRunText}
+use Rattle.flux_driver.specs.Audited.{IsAudited}
 use Rattle.flux_driver.specs.Printed.{IsPrinted}
 use Rattle.flux_driver.specs.Causes.{item_fault_line, IsStaticOf, IsItemsText, IsItems, AreItemsLost}
-use Rattle.flux_driver.specs.Top.{AreTwoFiles}
 use Rattle.flux_driver.specs.steps.Running.{HasSources, CanRun, IsRun, AreRefused}
-use Rattle.flux_driver.specs.steps.Refusals.{status_of, line_of, IsUnread, CountsRefusal, SaysOrMemory, IsFaultLine, IsTextRefused, IsCheckRefused, IsRefused}
-use Rattle.flux_driver.specs.steps.Preparing.{AsksFiles, IsPrepared, prepared_status, AreRead, StandsOnItems, ReadsItems, IsFirm}
+use Rattle.flux_driver.specs.steps.Refusals.{status_of, IsUnread, CountsRefusal, SaysOrMemory, IsFaultLine, IsTextRefused, IsCheckRefused, IsRefused}
+use Rattle.flux_driver.specs.steps.Preparing.{AsksFiles, IsPrepared, AreRead, StandsOnItems}
 use Rattle.flux_driver.specs.steps.Loading.{IsLoaded, AreItemsMissed, ReadsWell, IsUnloaded, AsksTwo}
 use Rattle.flux_driver.specs.steps.Auditing.{IsVerdictText}
 use Rattle.flux_driver.proofs.Named.{sources_apart}

@@ -1,9 +1,9 @@
 -- What `load` has done, and why it answers 0.
-use Rattle.std.proofs.Common.{◌≡◌, ◌⊎◌, inl, inr, ℕ, List, [], None, refl, subst}
+use Rattle.std.proofs.Common.{◌≡◌, ◌⊎◌, inl, inr, ℕ, List}
 use Rattle.flux_values.specs.Meanings.{LibraryMeaning}
 use Rattle.flux_load.specs.Loads.{program_text, items_text}
 use Rattle.flux_words.specs.declared.values.Runtime.{Runtime}
-use Rattle.flux_words.specs.Commands.{load, Spells}
+use Rattle.flux_words.specs.Commands.{load}
 use Rattle.flux_outside.specs.Streams.{Gains, WroteOrBroke}
 use Rattle.flux_driver.specs.declared.files.TheConstants.{PROGRAM_FILE_LIMIT}
 use Rattle.flux_driver.specs.declared.statuses.Status.{Status}
@@ -13,8 +13,6 @@ use Rattle.flux_driver.specs.Origins.{named, made}
 use Rattle.flux_driver.specs.Documents.{TellsAll}
 use Rattle.flux_driver.specs.Causes.{IsStatic, IsItemsText, IsMissing}
 use Rattle.flux_driver.specs.Answers.{Libraries, Decided, Happened, OrMemory}
-use Rattle.flux_driver.specs.Top.{HasDone}
-use Rattle.flux_driver.specs.Headline.{NoneRose}
 use Rattle.flux_driver.specs.Loads.{HasLoaded, LoadsAreTrue, IsLoadable, LoadsAreAnswered}
 use Rattle.flux_driver.proofs.Once.{gives_here, not_faulty, fault_here}
 use Rattle.flux_driver.proofs.Answering.{silent, gained, of_done, done_or_no, not_read, not_write, answered_by}

@@ -1,10 +1,10 @@
 -- With their documents, a command and what it reads decide one status.
-use Rattle.std.proofs.Common.{◌≡◌, ℕ, inl, inr, ◌⊎◌, List, Option, Some, None, IsSome, Result, Ok, Err, refl, sym, ap, subst, ◌∙◌}
+use Rattle.std.proofs.Common.{◌≡◌, ℕ, inl, inr, ◌⊎◌, List, Some, None, IsSome, Ok, refl, sym, subst, ◌∙◌}
 use Rattle.flux_values.specs.Meanings.{LibraryMeaning}
 use Rattle.flux_outside.specs.declared.stores.File.{File}
 use Rattle.flux_outside.specs.declared.stores.File.TheVariants.{Found, Missing, Longer}
 use Rattle.flux_faults.specs.declared.faults.StaticFault.{StaticFault}
-use Rattle.flux_model.specs.Locks.{Holds, AreLocks}
+use Rattle.flux_model.specs.Locks.{AreLocks}
 use Rattle.flux_model.specs.declared.items.Item.{Item}
 use Rattle.flux_model.proofs.Hoisting.{locks_once}
 use Rattle.flux_syntax.specs.declared.declarations.Decl.{Decl}
@@ -14,15 +14,12 @@ use Rattle.flux_syntax.proofs.Texts.{one_list, no_decls}
 use Rattle.flux_check.specs.Judgement.{AreSound, IsTextFault}
 use Rattle.flux_check.proofs.Exclusive.{not_both}
 use Rattle.flux_items.specs.declared.rules.ItemRules.{ItemRules}
-use Rattle.flux_items.specs.declared.rules.ItemFault.{ItemFault}
-use Rattle.flux_items.specs.Rules.{AreRules}
 use Rattle.flux_items.specs.Items.{AreItemsOf}
 use Rattle.flux_values.specs.Answers.{IsOrMemory}
 use Rattle.flux_items.specs.declared.rules.ItemFault.TheVariants as item_faults
 use Rattle.flux_items.specs.Faults.{IsFaultOf}
 use Rattle.flux_items.proofs.OneAnswer.{no_items_and_fault, answers_items}
 use Rattle.flow_model.specs.Setup.{Setup}
-use Rattle.flux_audit.specs.declared.verdicts.Rule.{Rule}
 use Rattle.flux_audit.specs.declared.verdicts.Verdict.{Verdict}
 use Rattle.flux_audit.specs.declared.verdicts.Verdict.TheVariants as verdicts
 use Rattle.flux_audit.specs.Verdicts.{HasVerdict}

@@ -4,7 +4,6 @@ use Rattle.std.specs.Result.{IsErrAnd}
 use Rattle.std.specs.Arc.{arc_value}
 use Rattle.flux_values.specs.Meanings.{LibraryMeaning}
 use Rattle.flux_model.specs.declared.programs.Program.{Program}
-use Rattle.flow_model.specs.declared.journals.Entry.{Entry}
 use Rattle.flow_model.specs.CellsAfter.{cells_after}
 use Rattle.flow_model.specs.Keys.{Cells}
 use Rattle.flow_model.specs.Setup.{Setup}
@@ -26,10 +25,8 @@ use Rattle.flux_items.specs.declared.rules.ItemFault.TheVariants as items_
 use Rattle.flux_items.specs.Items.{AreItemsOf}
 use Rattle.flux_items.specs.Faults.{IsFaultOf}
 use Rattle.flux_laws.specs.Hoisted.{locks_of}
-use Rattle.flux_words.specs.declared.values.Runtime.{Runtime}
-use Rattle.flux_driver.specs.declared.running.Printing.{Printing}
 use Rattle.flux_driver.specs.declared.running.Wanted.{Wanted}
-use Rattle.flux_driver.specs.TrueRuns.{setup_of, IsTrueRun, printed_by}
+use Rattle.flux_driver.specs.TrueRuns.{setup_of, printed_by}
 use Rattle.flux_driver.specs.Items.{rules_of}
 use Rattle.flux_driver.specs.steps.Running.{CanRun, IsDriven, HasParts, IsRun, AreRefused}
 use Rattle.flux_driver.specs.declared.refusals.Refusal.{Refusal}

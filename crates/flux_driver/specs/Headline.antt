@@ -1,11 +1,9 @@
 -- The headline: what `run` has done where the program answered 0, and that it does so where nothing is in the way.
 use Rattle.std.specs.Prelude.{◌≡◌, List, [], ℕ, length}
-use Rattle.flux_values.specs.Meanings.{LibraryMeaning}
 use Rattle.flux_library.specs.Documents.{DocMap}
 use Rattle.flux_model.specs.declared.items.Item.{Item}
 use Rattle.flux_model.specs.Locks.{Holds}
 use Rattle.flow_model.specs.declared.journals.Journal.{Journal}
-use Rattle.flow_model.specs.Setup.{Setup}
 use Rattle.flow_model.specs.Legal.{IsLegal, IsWhole}
 use Rattle.flux_items.specs.declared.rules.ItemFault.{ItemFault}
 use Rattle.flux_items.specs.Items.{AreItemsOf}

@@ -1,6 +1,5 @@
 use Rattle.std.specs.Arc.{arc_value}
 use Rattle.std.proofs.Common.{◌≡◌, ◌∙◌}
-use Rattle.flow_model.specs.Setup.{Setup}
 use Rattle.flow_core.specs.States.{setup_in}
 use Rattle.flux_cells.specs.Kept.{cells_of}
 use Rattle.flux_laws.specs.Hoisted.{locks_of}
