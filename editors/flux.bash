@@ -21,12 +21,12 @@ _flux() {
     [[ " $options " = *" $before "* ]] || before=""
     case "$before" in
         --docs) mapfile -t COMPREPLY < <(compgen -d -- "$word") && return ;;
-        --runtime) values="event script=" ;;
+        --runtime) values="event perflow pool= script=" ;;
         --journal) values="1 2" ;;
     esac
     if [ -n "$values" ]; then
         mapfile -t COMPREPLY < <(compgen -W "$values" -- "$word")
-        [ "${COMPREPLY[*]-}" != "script=" ] || compopt -o nospace
+        [[ "${COMPREPLY[*]-}" != *= ]] || compopt -o nospace
         return
     fi
     if [[ -n "$options" && "$word" = -* ]]; then

@@ -19,17 +19,30 @@ pub enum Part {
     Stream(Stream),
 }
 
-/// What a stream has to gain: all of a text, or a front of it.
+/// How much of a text a stream has to gain.
+#[derive(Clone, Copy)]
+pub enum Measure {
+    All,
+    Front,
+    /// Of any text: the journal of some run. A run's journal is audited.
+    SomeJournal,
+}
+
+/// What a stream has to gain.
 #[derive(Drop)]
 pub struct Gain {
-    pub front: bool,
+    pub measure: Measure,
     pub text: Bytes,
 }
 
 impl Gain {
     pub fn is_met(&self, got: &[u8]) -> bool {
         let text = self.text.as_bytes();
-        got == text || self.front && text.starts_with(got)
+        match self.measure {
+            Measure::All => got == text,
+            Measure::Front => text.starts_with(got),
+            Measure::SomeJournal => !got.is_empty(),
+        }
     }
 }
 

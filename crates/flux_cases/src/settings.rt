@@ -1,7 +1,7 @@
 //! One line of a case, read by its first word.
 
 use crate::bodies::{append_piece, begun, named, read_document, read_documents};
-use crate::entries::{Entry, Gain, Line, Part, Stream};
+use crate::entries::{Entry, Gain, Line, Measure, Part, Stream};
 use crate::spellings::{calls_of, number_of, word_of, words_of};
 use crate::troubles::LineFault;
 use flux_values::Bytes;
@@ -72,14 +72,15 @@ fn piece(rest: &str) -> Result<Entry, LineFault> {
     }
 }
 
-/// What a stream gains: a text, or behind `front of` a text of which it gains a front.
+/// What a stream gains: a text, or behind `front of` a text of which it gains a front, or `some journal`.
 fn gain(alloc: Global, stream: Stream, rest: &str, lines: &[Line]) -> Result<Entry, LineFault> {
-    let (front, piece) = match rest.strip_prefix("front of") {
-        Some(piece) => (true, piece.trim_start()),
-        None => (false, rest),
+    let (measure, piece) = match rest.strip_prefix("front of") {
+        Some(piece) => (Measure::Front, piece.trim_start()),
+        None if rest.as_bytes() == b"some journal".as_slice() => (Measure::SomeJournal, ""),
+        None => (Measure::All, rest),
     };
     let text = begun(alloc, piece, lines)?;
-    Ok(Entry::Gain(stream, Gain { front, text }))
+    Ok(Entry::Gain(stream, Gain { measure, text }))
 }
 
 /// Adds a piece to what the last entry began.

@@ -4,6 +4,7 @@ use Rattle.std.specs.Result.{IsErrAnd}
 use Rattle.std.specs.Arc.{arc_value}
 use Rattle.flux_values.specs.Meanings.{LibraryMeaning}
 use Rattle.flux_model.specs.declared.programs.Program.{Program}
+use Rattle.flow_model.specs.declared.journals.Entry.{Entry}
 use Rattle.flow_model.specs.CellsAfter.{cells_after}
 use Rattle.flow_model.specs.Keys.{Cells}
 use Rattle.flow_model.specs.Setup.{Setup}
@@ -25,10 +26,13 @@ use Rattle.flux_items.specs.declared.rules.ItemFault.TheVariants as items_
 use Rattle.flux_items.specs.Items.{AreItemsOf}
 use Rattle.flux_items.specs.Faults.{IsFaultOf}
 use Rattle.flux_laws.specs.Hoisted.{locks_of}
+use Rattle.flux_words.specs.declared.values.Runtime.{Runtime}
+use Rattle.nodes_all.specs.declared.all.All.{All}
+use Rattle.flux_driver.specs.BuiltIn.{meaning_in}
 use Rattle.flux_driver.specs.declared.running.Wanted.{Wanted}
 use Rattle.flux_driver.specs.TrueRuns.{setup_of, printed_by}
 use Rattle.flux_driver.specs.Items.{rules_of}
-use Rattle.flux_driver.specs.steps.Running.{CanRun, IsDriven, HasParts, IsRun, AreRefused}
+use Rattle.flux_driver.specs.steps.Running.{CanRun, IsDriven, DrivesTo, HasParts, IsRun, AreRefused}
 use Rattle.flux_driver.specs.declared.refusals.Refusal.{Refusal}
 use Rattle.flux_driver.specs.steps.Refusals.{of_items}
 use Rattle.flux_driver.proofs.Passed.{passed}
@@ -100,3 +104,10 @@ of_items_refused rules text (items_.TooMany line) (inr is) = is
 pub cause_refused : {X : Type 0} (rules : ItemRules) (text : List ℕ) (fault : ItemFault) (result : Result X Refusal) → IsErrAnd result (λ e. e ≡ of_items fault) → (fault ≡ items_.Memory) ⊎ IsFaultOf rules fault text
     → IfErr result (AreRefused rules text)
 cause_refused rules text fault result is cause = passed (AreRefused rules text) (of_items fault) result is (of_items_refused rules text fault cause)
+
+-- the cells at the end of a core that was driven
+pub cells_driven : (runtime : Runtime) (old new : CoreState All) (journal : Journal) (cells : Cells) → DrivesTo meaning_in runtime old new → journal.entries ≡ new.entries
+    → cells ≡ cells_after (setup_in meaning_in new) new.entries → cells ≡ cells_after (setup_in meaning_in old) journal.entries
+cells_driven runtime old new journal cells to is closing =
+    subst (λ (s : Setup). cells ≡ cells_after s journal.entries) (ap (setup_by meaning_in) to.setup_)
+    (subst (λ (es : List Entry). cells ≡ cells_after (setup_in meaning_in new) es) (sym is) closing)

@@ -8,17 +8,18 @@ ghost use Rattle.flux_driver.specs.Commands.{folder_of};
 ghost use Rattle.flux_driver.specs.Answers.{IsAnswer};
 ghost use Rattle.flux_driver.specs.Top.{HasAsked};
 ghost use Rattle.flux_driver.specs.steps.Refusals.{status_of, line_of};
+ghost use Rattle.flux_driver.specs.steps.Running.{CanDrive};
 ghost use Rattle.flux_driver.specs.steps.Preparing.{AsksAll, PreparesAll, IsRefusedAll, CountsBoth, AnswersDue, AnswersWords, PreparesWords, prepared_status};
 
 use crate::commands::prepare;
 use crate::documents::load_docs;
 use crate::prepared::Prepared;
 use crate::refusals::Refusal;
-use flow_core::Gate;
+use flow_core::Core;
 use flux_library::Docs;
 use flux_outside::{Folder, Store};
 use flux_values::{Bytes, Memory};
-use flux_words::{Asked, read_words};
+use flux_words::{Asked, Runtime, read_words};
 use nodes_all::All;
 use std::alloc::Global;
 use std::sync::Arc;
@@ -42,13 +43,14 @@ fn share(alloc: Global, docs: Docs) -> Result<Arc<All>, Memory>
 }
 
 /// What a command prints: all of it is made before any of it is written.
-fn prepare_asked<'a, S: Store, F: Folder, G: Gate>(
+fn prepare_asked<'a, S: Store, F: Folder, D: Fn(Core<All>, Runtime) -> Result<Core<All>, Memory>>(
     alloc: Global,
     store: &mut S,
     folder: &mut F,
-    gate: &G,
+    driver: &D,
     wanted: Asked<'a>,
 ) -> Result<Prepared, Refusal<'a>>
+    requires { CanDrive (D.pre driver.now) (D.post driver.now) }
     ensures kept { S.files store.new ≡ S.files store.old }
     ensures kept_folders { F.folders folder.new ≡ F.folders folder.old }
     ensures later { S.faults store.old ≤ S.faults store.new }
@@ -69,17 +71,23 @@ fn prepare_asked<'a, S: Store, F: Folder, G: Gate>(
 {
     let docs = load_docs(alloc, folder, dir_of(&wanted))?;
     let library = share(alloc, docs)?;
-    prepare(alloc, library, store, gate, wanted)
+    prepare(alloc, library, store, driver, wanted)
 }
 
 /// What the words print.
-pub fn prepare_words<'a, S: Store, F: Folder, G: Gate>(
+pub fn prepare_words<
+    'a,
+    S: Store,
+    F: Folder,
+    D: Fn(Core<All>, Runtime) -> Result<Core<All>, Memory>,
+>(
     alloc: Global,
     store: &mut S,
     folder: &mut F,
-    gate: &G,
+    driver: &D,
     words: &'a [Bytes],
 ) -> Result<Prepared, Refusal<'a>>
+    requires { CanDrive (D.pre driver.now) (D.post driver.now) }
     ensures kept { S.files store.new ≡ S.files store.old }
     ensures kept_folders { F.folders folder.new ≡ F.folders folder.old }
     ensures later { S.faults store.old ≤ S.faults store.new }
@@ -100,7 +108,7 @@ pub fn prepare_words<'a, S: Store, F: Folder, G: Gate>(
         (prepared_status result) }
 {
     match read_words(alloc, words)? {
-        Some(wanted) => prepare_asked(alloc, store, folder, gate, wanted),
+        Some(wanted) => prepare_asked(alloc, store, folder, driver, wanted),
         None => Err(Refusal::Usage),
     }
 }

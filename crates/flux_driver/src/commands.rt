@@ -4,9 +4,11 @@ ghost use Rattle.std.specs.Prelude.{◌≡◌, ◌≤◌, IfOk, IfErr, ℕ, List
 ghost use Rattle.std.specs.Arc.{arc_value};
 ghost use Rattle.flux_words.specs.Commands.{check, plan, format, audit, load};
 ghost use Rattle.flux_words.specs.Asking.{asked};
+ghost use Rattle.flux_driver.specs.BuiltIn.{meaning_in};
 ghost use Rattle.flux_driver.specs.Worlds.{Files};
 ghost use Rattle.flux_driver.specs.Printed.{help_text};
 ghost use Rattle.flux_driver.specs.steps.Refusals.{Counts, IsRefused};
+ghost use Rattle.flux_driver.specs.steps.Running.{CanDrive};
 ghost use Rattle.flux_driver.specs.steps.Preparing.{run_of, AsksFiles, IsPrepared, prepared_status, IsFirm};
 
 use crate::audited::audit_text;
@@ -16,7 +18,7 @@ use crate::prepared::Prepared;
 use crate::refusals::Refusal;
 use crate::running::{Printing, Wanted, run_items};
 use crate::texts::{check_text, read_text};
-use flow_core::Gate;
+use flow_core::Core;
 use flux_hoist::{print_plan, report};
 use flux_library::Library;
 use flux_load::make;
@@ -24,6 +26,7 @@ use flux_outside::Store;
 use flux_syntax::format;
 use flux_values::{Bytes, Memory};
 use flux_words::{Asked, JournalFormat, Runtime};
+use nodes_all::All;
 use std::alloc::Global;
 use std::sync::Arc;
 
@@ -106,34 +109,35 @@ fn prepare_format<'a, L: Library, S: Store>(
 }
 
 /// The journal that `run` prints.
-fn prepare_run<'a, L: Library, S: Store, G: Gate>(
+fn prepare_run<'a, S: Store, D: Fn(Core<All>, Runtime) -> Result<Core<All>, Memory>>(
     alloc: Global,
-    library: Arc<L>,
+    library: Arc<All>,
     store: &mut S,
-    gate: &G,
+    driver: &D,
     file: &'a [u8],
     items: &'a [u8],
     runtime: Runtime,
     journal: JournalFormat,
 ) -> Result<Prepared, Refusal<'a>>
+    requires { CanDrive (D.pre driver.now) (D.post driver.now) }
     ensures kept { S.files store.new ≡ S.files store.old }
     ensures later { S.faults store.old ≤ S.faults store.new }
-    ensures asked { (docs : Option (List ℕ)) → AsksFiles (L.meaning (arc_value library))
+    ensures asked { (docs : Option (List ℕ)) → AsksFiles (meaning_in (arc_value library))
         (run_of file.now items.now runtime docs journal) (S.files store.old)
         (S.asked store.old) (S.asked store.new) }
-    ensures done { (docs : Option (List ℕ)) → IfOk result (IsPrepared (L.meaning (arc_value library))
+    ensures done { (docs : Option (List ℕ)) → IfOk result (IsPrepared (meaning_in (arc_value library))
         (run_of file.now items.now runtime docs journal) (S.files store.old)) }
-    ensures refused { (docs : Option (List ℕ)) → IfErr result (IsRefused (L.meaning (arc_value library))
+    ensures refused { (docs : Option (List ℕ)) → IfErr result (IsRefused (meaning_in (arc_value library))
         (run_of file.now items.now runtime docs journal) (S.files store.old)) }
     ensures counts { Counts result (S.faults store.old) (S.faults store.new) }
-    ensures firm { (docs : Option (List ℕ)) → IsFirm (L.meaning (arc_value library))
+    ensures firm { (docs : Option (List ℕ)) → IsFirm (meaning_in (arc_value library))
         (run_of file.now items.now runtime docs journal) (S.files store.old)
         (prepared_status result) }
 {
     let loaded = load_files(alloc, &*library, store, file, items)?;
     let printing = Printing::Journal(journal);
     let wanted = Wanted { runtime, printing };
-    let text = run_items(alloc, library, loaded.checked, loaded.items, wanted, gate)?;
+    let text = run_items(alloc, library, loaded.checked, loaded.items, wanted, driver)?;
     Ok(Prepared::Text(text))
 }
 
@@ -167,27 +171,28 @@ fn prepare_audit<'a, L: Library, S: Store>(
 }
 
 /// The summary that `load` prints.
-fn prepare_load<'a, L: Library, G: Gate>(
+fn prepare_load<'a, D: Fn(Core<All>, Runtime) -> Result<Core<All>, Memory>>(
     alloc: Global,
-    library: Arc<L>,
-    gate: &G,
+    library: Arc<All>,
+    driver: &D,
     count: u32,
     first: u32,
     runtime: Runtime,
 ) -> Result<Prepared, Refusal<'a>>
-    ensures done { (told : Files) → IfOk result (IsPrepared (L.meaning (arc_value library))
+    requires { CanDrive (D.pre driver.now) (D.post driver.now) }
+    ensures done { (told : Files) → IfOk result (IsPrepared (meaning_in (arc_value library))
         (load count first runtime) told) }
-    ensures refused { (told : Files) → IfErr result (IsRefused (L.meaning (arc_value library))
+    ensures refused { (told : Files) → IfErr result (IsRefused (meaning_in (arc_value library))
         (load count first runtime) told) }
     ensures counts { (faults : ℕ) → Counts result faults faults }
-    ensures firm { (told : Files) → IsFirm (L.meaning (arc_value library))
+    ensures firm { (told : Files) → IsFirm (meaning_in (arc_value library))
         (load count first runtime) told (prepared_status result) }
 {
     let (program, items) = make(alloc, count, first)?;
     let loaded = load_texts(alloc, &*library, program.as_bytes(), items.as_bytes())?;
     let printing = Printing::Summary;
     let wanted = Wanted { runtime, printing };
-    let summary = run_items(alloc, library, loaded.checked, loaded.items, wanted, gate)?;
+    let summary = run_items(alloc, library, loaded.checked, loaded.items, wanted, driver)?;
     Ok(Prepared::Text(summary))
 }
 
@@ -199,23 +204,24 @@ fn prepare_help(alloc: Global) -> Result<Bytes, Memory>
 }
 
 /// What a command prints, with a library.
-pub fn prepare<'a, L: Library, S: Store, G: Gate>(
+pub fn prepare<'a, S: Store, D: Fn(Core<All>, Runtime) -> Result<Core<All>, Memory>>(
     alloc: Global,
-    library: Arc<L>,
+    library: Arc<All>,
     store: &mut S,
-    gate: &G,
+    driver: &D,
     wanted: Asked<'a>,
 ) -> Result<Prepared, Refusal<'a>>
+    requires { CanDrive (D.pre driver.now) (D.post driver.now) }
     ensures kept { S.files store.new ≡ S.files store.old }
     ensures later { S.faults store.old ≤ S.faults store.new }
-    ensures asked { AsksFiles (L.meaning (arc_value library)) (asked wanted.entry)
+    ensures asked { AsksFiles (meaning_in (arc_value library)) (asked wanted.entry)
         (S.files store.old) (S.asked store.old) (S.asked store.new) }
-    ensures done { IfOk result (IsPrepared (L.meaning (arc_value library)) (asked wanted.entry)
+    ensures done { IfOk result (IsPrepared (meaning_in (arc_value library)) (asked wanted.entry)
         (S.files store.old)) }
-    ensures refused { IfErr result (IsRefused (L.meaning (arc_value library)) (asked wanted.entry)
+    ensures refused { IfErr result (IsRefused (meaning_in (arc_value library)) (asked wanted.entry)
         (S.files store.old)) }
     ensures counts { Counts result (S.faults store.old) (S.faults store.new) }
-    ensures firm { IsFirm (L.meaning (arc_value library)) (asked wanted.entry)
+    ensures firm { IsFirm (meaning_in (arc_value library)) (asked wanted.entry)
         (S.files store.old) (prepared_status result) }
 {
     match wanted {
@@ -228,7 +234,7 @@ pub fn prepare<'a, L: Library, S: Store, G: Gate>(
             runtime,
             docs: _,
             journal,
-        } => prepare_run(alloc, library, store, gate, file, items, runtime, journal),
+        } => prepare_run(alloc, library, store, driver, file, items, runtime, journal),
         Asked::Audit {
             file,
             items,
@@ -239,7 +245,7 @@ pub fn prepare<'a, L: Library, S: Store, G: Gate>(
             count,
             first,
             runtime,
-        } => prepare_load(alloc, library, gate, count, first, runtime),
+        } => prepare_load(alloc, library, driver, count, first, runtime),
         Asked::Help => Ok(Prepared::Text(prepare_help(alloc)?)),
     }
 }

@@ -1,18 +1,21 @@
 //! All that the program does, as one call.
 
-ghost use Rattle.std.specs.Prelude.{◌≡◌, IfOk, IsErr};
+ghost use Rattle.std.specs.Prelude.{◌≡◌, [], IfOk, IsErr};
 ghost use Rattle.flux_words.specs.Commands.{Command, Spells, NeedsThreads};
-ghost use Rattle.flux_driver.specs.BuiltIn.{built_in};
+ghost use Rattle.flux_driver.specs.BuiltIn.{built_in, meaning_in};
 ghost use Rattle.flux_driver.specs.Worlds.{Seen, seen_by};
 ghost use Rattle.flux_driver.specs.Top.{HasDone};
+ghost use Rattle.flux_driver.specs.steps.Running.{CanDrive, DrivesTo};
 
 use crate::asking::prepare_words;
+use crate::running::{drive_alone, drive_by_threads};
 use crate::statuses::Status;
 use crate::telling::{print, refuse};
-use flow_core::Gate;
+use flow_core::{Core, Gate};
 use flux_outside::{Folder, Sink, Store};
 use flux_values::{Bytes, List, Memory};
-use flux_words::needs_threads;
+use flux_words::{Runtime, needs_threads};
+use nodes_all::All;
 use std::alloc::Global;
 use std::marker::Sync;
 use std::sync::Wait;
@@ -26,6 +29,25 @@ pub struct World<S: Store, F: Folder, O: Sink, E: Sink> {
     pub folder: F,
     pub out: O,
     pub err: E,
+}
+
+/// Does what the words say, and answers how it ended. A run's flows are driven as the caller likes.
+fn act<
+    S: Store,
+    F: Folder,
+    O: Sink,
+    E: Sink,
+    D: Fn(Core<All>, Runtime) -> Result<Core<All>, Memory>,
+>(alloc: Global, words: &[Bytes], world: &mut World<S, F, O, E>, driver: &D) -> Status
+    requires { CanDrive (D.pre driver.now) (D.post driver.now) }
+    ensures { let seen = seen_by S.files S.asked S.faults F.folders F.asked F.faults O.written O.faults
+        E.written E.faults in
+        HasDone built_in words.now (seen world.old) result (seen world.new) }
+{
+    match prepare_words(alloc, &mut world.store, &mut world.folder, driver, words) {
+        Ok(prepared) => print(&mut world.out, &mut world.err, &prepared),
+        Err(refusal) => refuse(alloc, &mut world.err, refusal),
+    }
 }
 
 /// Does what the words say without starting a thread, and answers how it ended.
@@ -42,10 +64,15 @@ pub fn top_alone<S: Store, F: Folder, O: Sink, E: Sink, G: Gate>(
         E.written E.faults in
         HasDone built_in words.now (seen world.old) result (seen world.new) }
 {
-    match prepare_words(alloc, &mut world.store, &mut world.folder, gate, words) {
-        Ok(prepared) => print(&mut world.out, &mut world.err, &prepared),
-        Err(refusal) => refuse(alloc, &mut world.err, refusal),
-    }
+    act(
+        alloc,
+        words,
+        world,
+        &|core: Core<All>, runtime: Runtime|
+            requires { core.entries ≡ [] }
+            ensures { IfOk result (DrivesTo meaning_in runtime core) }
+        { drive_alone(core, runtime, gate) },
+    )
 }
 
 /// Does what the words say, and answers how it ended.
@@ -57,7 +84,7 @@ pub fn top_alone<S: Store, F: Folder, O: Sink, E: Sink, G: Gate>(
 /// journal of such a run, `load N K` runs a large load of its own and prints what it counted, and `help` prints
 /// the commands. The clause speaks of what is seen of the world before and after the call. The gate is told before and after each call of a
 /// node.
-pub fn top<S: Store, F: Folder, O: Sink, E: Sink, G: Gate, Rt: Threads + Wait + Sync>(
+pub fn top<S: Store, F: Folder, O: Sink, E: Sink, G: Gate + Sync, Rt: Threads + Wait + Sync>(
     rt: &Rt,
     alloc: Global,
     words: &[Bytes],
@@ -68,12 +95,18 @@ pub fn top<S: Store, F: Folder, O: Sink, E: Sink, G: Gate, Rt: Threads + Wait + 
         E.written E.faults in
         HasDone built_in words.now (seen world.old) result (seen world.new) }
 {
-    // No runtime that starts threads can be asked for yet.
-    let _ = rt;
-    if needs_threads(words) {
-        unreachable!()
+    if !needs_threads(words) {
+        return top_alone(alloc, words, world, gate);
     }
-    top_alone(alloc, words, world, gate)
+    act(
+        alloc,
+        words,
+        world,
+        &|core: Core<All>, runtime: Runtime|
+            requires { core.entries ≡ [] }
+            ensures { IfOk result (DrivesTo meaning_in runtime core) }
+        { drive_by_threads(rt, core, runtime, gate) },
+    )
 }
 
 /// Does what the words say in the world, and answers how it ended: that there was no memory where there was none for the
@@ -83,7 +116,7 @@ pub fn answer<
     F: Folder + Drop,
     O: Sink + Drop,
     E: Sink + Drop,
-    G: Gate,
+    G: Gate + Sync,
     Rt: Threads + Wait + Sync,
 >(
     rt: &Rt,

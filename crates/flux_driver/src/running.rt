@@ -6,8 +6,9 @@ ghost use Rattle.flux_model.specs.declared.programs.TheConstants.{COUNT_LIMIT};
 ghost use Rattle.flow_model.specs.CellsAfter.{cells_after};
 ghost use Rattle.flux_cells.specs.Kept.{cells_of};
 ghost use Rattle.flow_core.specs.States.{setup_in};
+ghost use Rattle.flux_driver.specs.BuiltIn.{meaning_in};
 ghost use Rattle.flux_driver.specs.TrueRuns.{printed_in, printed_by};
-ghost use Rattle.flux_driver.specs.steps.Running.{CanRun, IsDriven, IsRun, HasParts};
+ghost use Rattle.flux_driver.specs.steps.Running.{CanRun, IsDriven, DrivesTo, CanDrive, IsRun, HasParts};
 
 use crate::summaries::print_summary;
 use flow_core::{Core, Gate, Setup};
@@ -21,9 +22,12 @@ use flux_model::{Item, Program};
 use flux_plan::VerifiedPlan;
 use flux_values::{Bytes, List, Memory};
 use flux_words::{JournalFormat, Runtime};
+use nodes_all::All;
 use rt_all::Chosen;
 use std::alloc::Global;
-use std::sync::Arc;
+use std::marker::{Send, Sync};
+use std::sync::{Arc, Wait};
+use std::thread::Threads;
 
 /// What is printed of a run.
 #[derive(Clone, Copy, Debug, PartialEq, Eq)]
@@ -39,18 +43,50 @@ pub struct Wanted {
     pub printing: Printing,
 }
 
-/// The journal of a core that is driven to its end, and its cells then.
-fn drive<L: Library, G: Gate>(
+/// A core without entries, driven to its end on the thread that calls.
+pub fn drive_alone<L: Library, G: Gate>(
     core: Core<L>,
     runtime: Runtime,
     gate: &G,
-) -> Result<(Journal, Cells), Memory>
+) -> Result<Core<L>, Memory>
     requires { core.entries ≡ [] }
-    ensures driven { IfOk result (λ ended. IsDriven (setup_in L.meaning core) runtime ended.0.entries) }
-    ensures cells { IfOk result (λ ended. cells_of ended.1
-        ≡ cells_after (setup_in L.meaning core) ended.0.entries) }
+    ensures { IfOk result (DrivesTo L.meaning runtime core) }
 {
     match Chosen::by(runtime).drive_alone(core, gate) {
+        Ok(core) => Ok(core),
+        Err(_) => Err(Memory),
+    }
+}
+
+/// A core without entries, driven to its end by threads where the runtime starts some.
+pub fn drive_by_threads<L: Library + Send + Sync, G: Gate + Sync, Rt: Threads + Wait + Sync>(
+    rt: &Rt,
+    core: Core<L>,
+    runtime: Runtime,
+    gate: &G,
+) -> Result<Core<L>, Memory>
+    requires { core.entries ≡ [] }
+    ensures { IfOk result (DrivesTo L.meaning runtime core) }
+{
+    match Chosen::by(runtime).drive_by_threads(rt, core, gate) {
+        Ok(core) => Ok(core),
+        Err(_) => Err(Memory),
+    }
+}
+
+/// The journal of a core that is driven to its end, and its cells then.
+fn drive<D: Fn(Core<All>, Runtime) -> Result<Core<All>, Memory>>(
+    core: Core<All>,
+    runtime: Runtime,
+    driver: &D,
+) -> Result<(Journal, Cells), Memory>
+    requires empty { core.entries ≡ [] }
+    requires drives { CanDrive (D.pre driver.now) (D.post driver.now) }
+    ensures driven { IfOk result (λ ended. IsDriven (setup_in meaning_in core) runtime ended.0.entries) }
+    ensures cells { IfOk result (λ ended. cells_of ended.1
+        ≡ cells_after (setup_in meaning_in core) ended.0.entries) }
+{
+    match driver(core, runtime) {
         Ok(core) => Ok(core.into_parts()),
         Err(_) => Err(Memory),
     }
@@ -112,16 +148,17 @@ fn print(
 }
 
 /// What is printed of the run of items.
-pub fn run_items<L: Library, G: Gate>(
+pub fn run_items<D: Fn(Core<All>, Runtime) -> Result<Core<All>, Memory>>(
     alloc: Global,
-    library: Arc<L>,
+    library: Arc<All>,
     checked: Checked,
     items: List<Item>,
     wanted: Wanted,
-    gate: &G,
+    driver: &D,
 ) -> Result<Bytes, Memory>
-    requires { CanRun (L.meaning (arc_value library)) checked.program items }
-    ensures { IfOk result (IsRun (L.meaning (arc_value library)) checked.program items wanted) }
+    requires can { CanRun (meaning_in (arc_value library)) checked.program items }
+    requires drives { CanDrive (D.pre driver.now) (D.post driver.now) }
+    ensures { IfOk result (IsRun (meaning_in (arc_value library)) checked.program items wanted) }
 {
     let flows = items.len() as u32;
     let plans = compile(alloc, &checked)?;
@@ -129,6 +166,6 @@ pub fn run_items<L: Library, G: Gate>(
     let kept = Arc::try_clone(&program)?;
     let setup = set_up(alloc, library, program, plans, items)?;
     let core = Core::new(alloc, setup)?;
-    let (journal, cells) = drive(core, wanted.runtime, gate)?;
+    let (journal, cells) = drive(core, wanted.runtime, driver)?;
     print(alloc, wanted.printing, &kept, flows, &journal, &cells)
 }

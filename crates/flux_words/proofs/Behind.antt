@@ -75,13 +75,13 @@ not_three (files.Two x y) file items journal other e = let n = ap length e in om
 not_three (files.Three x y z) file items journal other e = other x y z (λ i. files.Three x y z)
 
 module _ (words : List (List ℕ)) (given : Given) (is : IsGiven words given) where
-  run_fits : (file items : List ℕ) (manner : Manner) → HasParts words (FitsRun file items manner) → FitsRun file items manner is.parts
+  pub run_fits : (file items : List ℕ) (manner : Manner) → HasParts words (FitsRun file items manner) → FitsRun file items manner is.parts
   run_fits file items manner has = fits_given words given is (FitsRun file items manner) has
 
   audit_fits : (file items journal : List ℕ) (docs : Option (List ℕ)) → HasParts words (FitsAudit file items journal docs) → FitsAudit file items journal docs is.parts
   audit_fits file items journal docs has = fits_given words given is (FitsAudit file items journal docs) has
 
-  load_fits : (count first : ℕ) (runtime : Runtime) → HasParts words (FitsLoad count first runtime) → FitsLoad count first runtime is.parts
+  pub load_fits : (count first : ℕ) (runtime : Runtime) → HasParts words (FitsLoad count first runtime) → FitsLoad count first runtime is.parts
   load_fits count first runtime has = fits_given words given is (FitsLoad count first runtime) has
 
   -- ---- `run`
@@ -188,23 +188,27 @@ pub all_asked : (words : List (List ℕ)) (result : Result (Option Asked) Memory
 all_asked words (Ok found) command is spells = one_asked words found command is spells
 all_asked words (Err e) command is spells = tt
 
+-- what words spell has their name, and the words behind it
+pub behind_name : (words rest : List (List ℕ)) (first : List ℕ) (name : CommandName) (command : Command) → words ≡ first ∷ rest → IsNamed name first → Spells words command → IsCommand name rest command
+behind_name words rest first name command are named spells =
+    let both : spells.first ∷ spells.rest ≡ first ∷ rest = sym spells.are ∙ are in
+    let same_first : spells.first ≡ first = cc in
+    let same_rest : spells.rest ≡ rest = cc in
+    record {
+      is = one_name (name_of command) name first (subst (IsNamed (name_of command)) same_first spells.named) named;
+      behind = subst (StandsBehind command) same_rest spells.behind;
+    }
+
 -- a name and the words behind it
+pub spelled_whole : (words rest : List (List ℕ)) (first : List ℕ) (name : CommandName) (command : Command) → words ≡ first ∷ rest → IsNamed name first → IsCommand name rest command → Spells words command
+spelled_whole words rest first name command are named is = record { first = first; rest = rest; are = are; named = subst (λ (n : CommandName). IsNamed n first) (sym is.is) named; behind = is.behind }
+
 asked_whole : (words rest : List (List ℕ)) (first : List ℕ) (name : CommandName) (found : Option Asked) → words ≡ first ∷ rest → IsNamed name first → IsAskedBehind name rest found → IsAsked words found
-asked_whole words rest first name (Some a) are named is = record { first = first; rest = rest; are = are; named = subst (λ (n : CommandName). IsNamed n first) (sym is.is) named; behind = is.behind }
-asked_whole words rest first name None are named none = λ command spells. none command (other command spells)
-  where
-    other : (command : Command) → Spells words command → IsCommand name rest command
-    other command spells =
-        let both : spells.first ∷ spells.rest ≡ first ∷ rest = sym spells.are ∙ are in
-        let same_first : spells.first ≡ first = cc in
-        let same_rest : spells.rest ≡ rest = cc in
-        record {
-          is = one_name (name_of command) name first (subst (IsNamed (name_of command)) same_first spells.named) named;
-          behind = subst (StandsBehind command) same_rest spells.behind;
-        }
+asked_whole words rest first name (Some a) are named is = spelled_whole words rest first name (asked a) are named is
+asked_whole words rest first name None are named none = λ command spells. none command (behind_name words rest first name command are named spells)
 
 -- a first word and those behind it
-first_and_rest : (words : List (List ℕ)) (first : List ℕ) → 1 ≤ length words → first ≡ get_or words 0 first → words ≡ first ∷ take (length words - 1) (drop 1 words)
+pub first_and_rest : (words : List (List ℕ)) (first : List ℕ) → 1 ≤ length words → first ≡ get_or words 0 first → words ≡ first ∷ take (length words - 1) (drop 1 words)
 first_and_rest [] first some is = absurd (omega arith)
 first_and_rest (v ∷ words) first some is =
     ap (λ (w : List ℕ). w ∷ words) (sym is) ∙ ap (λ (l : List (List ℕ)). first ∷ l) (sym (take_all (length (v ∷ words) - 1) words (omega arith)))

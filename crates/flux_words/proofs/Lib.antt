@@ -4,3 +4,4 @@ pub mod Gathered
 pub mod Numbers
 pub mod OneCommand
 pub mod Behind
+pub mod AskingThreads

@@ -1,15 +1,19 @@
 -- Numbers of flows with commas between them, and the values of options: each is read one way.
-use Rattle.std.proofs.Common.{◌≡◌, ◌⊎◌, inl, inr, ℕ, zero, suc, ◌+◌, ◌-◌, ◌*◌, ◌<◌, ◌≤◌, List, [], ◌∷◌, ◌++◌, length, take, get_or, refl, sym, ap, ◌∙◌, subst, arith, codes}
+use Rattle.std.proofs.Common.{◌≡◌, ◌⊎◌, inl, inr, ℕ, Option, Some, None, zero, suc, ◌+◌, ◌-◌, ◌*◌, ◌<◌, ◌≤◌, List, [], ◌∷◌, ◌++◌, length, take, get_or, refl, sym, ap, ◌∙◌, subst, arith, codes}
+use Rattle.std.specs.Prelude.{◌↔◌, IsTrue}
+use Rattle.std.specs.Option.{is_some}
+use native.Mathlib.Bridge.{le_prop}
 use Rattle.std.specs.List.{AllByRecursion, slice_split}
 use Rattle.std.proofs.lemmas.List.{append_cancel_left, take_more, take_all}
 use Rattle.flux_model.specs.declared.items.FlowNo.{FlowNo}
-use Rattle.flux_words.specs.declared.values.TheConstants.{NUMBER_LIMIT}
+use Rattle.flux_words.specs.declared.values.TheConstants.{NUMBER_LIMIT, WORKER_LIMIT}
+use Rattle.flux_words.specs.declared.workers.Workers.{Workers}
 use Rattle.flux_words.specs.declared.values.Runtime.{Runtime}
-use Rattle.flux_words.specs.declared.values.Runtime.TheVariants.{Event, Script}
+use Rattle.flux_words.specs.declared.values.Runtime.TheVariants.{Event, Script, PerFlow, Pool}
 use Rattle.flux_words.specs.declared.values.JournalFormat.{JournalFormat}
 use Rattle.flux_words.specs.declared.values.JournalFormat.TheVariants.{One, Two}
-use Rattle.flux_words.specs.Values.{is_comma, IsDigit, number_from, SpellsNumber, SpellEach, SpellsNumbers, SpellsRuntime, SpellsFormat, IsRuntime, IsFormat}
-use Rattle.flux_words.specs.steps.Found.{AreSoFar}
+use Rattle.flux_words.specs.Values.{is_comma, IsDigit, number_from, SpellsNumber, SpellEach, SpellsNumbers, SpellsRuntime, StartsThreads, SpellsFormat, IsRuntime, IsFormat}
+use Rattle.flux_words.specs.steps.Found.{AreSoFar, IsThreadedRead, IsThreaded, IsRuntimeRead}
 
 -- ---- one number
 
@@ -136,24 +140,109 @@ no_numbers list n digits some at none numbers spells = elim spells.laid [
 
 -- ---- values
 
-no_event : (list : List ℕ) → codes "event" ≡ codes "script=" ++ list → ⊥
-no_event list e = let other : 101 ≡ 115 → ⊥ = λ f. omega (arith, f) in other (ap (λ (l : List ℕ). get_or l 0 0) e)
+-- what the second letter of a value tells of the runtime
+mark : Runtime → ℕ
+mark Event = 118
+mark (Script numbers) = 99
+mark PerFlow = 101
+mark (Pool workers) = 111
 
-one_value : (value : List ℕ) (a b : Runtime) → SpellsRuntime value a → SpellsRuntime value b → a ≡ b
-one_value value Event Event s t = refl
-one_value value Event (Script ys) s t = absurd (no_event t.0 (sym s ∙ t.1))
-one_value value (Script xs) Event s t = absurd (no_event s.0 (sym t ∙ s.1))
-one_value value (Script xs) (Script ys) s t =
+second : List ℕ → ℕ
+second value = get_or value 1 0
+
+marked : (value : List ℕ) (a : Runtime) → SpellsRuntime value a → second value ≡ mark a
+unfolding mark second
+marked value Event s = ap (λ (l : List ℕ). second l) s
+marked value (Script numbers) s = ap (λ (l : List ℕ). second l) s.1
+marked value PerFlow s = ap (λ (l : List ℕ). second l) s
+marked value (Pool workers) s = ap (λ (l : List ℕ). second l) s.1
+
+abbrev workers_of : (count : ℕ) → 1 ≤ count → count ≤ 16 → Workers
+workers_of count some few = record { count = count; some = some; few = few }
+
+same_count : (m n : ℕ) → m ≡ n → (some : 1 ≤ m) (some' : 1 ≤ n) (few : m ≤ 16) (few' : n ≤ 16)
+    → workers_of m some few ≡ workers_of n some' few'
+same_count m n e = subst
+    (λ (k : ℕ). (some : 1 ≤ m) (some' : 1 ≤ k) (few : m ≤ 16) (few' : k ≤ 16) → workers_of m some few ≡ workers_of k some' few') e
+    (λ some some' few few'. λ i. workers_of m (le_prop some some' i) (le_prop few few' i))
+
+same_workers : (a b : Workers) → a.count ≡ b.count → a ≡ b
+same_workers a b e = same_count a.count b.count e a.some b.some a.few b.few
+
+value_by_mark : (value : List ℕ) (a b : Runtime) → mark a ≡ mark b → SpellsRuntime value a → SpellsRuntime value b → a ≡ b
+unfolding mark
+value_by_mark value Event Event m s t = refl
+value_by_mark value (Script xs) (Script ys) m s t =
     let same : s.0 ≡ t.0 = append_cancel_left (codes "script=") s.0 t.0 (sym s.1 ∙ t.1) in
     ap Script (one_numbers t.0 xs ys (subst (λ (l : List ℕ). SpellsNumbers l xs) same s.2) t.2)
+value_by_mark value PerFlow PerFlow m s t = refl
+value_by_mark value (Pool v) (Pool w) m s t =
+    let same : s.0 ≡ t.0 = append_cancel_left (codes "pool=") s.0 t.0 (sym s.1 ∙ t.1) in
+    ap Pool (same_workers v w (one_number 1 WORKER_LIMIT t.0 v.count w.count (subst (λ (l : List ℕ). SpellsNumber 1 WORKER_LIMIT l v.count) same s.2) t.2))
+value_by_mark value a b m s t = absurd (omega (arith, m))
+
+one_value : (value : List ℕ) (a b : Runtime) → SpellsRuntime value a → SpellsRuntime value b → a ≡ b
+one_value value a b s t = value_by_mark value a b (sym (marked value a s) ∙ marked value b t) s t
+
+-- a value that begins as a script's spells no other runtime
+only_script : (value list : List ℕ) (runtime : Runtime) → value ≡ codes "script=" ++ list → SpellsRuntime value runtime → mark runtime ≡ 99
+unfolding second
+only_script value list runtime is s = sym (marked value runtime s) ∙ ap (λ (l : List ℕ). second l) is
 
 -- no runtime is spelled by a list that spells no numbers
-pub no_script : (value list : List ℕ) → (value ≡ codes "event" → ⊥) → value ≡ codes "script=" ++ list
+pub no_script : (value list : List ℕ) → value ≡ codes "script=" ++ list
     → ((numbers : List FlowNo) → SpellsNumbers list numbers → ⊥) → (runtime : Runtime) → SpellsRuntime value runtime → ⊥
-no_script value list other is none Event s = other s
-no_script value list other is none (Script numbers) s =
+unfolding mark
+no_script value list is none Event s = let e = only_script value list Event is s in omega (arith, e)
+no_script value list is none (Script numbers) s =
     let same : s.0 ≡ list = append_cancel_left (codes "script=") s.0 list (sym s.1 ∙ is) in
     none numbers (subst (λ (l : List ℕ). SpellsNumbers l numbers) same s.2)
+no_script value list is none PerFlow s = let e = only_script value list PerFlow is s in omega (arith, e)
+no_script value list is none (Pool workers) s = let e = only_script value list (Pool workers) is s in omega (arith, e)
+
+-- no runtime with threads is spelled by a value that is neither
+pub no_pool : (value : List ℕ) → (value ≡ codes "perflow" → ⊥) → ((digits : List ℕ) → value ≡ codes "pool=" ++ digits → ⊥)
+    → (runtime : Runtime) → SpellsRuntime value runtime → StartsThreads runtime → ⊥
+no_pool value other none Event s t = t
+no_pool value other none (Script numbers) s t = t
+no_pool value other none PerFlow s t = other s
+no_pool value other none (Pool workers) s t = none s.0 s.1
+
+pub no_workers : (value digits : List ℕ) → (value ≡ codes "perflow" → ⊥) → value ≡ codes "pool=" ++ digits
+    → ((number : ℕ) → SpellsNumber 1 WORKER_LIMIT digits number → ⊥) → (runtime : Runtime) → SpellsRuntime value runtime → StartsThreads runtime → ⊥
+no_workers value digits other is none Event s t = t
+no_workers value digits other is none (Script numbers) s t = t
+no_workers value digits other is none PerFlow s t = other s
+no_workers value digits other is none (Pool workers) s t =
+    let same : s.0 ≡ digits = append_cancel_left (codes "pool=") s.0 digits (sym s.1 ∙ is) in
+    none workers.count (subst (λ (l : List ℕ). SpellsNumber 1 WORKER_LIMIT l workers.count) same s.2)
+
+-- the runtime of a value that begins as no script's and isn't `event`
+pub threaded_read : (value : List ℕ) (found : Option Runtime) → (value ≡ codes "event" → ⊥) → ((list : List ℕ) → value ≡ codes "script=" ++ list → ⊥)
+    → IsThreadedRead value found → IsRuntimeRead (value ∷ []) found
+threaded_read value (Some runtime) other none is = is.0
+threaded_read value None other none is = λ runtime s. by runtime s
+  where
+    by : (runtime : Runtime) → SpellsRuntime value runtime → ⊥
+    by Event s = other s
+    by (Script numbers) s = none s.0 s.1
+    by PerFlow s = is PerFlow s tt
+    by (Pool workers) s = is (Pool workers) s tt
+
+-- one value, and a runtime with threads
+pub threaded_one : (value : List ℕ) (found : Option Runtime) → IsThreadedRead value found → IsTrue (is_some found) ↔ IsThreaded (value ∷ [])
+threaded_one value (Some runtime) read = ((λ e. record { runtime = runtime; is = read.0; starts = read.1 }), (λ t. refl))
+threaded_one value None read = ((λ e. absurd cc), (λ t. absurd (read t.runtime t.is t.starts)))
+
+-- no value, and no runtime with threads
+pub threaded_none : IsThreaded [] → ⊥
+threaded_none threaded = by threaded.runtime threaded.is threaded.starts
+  where
+    by : (runtime : Runtime) → runtime ≡ Event → StartsThreads runtime → ⊥
+    by Event is starts = starts
+    by (Script numbers) is starts = starts
+    by PerFlow is starts = absurd cc
+    by (Pool workers) is starts = absurd cc
 
 pub one_runtime : (values : List (List ℕ)) (a b : Runtime) → IsRuntime values a → IsRuntime values b → a ≡ b
 one_runtime [] a b s t = s ∙ sym t

@@ -3,7 +3,7 @@ use Rattle.std.specs.Prelude.{◌≡◌, ℕ, List, [], ◌∷◌, Option}
 use Rattle.flux_words.specs.declared.names.CommandName.{CommandName}
 use Rattle.flux_words.specs.declared.names.CommandName.TheVariants as names
 use Rattle.flux_words.specs.declared.values.Runtime.{Runtime}
-use Rattle.flux_words.specs.declared.values.Runtime.TheVariants.{Event, Script}
+use Rattle.flux_words.specs.Values.{StartsThreads}
 use Rattle.flux_words.specs.Names.{IsNamed}
 use Rattle.flux_words.specs.Behind.{Manner, IsFile, HasParts, FitsRun, FitsAudit, FitsLoad}
 
@@ -50,11 +50,6 @@ pub record Spells (words : List (List ℕ)) (command : Command) : Type 0 where
 -- the words spell no command
 abbrev pub SpellsNone : List (List ℕ) → Type 0
 SpellsNone words = (command : Command) → Spells words command → ⊥
-
--- a runtime that starts threads: none of those that can be asked for yet
-abbrev pub StartsThreads : Runtime → Type 0
-StartsThreads Event = ⊥
-StartsThreads (Script numbers) = ⊥
 
 -- a command that needs threads
 abbrev pub NeedsThreads : Command → Type 0

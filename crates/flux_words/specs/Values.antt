@@ -2,9 +2,9 @@
 use Rattle.std.specs.Prelude.{◌≡◌, ◌⊎◌, ℕ, ◌+◌, ◌-◌, ◌*◌, ◌==◌, ◌<◌, ◌≤◌, List, [], ◌∷◌, ◌++◌, length, codes, ⊤}
 use Rattle.std.specs.List.{AllByRecursion, slice_split}
 use Rattle.flux_model.specs.declared.items.FlowNo.{FlowNo}
-use Rattle.flux_words.specs.declared.values.TheConstants.{DIGIT_LIMIT, NUMBER_LIMIT}
+use Rattle.flux_words.specs.declared.values.TheConstants.{DIGIT_LIMIT, NUMBER_LIMIT, WORKER_LIMIT}
 use Rattle.flux_words.specs.declared.values.Runtime.{Runtime}
-use Rattle.flux_words.specs.declared.values.Runtime.TheVariants.{Event, Script}
+use Rattle.flux_words.specs.declared.values.Runtime.TheVariants.{Event, Script, PerFlow, Pool}
 use Rattle.flux_words.specs.declared.values.JournalFormat.{JournalFormat}
 use Rattle.flux_words.specs.declared.values.JournalFormat.TheVariants.{One, Two}
 
@@ -42,11 +42,21 @@ SpellEach (digits ∷ pieces) (flow ∷ numbers) =
 pub record SpellsNumbers (list : List ℕ) (numbers : List FlowNo) : Type 0 where
   pub laid : ((list ≡ []) × (numbers ≡ [])) ⊎ SpellEach (slice_split is_comma list) numbers
 
--- `event`, or `script=` and numbers
+-- `event`, `script=` and numbers, `perflow`, or `pool=` and a number from 1 to 16
 abbrev pub SpellsRuntime : List ℕ → Runtime → Type 0
 SpellsRuntime value Event = value ≡ codes "event"
 SpellsRuntime value (Script numbers) =
     (list : List ℕ) × (value ≡ codes "script=" ++ list) × SpellsNumbers list numbers
+SpellsRuntime value PerFlow = value ≡ codes "perflow"
+SpellsRuntime value (Pool workers) =
+    (digits : List ℕ) × (value ≡ codes "pool=" ++ digits) × SpellsNumber 1 WORKER_LIMIT digits workers.count
+
+-- a runtime that starts threads
+abbrev pub StartsThreads : Runtime → Type 0
+StartsThreads Event = ⊥
+StartsThreads (Script numbers) = ⊥
+StartsThreads PerFlow = ⊤
+StartsThreads (Pool workers) = ⊤
 
 -- `1` or `2`
 abbrev pub SpellsFormat : List ℕ → JournalFormat → Type 0

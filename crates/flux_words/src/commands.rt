@@ -1,7 +1,7 @@
 //! The commands of the command line.
 
-ghost use Rattle.std.specs.Prelude.{◌≡◌, ◌↔◌, IsTrue, IfOk, IfSome, IfNone, Some, option_map};
-ghost use Rattle.flux_words.specs.Commands.{Command, Spells, SpellsNone, NeedsThreads};
+ghost use Rattle.std.specs.Prelude.{◌≡◌, IfOk, IfSome, IfNone, Some, option_map};
+ghost use Rattle.flux_words.specs.Commands.{Command, Spells, SpellsNone};
 ghost use Rattle.flux_words.specs.Asking.{asked};
 ghost use Rattle.flux_words.specs.steps.Asking.{IsAsked, IsAskedBehind, IsFileRead};
 
@@ -111,14 +111,4 @@ pub fn read_words<'a>(alloc: Global, words: &'a [Bytes]) -> Result<Option<Asked<
         → IfOk result (λ found. option_map asked found ≡ Some command) }
 {
     read_command(alloc, words)
-}
-
-/// Whether the words spell a command that needs threads: none does yet, since a runtime that starts
-/// them can't be asked for.
-pub fn needs_threads(words: &[Bytes]) -> bool
-    ensures { IsTrue result ↔ ((command : Command) × Spells words.now command
-        × NeedsThreads command) }
-{
-    let _ = words;
-    false
 }

@@ -9,10 +9,14 @@ mod commands;
 mod given;
 mod loads;
 mod names;
+mod needs;
 mod parts;
 mod runs;
 mod values;
+mod workers;
 
-pub use commands::{Asked, needs_threads, read_words};
+pub use commands::{Asked, read_words};
 pub use loads::{FIRST_LIMIT, LOAD_LIMIT};
-pub use values::{JournalFormat, NUMBER_LIMIT, Runtime};
+pub use needs::needs_threads;
+pub use values::{JournalFormat, NUMBER_LIMIT, Runtime, WORKER_LIMIT};
+pub use workers::Workers;

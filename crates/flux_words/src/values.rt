@@ -2,9 +2,10 @@
 
 ghost use Rattle.std.specs.Prelude.{IfOk};
 ghost use Rattle.flux_words.specs.steps.Given.{listed};
-ghost use Rattle.flux_words.specs.steps.Found.{IsValueRead, IsNumberRead, AreNumbersRead, IsRuntimeRead, IsFormatRead};
+ghost use Rattle.flux_words.specs.steps.Found.{IsValueRead, IsNumberRead, AreNumbersRead, IsThreadedRead, IsRuntimeRead, IsFormatRead};
 
 use crate::names::strip;
+use crate::workers::Workers;
 use flux_model::FlowNo;
 use flux_values::{List, Memory};
 use std::alloc::Global;
@@ -15,14 +16,20 @@ pub const DIGIT_LIMIT: usize = 10;
 /// The greatest number of a flow that a script names.
 pub const NUMBER_LIMIT: u32 = 4_095;
 
-/// By which runtime items are run. `event=H`, `perflow` and `pool=N` come with the runtimes that start
-/// threads; until then no words spell them.
+/// The greatest number of workers of a pool.
+pub const WORKER_LIMIT: u32 = 16;
+
+/// By which runtime items are run. `event=H` comes with helpers of the event loop; until then no words spell it.
 #[derive(Debug, Drop)]
 pub enum Runtime {
     /// Flow after flow, each up to its first call, its wait or its end.
     Event,
     /// One event of each flow that is named, in order, as often as it is named.
     Script(List<FlowNo>),
+    /// A thread for each flow.
+    PerFlow,
+    /// So many workers, which share the flows.
+    Pool(Workers),
 }
 
 /// The format of a printed journal.
@@ -80,6 +87,22 @@ fn read_numbers(alloc: Global, list: &[u8]) -> Result<Option<List<FlowNo>>, Memo
     Ok(Some(numbers))
 }
 
+/// The runtime with threads that a value spells.
+pub fn read_threaded(value: &[u8]) -> Option<Runtime>
+    ensures { IsThreadedRead value.now result }
+{
+    if value == b"perflow".as_slice() {
+        return Some(Runtime::PerFlow);
+    }
+    let Some(digits) = strip(b"pool=", value) else {
+        return None;
+    };
+    match read_number(digits, 1, WORKER_LIMIT) {
+        Some(count) => Some(Runtime::Pool(Workers { count: count as u8 })),
+        None => None,
+    }
+}
+
 /// The runtime that is given, or `event`.
 pub fn read_runtime(alloc: Global, given: Option<&[u8]>) -> Result<Option<Runtime>, Memory>
     ensures { IfOk result (IsRuntimeRead (listed given.entry)) }
@@ -91,7 +114,7 @@ pub fn read_runtime(alloc: Global, given: Option<&[u8]>) -> Result<Option<Runtim
         return Ok(Some(Runtime::Event));
     }
     let Some(list) = strip(b"script=", value) else {
-        return Ok(None);
+        return Ok(read_threaded(value));
     };
     match read_numbers(alloc, list)? {
         Some(numbers) => Ok(Some(Runtime::Script(numbers))),

@@ -14,6 +14,9 @@ use Rattle.rt_all.specs.declared.chosen.Chosen.TheVariants.{Event, Script, PerFl
 abbrev pub chosen_by : Runtime → Chosen
 chosen_by words.Event = Event (record { helpers = 0; few = zero-le })
 chosen_by (words.Script numbers) = Script (record { numbers = numbers })
+chosen_by words.PerFlow = PerFlow (record {})
+chosen_by (words.Pool workers) =
+    Pool (record { workers = workers.count; some = workers.some; few = workers.few })
 
 -- what it has to be to drive a core
 abbrev pub IsReady : Chosen → Type 0
@@ -29,6 +32,13 @@ IsOrder (Event runtime) setup old new = IsRound setup old new
 IsOrder (Script runtime) setup old new = IsFollow setup old runtime.numbers new
 IsOrder (PerFlow runtime) setup old new = ⊤
 IsOrder (Pool runtime) setup old new = ⊤
+
+-- the order on one thread: a runtime that would start threads has there that of the event loop
+abbrev pub IsOrderAlone : Chosen → Setup → List Entry → List Entry → Type 0
+IsOrderAlone (Event runtime) setup old new = IsRound setup old new
+IsOrderAlone (Script runtime) setup old new = IsFollow setup old runtime.numbers new
+IsOrderAlone (PerFlow runtime) setup old new = IsRound setup old new
+IsOrderAlone (Pool runtime) setup old new = IsRound setup old new
 
 -- the order of the runtime that the words name
 abbrev pub IsOrderOf : Runtime → Setup → List Entry → List Entry → Type 0

@@ -3,7 +3,7 @@
 ghost use Rattle.std.specs.Prelude.{◌≡◌, IfOk, IfErr, OnErr};
 ghost use Rattle.flow_core.specs.States.{setup_in};
 ghost use Rattle.flow_core.specs.Runs.{GoesOnLegally, GoesToEnd};
-ghost use Rattle.rt_all.specs.Orders.{chosen_by, IsReady, IsOrder};
+ghost use Rattle.rt_all.specs.Orders.{chosen_by, IsReady, IsOrder, IsOrderAlone};
 
 use flow_core::{Core, Gate, Runtime, Stopped};
 use flux_library::Library;
@@ -33,6 +33,10 @@ impl Chosen {
         match words {
             flux_words::Runtime::Event => Chosen::Event(EventLoop { helpers: 0 }),
             flux_words::Runtime::Script(numbers) => Chosen::Script(Script { numbers }),
+            flux_words::Runtime::PerFlow => Chosen::PerFlow(PerFlow),
+            flux_words::Runtime::Pool(workers) => Chosen::Pool(Pool {
+                workers: workers.count,
+            }),
         }
     }
 
@@ -61,8 +65,8 @@ impl Chosen {
         }
     }
 
-    /// Drives a core to its end on the thread that calls, without a handle for threads. A runtime that would start threads lets
-    /// the flows go on as the event loop does.
+    /// Drives a core to its end on the thread that calls, without a handle for threads. Where the runtime would start threads,
+    /// the flows go on as the event loop lets them, in its order.
     pub fn drive_alone<L: Library, G: Gate>(
         &mut self,
         core: Core<L>,
@@ -72,6 +76,8 @@ impl Chosen {
         ensures ok { IfOk result (GoesToEnd L.meaning core) }
         ensures err { IfErr result (λ stopped. GoesOnLegally L.meaning core stopped.core) }
         ensures order { IfOk result (λ driven. IsOrder self.old (setup_in L.meaning core) core.entries
+            driven.entries) }
+        ensures alone { IfOk result (λ driven. IsOrderAlone self.old (setup_in L.meaning core) core.entries
             driven.entries) }
         ensures same { self.new ≡ self.old }
     {
@@ -103,6 +109,8 @@ impl Runtime for Chosen {
         ensures err { IfErr result (λ stopped. GoesOnLegally L.meaning core stopped.core) }
         ensures still { OnErr result (self.new ≡ self.old) }
         ensures order { IfOk result (λ driven. IsOrder self.old (setup_in L.meaning core) core.entries
+            driven.entries) }
+        ensures alone { IfOk result (λ driven. IsOrderAlone self.old (setup_in L.meaning core) core.entries
             driven.entries) }
         ensures same { self.new ≡ self.old }
     {

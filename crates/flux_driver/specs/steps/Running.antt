@@ -1,5 +1,5 @@
 -- Steps of running: from a checked program and an items text to the printed journal.
-use Rattle.std.specs.Prelude.{◌≡◌, ◌≤◌, ℕ, List, [], length, map, Some, ⊤}
+use Rattle.std.specs.Prelude.{◌≡◌, ◌≤◌, ℕ, List, [], length, map, Some, ⊤, Result, IfOk}
 use Rattle.std.specs.List.{AllByRecursion, slice_get}
 use Rattle.flux_values.specs.declared.values.Kind.{Kind}
 use Rattle.flux_values.specs.Identifiers.{IsIdentifier}
@@ -29,8 +29,13 @@ use Rattle.flux_items.specs.declared.rules.TheConstants.{ITEM_LIMIT}
 use Rattle.flux_items.specs.Faults.{IsFaultOf}
 use Rattle.flux_words.specs.declared.values.Runtime.{Runtime}
 use Rattle.rt_all.specs.Orders.{IsOrderOf}
+use Rattle.nodes_all.specs.declared.all.All.{All}
+use Rattle.flow_core.specs.States.{CoreState, setup_in}
+use Rattle.flow_core.specs.Runs.{SameSetup}
+use Rattle.flux_values.specs.declared.failures.Memory.{Memory}
+use Rattle.flux_driver.specs.BuiltIn.{meaning_in}
 use Rattle.flux_driver.specs.declared.refusals.Refusal.{Refusal}
-use Rattle.flux_driver.specs.declared.refusals.Refusal.TheVariants.{Usage, Static, Items, Read, Missing, Memory}
+use Rattle.flux_driver.specs.declared.refusals.Refusal.TheVariants.{Usage, Static, Items, Read, Missing, Memory as NoMemory}
 use Rattle.flux_driver.specs.declared.running.Wanted.{Wanted}
 use Rattle.flux_driver.specs.TrueRuns.{IsTrueRun, setup_of, printed_by}
 
@@ -60,6 +65,19 @@ pub record IsDriven (setup : Setup) (runtime : Runtime) (entries : List Entry) :
   pub whole : IsWhole setup entries
   pub order : IsOrderOf runtime setup [] entries
 
+-- the same of a core as it was and is
+pub record DrivesTo {L : Type 0} (meaning : L → LibraryMeaning) (runtime : Runtime)
+    (old new : CoreState L) : Type 0 where
+  pub setup_ : SameSetup old new
+  pub driven : IsDriven (setup_in meaning old) runtime new.entries
+
+-- cores without entries may be handed to a call that drives them, with a pre and a post of its own
+pub record CanDrive (pre : CoreState All → Runtime → Type 0)
+    (post : CoreState All → Runtime → Result (CoreState All) Memory → Type 0) : Type 0 where
+  pub may : (core : CoreState All) (runtime : Runtime) → core.entries ≡ [] → pre core runtime
+  pub drives : (core : CoreState All) (runtime : Runtime) (result : Result (CoreState All) Memory)
+      → core.entries ≡ [] → post core runtime result → IfOk result (DrivesTo meaning_in runtime core)
+
 -- a setup is made of these, and of empty cells
 pub record HasParts {L : Type 0} (program : Program) (plans : List Plan) (items : List Item) (library : L)
     (setup : code.Setup L) : Type 0 where
@@ -80,7 +98,7 @@ pub record IsRun (meaning : LibraryMeaning) (p : Program) (items : List Item) (w
 -- an items text is refused: it has a fault, or there was no memory
 abbrev pub AreRefused : ItemRules → List ℕ → Refusal → Type 0
 AreRefused rules items_text (Items fault) = IsFaultOf rules fault items_text
-AreRefused rules items_text Memory = ⊤
+AreRefused rules items_text NoMemory = ⊤
 AreRefused rules items_text Usage = ⊥
 AreRefused rules items_text (Static line) = ⊥
 AreRefused rules items_text Read = ⊥

@@ -4,7 +4,7 @@ use Rattle.std.specs.Borrow.{Bor}
 use Rattle.flux_words.specs.declared.names.CommandName.{CommandName}
 use Rattle.flux_words.specs.declared.commands.Asked.{Asked}
 use Rattle.flux_words.specs.Behind.{IsFile}
-use Rattle.flux_words.specs.Commands.{Command, name_of, StandsBehind, Spells, SpellsNone}
+use Rattle.flux_words.specs.Commands.{Command, name_of, StandsBehind, Spells, SpellsNone, NeedsThreads}
 use Rattle.flux_words.specs.Asking.{asked}
 
 -- the command that the words spell was read, or that they spell none
@@ -26,3 +26,9 @@ IsAskedBehind name words None = (command : Command) → IsCommand name words com
 abbrev pub IsFileRead : List (List ℕ) → Option (Bor (List ℕ)) → Type 0
 IsFileRead words (Some file) = IsFile file.now words
 IsFileRead words None = (file : List ℕ) → IsFile file words → ⊥
+
+-- the words behind a name ask for threads
+pub record AskThreads (name : CommandName) (words : List (List ℕ)) : Type 0 where
+  pub command : Command
+  pub is : IsCommand name words command
+  pub needs : NeedsThreads command

@@ -7,7 +7,7 @@ use Rattle.flux_words.specs.declared.parts.Part.TheVariants as reads
 use Rattle.flux_words.specs.declared.values.Runtime.{Runtime}
 use Rattle.flux_words.specs.declared.values.JournalFormat.{JournalFormat}
 use Rattle.flux_words.specs.Parts.{Part, word, option}
-use Rattle.flux_words.specs.Values.{is_comma, IsDigit, number_from, SpellsNumber, SpellEach, SpellsNumbers, IsRuntime, IsFormat}
+use Rattle.flux_words.specs.Values.{is_comma, IsDigit, number_from, SpellsNumber, SpellEach, SpellsNumbers, SpellsRuntime, StartsThreads, IsRuntime, IsFormat}
 
 -- the part that was read
 abbrev pub part_of : Read → Part
@@ -28,6 +28,17 @@ IsNumberRead least most digits None = (number : ℕ) → SpellsNumber least most
 abbrev pub AreNumbersRead : List ℕ → Option (List FlowNo) → Type 0
 AreNumbersRead list (Some numbers) = SpellsNumbers list numbers
 AreNumbersRead list None = (numbers : List FlowNo) → SpellsNumbers list numbers → ⊥
+
+-- the runtime with threads that a value spells, or that it spells none
+abbrev pub IsThreadedRead : List ℕ → Option Runtime → Type 0
+IsThreadedRead value (Some runtime) = SpellsRuntime value runtime × StartsThreads runtime
+IsThreadedRead value None = (runtime : Runtime) → SpellsRuntime value runtime → StartsThreads runtime → ⊥
+
+-- a runtime with threads is given
+pub record IsThreaded (values : List (List ℕ)) : Type 0 where
+  pub runtime : Runtime
+  pub is : IsRuntime values runtime
+  pub starts : StartsThreads runtime
 
 abbrev pub IsRuntimeRead : List (List ℕ) → Option Runtime → Type 0
 IsRuntimeRead values (Some runtime) = IsRuntime values runtime

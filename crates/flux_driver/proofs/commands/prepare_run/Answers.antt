@@ -1,4 +1,5 @@
 use Rattle.std.specs.Arc.{arc_value}
+use Rattle.flux_driver.specs.BuiltIn.{meaning_in}
 use Rattle.flux_driver.specs.declared.statuses.Status.{Status}
 use Rattle.flux_driver.specs.Origins.{named}
 use Rattle.flux_driver.specs.steps.Refusals.{IsRefused}
@@ -12,11 +13,11 @@ use Rattle.flux_driver.proofs.commands.prepare_run.Goals as goal
 pub returns-in_err-loaded-clause-asked : goal.returns-in_err-loaded-clause-asked
 returns-in_err-loaded-clause-asked g c = λ docs.
     let asks = rw c.deref.ensures at c.load_files.ensures.asked in
-    run_asks (g.L.Meaning.meaning (arc_value c.args.library)) (g.S.Store.files c.args.store.now) c.args.file.now c.args.items.now (record { runtime = c.args.runtime; docs = docs; journal = c.args.journal }) _ _ asks
+    run_asks (meaning_in (arc_value c.args.library)) (g.S.Store.files c.args.store.now) c.args.file.now c.args.items.now (record { runtime = c.args.runtime; docs = docs; journal = c.args.journal }) _ _ asks
 
 pub returns-in_err-loaded-clause-refused : goal.returns-in_err-loaded-clause-refused
 returns-in_err-loaded-clause-refused g c = λ docs.
-    let meaning = g.L.Meaning.meaning (arc_value c.args.library) in
+    let meaning = meaning_in (arc_value c.args.library) in
     let told = g.S.Store.files c.args.store.now in
     let refused = rw c.deref.ensures at c.in_err-loaded.ensures.refused in
     passed (IsRefused meaning (run_of c.args.file.now c.args.items.now c.args.runtime docs c.args.journal) told) c.in_err-loaded.field-0.0 c.from_residual.result c.from_residual.ensures.1
@@ -24,7 +25,7 @@ returns-in_err-loaded-clause-refused g c = λ docs.
 
 pub returns-in_err-loaded-clause-firm : goal.returns-in_err-loaded-clause-firm
 returns-in_err-loaded-clause-firm g c = λ docs.
-    let meaning = g.L.Meaning.meaning (arc_value c.args.library) in
+    let meaning = meaning_in (arc_value c.args.library) in
     let told = g.S.Store.files c.args.store.now in
     let refused = rw c.deref.ensures at c.in_err-loaded.ensures.refused in
     passed_status (λ (s : Status). IsFirm meaning (run_of c.args.file.now c.args.items.now c.args.runtime docs c.args.journal) told s) c.in_err-loaded.field-0.0 c.from_residual.result c.from_residual.ensures.1
@@ -32,9 +33,9 @@ returns-in_err-loaded-clause-firm g c = λ docs.
 
 -- ---- the items are run
 
-pub run_items-requires : goal.run_items-requires
-run_items-requires g c =
-    let meaning = g.L.Meaning.meaning (arc_value c.args.library) in
+pub run_items-requires-clause-can : goal.run_items-requires-clause-can
+run_items-requires-clause-can g c =
+    let meaning = meaning_in (arc_value c.args.library) in
     let told = g.S.Store.files c.args.store.now in
     let own = rw c.deref.ensures at c.in_ok-loaded.ensures.loaded in
     loaded_can meaning told (named c.args.file.now) (named c.args.items.now) c.in_ok-loaded.loaded own
@@ -42,23 +43,23 @@ run_items-requires g c =
 pub returns-in_err-text-clause-asked : goal.returns-in_err-text-clause-asked
 returns-in_err-text-clause-asked g c = λ docs.
     let asks = rw c.deref.ensures at c.load_files.ensures.asked in
-    run_asks (g.L.Meaning.meaning (arc_value c.args.library)) (g.S.Store.files c.args.store.now) c.args.file.now c.args.items.now (record { runtime = c.args.runtime; docs = docs; journal = c.args.journal }) _ _ asks
+    run_asks (meaning_in (arc_value c.args.library)) (g.S.Store.files c.args.store.now) c.args.file.now c.args.items.now (record { runtime = c.args.runtime; docs = docs; journal = c.args.journal }) _ _ asks
 
 pub returns-clause-asked : goal.returns-clause-asked
 returns-clause-asked g c = λ docs.
     let asks = rw c.deref.ensures at c.load_files.ensures.asked in
-    run_asks (g.L.Meaning.meaning (arc_value c.args.library)) (g.S.Store.files c.args.store.now) c.args.file.now c.args.items.now (record { runtime = c.args.runtime; docs = docs; journal = c.args.journal }) _ _ asks
+    run_asks (meaning_in (arc_value c.args.library)) (g.S.Store.files c.args.store.now) c.args.file.now c.args.items.now (record { runtime = c.args.runtime; docs = docs; journal = c.args.journal }) _ _ asks
 
 pub returns-clause-done : goal.returns-clause-done
 returns-clause-done g c = λ docs.
-    let meaning = g.L.Meaning.meaning (arc_value c.args.library) in
+    let meaning = meaning_in (arc_value c.args.library) in
     let told = g.S.Store.files c.args.store.now in
     let own = rw c.deref.ensures at c.in_ok-loaded.ensures.loaded in
     loaded_run meaning told (named c.args.file.now) (named c.args.items.now) c.in_ok-loaded.loaded own _ c.in_ok-text.text c.in_ok-text.ensures
 
 pub returns-clause-firm : goal.returns-clause-firm
 returns-clause-firm g c = λ docs tells stands.
-    let meaning = g.L.Meaning.meaning (arc_value c.args.library) in
+    let meaning = meaning_in (arc_value c.args.library) in
     let told = g.S.Store.files c.args.store.now in
     let own = rw c.deref.ensures at c.in_ok-loaded.ensures.loaded in
     loaded_reads meaning told (named c.args.file.now) (named c.args.items.now) c.in_ok-loaded.loaded own tells

@@ -1,11 +1,9 @@
 use Rattle.std.proofs.Common.{◌≡◌, true, false, sym, ◌∙◌}
-use Rattle.flux_words.proofs.Numbers.{no_script}
+use Rattle.flux_words.proofs.Numbers.{no_script, threaded_read}
 use Rattle.flux_words.proofs.values.read_runtime.Goals as goal
 
 pub returns-in-None : goal.returns-in-None
 returns-in-None c = λ runtime is.
     let none = rw c.in-None.is at c.in_ok-numbers.ensures in
     let spelled = rw c.in-Some.is at is in
-    no_script c.in-Some.value.now c.in-Some-strip.list.now
-    (λ e. let told = rw (e, c.as_slice.ensures) at c.eq.ensures in let no : true ≡ false = sym told ∙ c.if-eq.false in absurd cc)
-    c.in-Some-strip.ensures.found none runtime spelled
+    no_script c.in-Some.value.now c.in-Some-strip.list.now c.in-Some-strip.ensures.found none runtime spelled

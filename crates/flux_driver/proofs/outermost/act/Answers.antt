@@ -1,7 +1,7 @@
 use Rattle.flux_driver.specs.BuiltIn.{built_in}
 use Rattle.flux_driver.proofs.Steps.{told_same}
 use Rattle.flux_driver.proofs.Answered.{put_done, told_done}
-use Rattle.flux_driver.proofs.outermost.top_alone.Goals as goal
+use Rattle.flux_driver.proofs.outermost.act.Goals as goal
 
 pub returns-in-Ok : goal.returns-in-Ok
 returns-in-Ok g c =

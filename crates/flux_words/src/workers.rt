@@ -1,0 +1,11 @@
+//! The number of a pool's workers.
+
+ghost use Rattle.std.specs.Prelude.{◌≤◌};
+
+/// How many workers a pool has, from 1 to 16.
+#[derive(Clone, Copy, Debug, PartialEq, Eq)]
+pub struct Workers {
+    pub count: u8,
+    pub ghost some: { 1 ≤ count },
+    pub ghost few: { count ≤ 16 },
+}
