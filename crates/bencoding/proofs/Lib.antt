@@ -1,0 +1,9 @@
+mod Growing
+mod DigitsRead
+mod Rising
+mod Lifting
+mod Prefixes
+mod StringsRead
+mod ValuesRead
+mod SeenValues
+mod Causes
