@@ -82,7 +82,9 @@ fn work<L: Library, G: Gate, R: Wait>(
     let mut waits = 0;
     let flows = queue.flows();
     for _ in rt.forever() {
-        let (back, next) = serve_once(rt, alloc, hall, queue, post, gate);
+        // Where one flow waited, most may. So it looks at each of the others once, and soon comes to one that can go on.
+        let patient = waits == 0;
+        let (back, next) = serve_once(rt, alloc, hall, queue, post, patient, gate);
         post = back;
         match next {
             Next::Goes => {
@@ -103,6 +105,7 @@ fn serve_once<L: Library, G: Gate, R: Wait>(
     hall: &Hall<L>,
     queue: &FlowQueue,
     post: Post<L>,
+    patient: bool,
     gate: &G,
 ) -> (Post<L>, Next)
     requires { IsPost hall.now queue.now post }
@@ -114,7 +117,7 @@ fn serve_once<L: Library, G: Gate, R: Wait>(
         let next = if over { Next::Ends } else { Next::Rests };
         return (Post { seat, pass }, next);
     };
-    let (seat, stage) = stay(rt, alloc, hall, seat, flow, gate);
+    let (seat, stage) = stay(rt, alloc, hall, seat, flow, patient, gate);
     let next = match stage {
         Stage::Ended => return (Post { seat, pass }, Next::Goes),
         Stage::Halted => return (Post { seat, pass }, Next::Ends),
@@ -125,14 +128,16 @@ fn serve_once<L: Library, G: Gate, R: Wait>(
     (Post { seat, pass }, next)
 }
 
-/// Visits the hall for a flow again and again, within the limit, until it has ended or the core is halted. So flows that
-/// want one key get it one after the other, without a walk through the whole queue for each.
+/// Visits the hall for a flow again and again, within the limit, until it has ended or the core is halted; without patience,
+/// also until it waits. So flows that want one key get it one after the other, without a walk through the whole queue for
+/// each.
 fn stay<L: Library, G: Gate, R: Wait>(
     rt: &R,
     alloc: Global,
     hall: &Hall<L>,
     seat: HallSeat<L>,
     flow: FlowNo,
+    patient: bool,
     gate: &G,
 ) -> (HallSeat<L>, Stage)
     requires hall { seat.hall ≡ hall.now }
@@ -148,7 +153,8 @@ fn stay<L: Library, G: Gate, R: Wait>(
         last = stage;
         match stage {
             Stage::Ended | Stage::Halted => break,
-            Stage::Waits => pause.rest(rt),
+            Stage::Waits if patient => pause.rest(rt),
+            Stage::Waits => break,
             Stage::Went => pause = Pause::new(),
         }
     }
