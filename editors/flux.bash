@@ -7,7 +7,7 @@ _flux() {
     # bash takes = for a word of its own.
     if [ "$word" = "=" ]; then word=""; elif [ "$before" = "=" ]; then before="${COMP_WORDS[COMP_CWORD - 2]}"; fi
     if [ "$COMP_CWORD" = 1 ]; then
-        values="check plan format run audit load help"
+        values="check plan format run audit load serve help"
         [[ "$1" != */* ]] || values+=" prove version nodes install"
         mapfile -t COMPREPLY < <(compgen -W "$values" -- "$word")
         return
@@ -16,6 +16,7 @@ _flux() {
         run) options="--runtime --docs --journal" ;;
         audit) options="--docs" ;;
         load) options="--runtime" ;;
+        serve) options="--port --docs --batches --runtime" ;;
     esac
     # An option of another command completes nothing.
     [[ " $options " = *" $before "* ]] || before=""
@@ -40,6 +41,7 @@ _flux() {
         run) most=2 ;;
         audit) most=3 ;;
         load) most=0 ;;
+        serve) most=1 ;;
         help) most=0 ;;
     esac
     for ((place = 2; place < COMP_CWORD; place++)); do

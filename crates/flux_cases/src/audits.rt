@@ -1,8 +1,12 @@
 //! The journals that runs print are audited.
 
+ghost use Rattle.std.specs.Prelude.{◌≡◌, IfOk};
+ghost use Rattle.flux_doors.specs.Memory.{door_out};
+
 use crate::cases::Case;
 use crate::watched::{Names, WatchedStore};
 use crate::worlds::{Memories, files_of, folder};
+use flux_doors::MemoryDoor;
 use flux_driver::World;
 use flux_outside::{FileBytes, MemorySink, MemoryStore};
 use flux_values::{Bytes, List, Memory};
@@ -34,7 +38,9 @@ pub fn audit_words(alloc: Global, words: &[Bytes]) -> Result<List<Bytes>, Memory
 }
 
 /// The world of a case, with the journal that its run printed, in which nothing fails.
-pub fn audit_world(alloc: Global, case: &Case, journal: &[u8]) -> Result<Memories, Memory> {
+pub fn audit_world(alloc: Global, case: &Case, journal: &[u8]) -> Result<Memories, Memory>
+    ensures { IfOk result (λ world. door_out world.door ≡ 0) }
+{
     let mut files = files_of(alloc, case)?;
     files.add(FileBytes {
         name: Bytes::copy(alloc, JOURNAL)?,
@@ -48,5 +54,6 @@ pub fn audit_world(alloc: Global, case: &Case, journal: &[u8]) -> Result<Memorie
         folder: folder(alloc, case, List::new(alloc))?,
         out: MemorySink::new(alloc, ROOM, ROOM, List::new(alloc))?,
         err: MemorySink::new(alloc, ROOM, ROOM, List::new(alloc))?,
+        door: MemoryDoor::new(alloc, List::new(alloc), List::new(alloc))?,
     })
 }

@@ -86,16 +86,73 @@ impl<'a> Case<'a> {
     /// The numbers of the calls that are to fail.
     pub fn fails(&self, alloc: Global, of: Part) -> Result<List<u64>, Memory> {
         let mut fails = List::new(alloc);
-        for line in self.own.iter().chain(self.shared) {
-            match &line.entry {
-                Entry::Fail(part, calls) if *part == of => {
-                    for call in calls {
-                        fails.add(*call)?;
-                    }
-                }
-                _ => {}
-            }
-        }
+        add_fails(&mut fails, self.own, of)?;
+        add_fails(&mut fails, self.shared, of)?;
         Ok(fails)
     }
+
+    /// The lines about batches and links: its own, if it has any.
+    pub fn door_lines(&self) -> &'a [Line] {
+        for line in self.own {
+            if line.entry.begins_links() {
+                return self.own;
+            }
+        }
+        self.shared
+    }
+
+    /// How much a link gives and takes, by the lines about it, or else by those about all links.
+    pub fn link_shape(&self, lines: &[Line]) -> Shape {
+        let all = shape_in(
+            lines,
+            Shape {
+                room: None,
+                piece: None,
+            },
+        );
+        shape_in(about_all(self.shared), shape_in(about_all(self.own), all))
+    }
+
+    /// The numbers of a link's calls that are to fail, by the lines about it and those about all links.
+    pub fn link_fails(&self, alloc: Global, lines: &[Line], of: Part) -> Result<List<u64>, Memory> {
+        let mut fails = List::new(alloc);
+        add_fails(&mut fails, lines, of)?;
+        add_fails(&mut fails, about_all(self.own), of)?;
+        add_fails(&mut fails, about_all(self.shared), of)?;
+        Ok(fails)
+    }
+}
+
+/// Adds the numbers of the calls that are to fail.
+fn add_fails(fails: &mut List<u64>, lines: &[Line], of: Part) -> Result<(), Memory> {
+    for line in lines {
+        match &line.entry {
+            Entry::Fail(part, calls) if *part == of => {
+                for call in calls {
+                    fails.add(*call)?;
+                }
+            }
+            _ => {}
+        }
+    }
+    Ok(())
+}
+
+/// The lines before those about links.
+fn about_all(lines: &[Line]) -> &[Line] {
+    let first = lines.iter().position(|line| line.entry.begins_links());
+    &lines[..first.unwrap_or(lines.len())]
+}
+
+/// What lines say of links, where nothing said the same before.
+fn shape_in(lines: &[Line], before: Shape) -> Shape {
+    let mut shape = before;
+    for line in lines {
+        match &line.entry {
+            Entry::Room(Stream::Link, bytes) => shape.room = shape.room.or(Some(*bytes)),
+            Entry::Piece(Stream::Link, bytes) => shape.piece = shape.piece.or(Some(*bytes)),
+            _ => {}
+        }
+    }
+    shape
 }

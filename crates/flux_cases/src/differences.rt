@@ -72,6 +72,18 @@ impl Differences {
         self.lines.add(line)
     }
 
+    /// The same of a link, by its place among all.
+    pub fn compare_link(
+        &mut self,
+        place: usize,
+        written: &[u8],
+        lines: &[Line],
+    ) -> Result<(), Memory> {
+        let mut name = Bytes::copy(self.alloc, b"link ")?;
+        append_number(self.alloc, &mut name, place as u64)?;
+        self.compare_gain(name.as_bytes(), Stream::Link, written, lines)
+    }
+
     /// Compares the number of calls that a gate was told of with those that were printed.
     pub fn compare_calls(&mut self, told: Option<u64>, printed: u64) -> Result<(), Memory> {
         if told == Some(printed) {

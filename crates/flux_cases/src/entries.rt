@@ -4,11 +4,12 @@ use crate::bodies::Documents;
 use flux_outside::FileBytes;
 use flux_values::{Bytes, List};
 
-/// The stream that is printed on, or the one for lines about what went wrong.
+/// The stream that is printed on, the one for lines about what went wrong, or that of a link.
 #[derive(Clone, Copy, PartialEq, Eq)]
 pub enum Stream {
     Out,
     Err,
+    Link,
 }
 
 /// What has calls that may fail.
@@ -17,6 +18,9 @@ pub enum Part {
     Store,
     Folder,
     Stream(Stream),
+    Door,
+    /// The reads of a link.
+    Reads,
 }
 
 /// How much of a text a stream has to gain.
@@ -26,6 +30,8 @@ pub enum Measure {
     Front,
     /// Of any text: the journal of some run. A run's journal is audited.
     SomeJournal,
+    /// It may gain anything.
+    Any,
 }
 
 /// What a stream has to gain.
@@ -42,6 +48,7 @@ impl Gain {
             Measure::All => got == text,
             Measure::Front => text.starts_with(got),
             Measure::SomeJournal => !got.is_empty(),
+            Measure::Any => true,
         }
     }
 }
@@ -71,6 +78,10 @@ pub enum Entry {
     Asked(List<Bytes>),
     /// The folders that are asked for, in order.
     Opened(List<Bytes>),
+    /// The next links stand ready at the door together.
+    Batch,
+    /// So many links, each of which gives this.
+    Links(usize, Bytes),
 }
 
 /// An entry, and the number of the line that it begins with.
@@ -87,6 +98,11 @@ impl Entry {
 
     pub fn is_case(&self) -> bool {
         matches!(self, Entry::Case(_))
+    }
+
+    /// Whether lines about links begin here.
+    pub fn begins_links(&self) -> bool {
+        matches!(self, Entry::Batch | Entry::Links(_, _))
     }
 
     pub fn is_gain(&self, of: Stream) -> bool {

@@ -1,10 +1,14 @@
 //! Cases run one after another, and what is wrong with each.
 
+ghost use Rattle.std.specs.Prelude.{◌≡◌};
+ghost use Rattle.flux_doors.specs.Memory.{door_out};
+
 use crate::audits::{audit_words, audit_world};
 use crate::calls::{CountingGate, calls_in};
 use crate::cases::Case;
 use crate::differences::Differences;
 use crate::entries::{Entry, Line, Stream};
+use crate::links::clients_of;
 use crate::reports::Report;
 use crate::troubles::Trouble;
 use crate::worlds::{Memories, world_of};
@@ -88,7 +92,9 @@ fn answer<Rt: Threads + Wait + Sync>(
     words: &[Bytes],
     world: &mut Memories,
     gate: &CountingGate,
-) -> u8 {
+) -> u8
+    requires { door_out world.old.door ≡ 0 }
+{
     top(rt, alloc, words, world, gate).code()
 }
 
@@ -121,14 +127,17 @@ fn judge<Rt: Threads + Wait + Sync>(
     )?;
     differences.compare_names(b"asked", world.store.names.all(), case.asked)?;
     differences.compare_names(b"opened", world.folder.names.all(), case.opened)?;
+    compare_links(alloc, &mut differences, case, &world)?;
     let told = gate.calls(needs_threads(words));
     if let Some(calls) = case.calls {
         differences.compare_calls(told, calls as u64)?;
     }
-    if status == 0 && is_run(words) {
-        let journal = world.out.written();
-        differences.compare_calls(told, calls_in(journal))?;
-        audit(rt, alloc, case, words, journal, &mut differences)?;
+    let printed = world.out.written();
+    if status == 0 && has_journal(words) {
+        differences.compare_calls(told, calls_in(printed))?;
+    }
+    if status == 0 && is_command(words, b"run") {
+        audit(rt, alloc, case, words, printed, &mut differences)?;
     }
     Ok(differences)
 }
@@ -154,8 +163,29 @@ fn audit<Rt: Threads + Wait + Sync>(
     differences.tell(line.as_bytes())
 }
 
-fn is_run(words: &[Bytes]) -> bool {
-    words
-        .first()
-        .is_some_and(|word| word.as_bytes() == b"run".as_slice())
+/// Compares what each link was written with what it has to be. A link that didn't come to the door was written nothing.
+fn compare_links(
+    alloc: Global,
+    differences: &mut Differences,
+    case: &Case,
+    world: &Memories,
+) -> Result<(), Memory> {
+    let back = world.door.taken_back();
+    for (place, client) in clients_of(alloc, case)?.iter().enumerate() {
+        let written = match back.get(place) {
+            Some(link) => link.written(),
+            None => b"",
+        };
+        differences.compare_link(place, written, client.lines)?;
+    }
+    Ok(())
+}
+
+/// Whether a journal is printed, or a log.
+fn has_journal(words: &[Bytes]) -> bool {
+    is_command(words, b"run") || is_command(words, b"serve")
+}
+
+fn is_command(words: &[Bytes], name: &[u8]) -> bool {
+    words.first().is_some_and(|word| word.as_bytes() == name)
 }

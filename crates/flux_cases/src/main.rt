@@ -13,6 +13,7 @@ mod differences;
 mod entries;
 mod judging;
 mod lines;
+mod links;
 mod reports;
 mod settings;
 mod spellings;

@@ -25,6 +25,10 @@ pub fn read_entry(alloc: Global, line: &str, lines: &[Line]) -> Result<Entry, Li
         b"piece" => piece(rest),
         b"out" => gain(alloc, Stream::Out, rest, lines),
         b"err" => gain(alloc, Stream::Err, rest, lines),
+        b"batch" if rest.is_empty() => Ok(Entry::Batch),
+        b"link" => Ok(Entry::Links(1, begun(alloc, rest, lines)?)),
+        b"links" => links(alloc, rest, lines),
+        b"gets" => gain(alloc, Stream::Link, rest, lines),
         b"status" => Ok(Entry::Status(number_of(rest)?)),
         b"calls" => Ok(Entry::Calls(number_of(rest)?)),
         b"asked" => Ok(Entry::Asked(words_of(alloc, rest)?)),
@@ -33,12 +37,21 @@ pub fn read_entry(alloc: Global, line: &str, lines: &[Line]) -> Result<Entry, Li
     }
 }
 
+/// `65 "get\n"`: so many links, and what each gives.
+fn links(alloc: Global, rest: &str, lines: &[Line]) -> Result<Entry, LineFault> {
+    let (count, piece) = rest.split_once(' ').unwrap_or((rest, ""));
+    Ok(Entry::Links(number_of(count)?, begun(alloc, piece, lines)?))
+}
+
 /// `store 1 2`: which calls of what fail.
 fn fail(alloc: Global, rest: &str) -> Result<Entry, LineFault> {
     let (part, calls) = rest.split_once(' ').unwrap_or((rest, ""));
     let part = match part.as_bytes() {
         b"store" => Part::Store,
         b"folder" => Part::Folder,
+        b"door" => Part::Door,
+        b"read" => Part::Reads,
+        b"write" => Part::Stream(Stream::Link),
         _ => Part::Stream(stream(part)?),
     };
     Ok(Entry::Fail(part, calls_of(alloc, calls)?))
@@ -48,6 +61,7 @@ fn stream(word: &str) -> Result<Stream, LineFault> {
     match word.as_bytes() {
         b"out" => Ok(Stream::Out),
         b"err" => Ok(Stream::Err),
+        b"link" => Ok(Stream::Link),
         _ => Err(LineFault::NoLine),
     }
 }
@@ -72,11 +86,12 @@ fn piece(rest: &str) -> Result<Entry, LineFault> {
     }
 }
 
-/// What a stream gains: a text, or behind `front of` a text of which it gains a front, or `some journal`.
+/// What a stream gains: a text, behind `front of` a text of which it gains a front, `some journal`, or `any`.
 fn gain(alloc: Global, stream: Stream, rest: &str, lines: &[Line]) -> Result<Entry, LineFault> {
     let (measure, piece) = match rest.strip_prefix("front of") {
         Some(piece) => (Measure::Front, piece.trim_start()),
         None if rest.as_bytes() == b"some journal".as_slice() => (Measure::SomeJournal, ""),
+        None if rest.as_bytes() == b"any".as_slice() => (Measure::Any, ""),
         None => (Measure::All, rest),
     };
     let text = begun(alloc, piece, lines)?;
@@ -96,6 +111,7 @@ pub fn add_piece(alloc: Global, lines: &mut Vec<Line>, piece: &str) -> Result<()
         Entry::File(file) => Ok(file.body.append(added)?),
         Entry::Documents(documents) => Ok(documents.body.append(added)?),
         Entry::Gain(_, gain) => Ok(gain.text.append(added)?),
+        Entry::Links(_, input) => Ok(input.append(added)?),
         Entry::Faulty => Ok(()),
         _ => Err(LineFault::NoLine),
     }

@@ -1,17 +1,20 @@
 //! The world in memory that a case speaks of.
 
-ghost use Rattle.std.specs.Prelude.{◌<◌};
+ghost use Rattle.std.specs.Prelude.{◌≡◌, ◌<◌, IfOk};
+ghost use Rattle.flux_doors.specs.Memory.{door_out};
 
 use crate::cases::{Case, Shape};
 use crate::entries::{Entry, Part, Stream};
+use crate::links::door;
 use crate::watched::{Names, WatchedFolder, WatchedStore};
+use flux_doors::MemoryDoor;
 use flux_driver::World;
 use flux_outside::{FileBytes, MemoryFolder, MemorySink, MemoryStore};
 use flux_values::{Bytes, List, Memory};
 use std::alloc::Global;
 
-/// Files and a folder in memory, which are watched, and two streams in memory.
-pub type Memories = World<WatchedStore, WatchedFolder, MemorySink, MemorySink>;
+/// Files and a folder in memory, which are watched, and two streams and a door in memory.
+pub type Memories = World<WatchedStore, WatchedFolder, MemorySink, MemorySink, MemoryDoor>;
 
 /// How many bytes a stream has room for, and takes a call, where a case says nothing of it.
 const ROOM: usize = 16_777_216;
@@ -52,8 +55,10 @@ fn sink(alloc: Global, shape: Shape, fails: List<u64>) -> Result<MemorySink, Mem
     MemorySink::new(alloc, room, piece, fails)
 }
 
-/// The world that a case's command line meets.
-pub fn world_of(alloc: Global, case: &Case) -> Result<Memories, Memory> {
+/// The world that a case's command line meets. No link of its door is out yet.
+pub fn world_of(alloc: Global, case: &Case) -> Result<Memories, Memory>
+    ensures { IfOk result (λ world. door_out world.door ≡ 0) }
+{
     Ok(World {
         store: WatchedStore {
             store: MemoryStore::new(files_of(alloc, case)?, case.fails(alloc, Part::Store)?),
@@ -70,5 +75,6 @@ pub fn world_of(alloc: Global, case: &Case) -> Result<Memories, Memory> {
             case.err,
             case.fails(alloc, Part::Stream(Stream::Err))?,
         )?,
+        door: door(alloc, case)?,
     })
 }

@@ -9,12 +9,12 @@ use Rattle.flux_driver.specs.declared.prepared.Prepared.TheVariants.{Text, No}
 use Rattle.flux_driver.specs.declared.refusals.Refusal.{Refusal}
 use Rattle.flux_driver.specs.declared.refusals.Refusal.TheVariants as refusals
 use Rattle.flux_outside.specs.Streams.{Stream, Wrote, Broke, WroteOrBroke}
-use Rattle.flux_driver.specs.Worlds.{Told}
+use Rattle.flux_driver.specs.Worlds.{Told, Doorway}
 use Rattle.flux_driver.specs.Causes.{write_line}
 use Rattle.flux_driver.specs.Answers.{Libraries, IsAnswer, OrMemory}
 use Rattle.flux_driver.specs.Documents.{WithDocs}
 use Rattle.flux_driver.specs.Commands.{folder_of}
-use Rattle.flux_driver.specs.Top.{AreFiles, IsStopped, AsksFor, HasAsked, MayBreak, HasAnswered, RoseForReading, Decides, IsComplete, HasDone}
+use Rattle.flux_driver.specs.Top.{SpellNoServe, AreFiles, IsStopped, AsksFor, HasAsked, MayBreak, HasAnswered, RoseForReading, Decides, IsComplete, HasDone}
 use Rattle.flux_driver.specs.steps.Refusals.{status_of, line_of}
 use Rattle.flux_driver.specs.steps.Preparing.{status_with, AsksAll, IsRefusedAll, AreSteady, CountsBothRefusal, AnswersDue, AnswersWords, PreparesWords}
 use Rattle.flux_driver.specs.steps.Telling.{IsTold, IsWritten, IsNoWritten, IsPut}
@@ -24,11 +24,30 @@ use Rattle.flux_outside.proofs.Writes.{wrote_none}
 
 not_write : (refusal : Refusal) → status_of refusal ≡ statuses.Write → ⊥
 not_write refusals.Usage e = absurd cc
+not_write refusals.NotServed e = absurd cc
 not_write (refusals.Static line) e = absurd cc
 not_write (refusals.Items fault) e = absurd cc
 not_write refusals.Read e = absurd cc
 not_write (refusals.Missing name) e = absurd cc
 not_write refusals.Memory e = absurd cc
+
+not_door : (refusal : Refusal) → status_of refusal ≡ statuses.Door → ⊥
+not_door refusals.Usage e = absurd cc
+not_door refusals.NotServed e = absurd cc
+not_door (refusals.Static line) e = absurd cc
+not_door (refusals.Items fault) e = absurd cc
+not_door refusals.Read e = absurd cc
+not_door (refusals.Missing name) e = absurd cc
+not_door refusals.Memory e = absurd cc
+
+not_done : (refusal : Refusal) → status_of refusal ≡ statuses.Done → ⊥
+not_done refusals.Usage e = absurd cc
+not_done refusals.NotServed e = absurd cc
+not_done (refusals.Static line) e = absurd cc
+not_done (refusals.Items fault) e = absurd cc
+not_done refusals.Read e = absurd cc
+not_done (refusals.Missing name) e = absurd cc
+not_done refusals.Memory e = absurd cc
 
 -- the counts rose exactly where reading failed
 steady_counts : (status : Status) (s t f g : ℕ) → AreSteady s t f g → (status ≡ statuses.Read → ⊥) → RoseForReading status s t f g
@@ -41,6 +60,7 @@ not_read status own never (inr e) h = let bad = sym e ∙ h in absurd cc
 counted : (refusal : Refusal) (status : Status) (s t f g : ℕ) → CountsBothRefusal refusal s t f g → (refusal ≡ refusals.Read → status ≡ statuses.Read) → (status ≡ status_of refusal) ⊎ (status ≡ statuses.Memory) → RoseForReading status s t f g
 counted refusals.Read status s t f g rose read own = record { failed = λ e. rose; steady = λ other. absurd (other (read refl)) }
 counted refusals.Usage status s t f g same read own = steady_counts status s t f g same (not_read status statuses.Usage (λ e. absurd cc) own)
+counted refusals.NotServed status s t f g same read own = steady_counts status s t f g same (not_read status statuses.NotServed (λ e. absurd cc) own)
 counted (refusals.Static line) status s t f g same read own = steady_counts status s t f g same (not_read status statuses.Static (λ e. absurd cc) own)
 counted (refusals.Items fault) status s t f g same read own = steady_counts status s t f g same (not_read status statuses.Items (λ e. absurd cc) own)
 counted (refusals.Missing name) status s t f g same read own = steady_counts status s t f g same (not_read status statuses.Missing (λ e. absurd cc) own)
@@ -86,7 +106,7 @@ module _ (library : Libraries) (words : List (List ℕ)) (told : Told) where
 
 -- ---- what was asked for, at another status
 
-asked_then : (library : Libraries) (words : List (List ℕ)) (told : Told) (status final : Status) (folder folder_after store store_after : List (List ℕ)) → ((dir : Option (List ℕ)) → IsStopped dir status → IsStopped dir final) → (status ≡ statuses.Memory → final ≡ statuses.Memory)
+pub asked_then : (library : Libraries) (words : List (List ℕ)) (told : Told) (status final : Status) (folder folder_after store store_after : List (List ℕ)) → ((dir : Option (List ℕ)) → IsStopped dir status → IsStopped dir final) → (status ≡ statuses.Memory → final ≡ statuses.Memory)
     → HasAsked library words told status folder folder_after store store_after → HasAsked library words told final folder folder_after store store_after
 asked_then library words told status final folder folder_after store store_after stops short asked = record {
   dirs = asked.dirs;
@@ -113,17 +133,17 @@ asked_then library words told status final folder folder_after store store_after
 -- ---- the whole
 
 module _ (library : Libraries) (words : List (List ℕ)) (told after : Told) (folder folder_after store store_after : List (List ℕ)) (s t f g : ℕ) (kept : after ≡ told) (later : s ≤ t) (later_folder : f ≤ g) where
-  abbrev Done : Status → Stream → Stream → Stream → Stream → Type 0
-  Done status out out_after err err_after = HasDone library words
-      (record { told = told; store = record { asked = store; faults = s }; folder = record { asked = folder; faults = f }; out = out; err = err }) status
-      (record { told = after; store = record { asked = store_after; faults = t }; folder = record { asked = folder_after; faults = g }; out = out_after; err = err_after })
+  abbrev Done : Status → Stream → Stream → Stream → Stream → Doorway → Doorway → Type 0
+  Done status out out_after err err_after door door_after = HasDone library words
+      (record { told = told; store = record { asked = store; faults = s }; folder = record { asked = folder; faults = f }; out = out; err = err; door = door }) status
+      (record { told = after; store = record { asked = store_after; faults = t }; folder = record { asked = folder_after; faults = g }; out = out_after; err = err_after; door = door_after })
 
   abbrev Asked : Status → Type 0
   Asked status = HasAsked library words told status folder folder_after store store_after
 
   -- ---- a text was printed, or writing it failed
 
-  module _ (text : List ℕ) (asked : Asked statuses.Done) (prints : PreparesWords library words told (Text text)) (same : AreSteady s t f g) (due : AnswersWords library words told statuses.Done) where
+  module _ (text : List ℕ) (asked : Asked statuses.Done) (prints : PreparesWords library words told (Text text)) (same : AreSteady s t f g) (due : AnswersWords library words told statuses.Done) (alone : SpellNoServe words) where
     asked_put : (status : Status) → Asked status
     asked_put status = asked_then library words told statuses.Done status folder folder_after store store_after (λ dir stopped. absurd stopped) (λ e. absurd cc) asked
 
@@ -132,41 +152,47 @@ module _ (library : Libraries) (words : List (List ℕ)) (told after : Told) (fo
       where
         decide : (statuses.Done ≡ other) ⊎ ((statuses.Done ≡ statuses.Read) ⊎ (statuses.Done ≡ statuses.Memory)) → (status ≡ statuses.Done) ⊎ (status ≡ statuses.Write) → OrMemory status (Decides status other)
         decide (inl e) (inl a) = inl (inl (a ∙ e))
-        decide (inl e) (inr a) = inl (inr (inr (a, sym e)))
+        decide (inl e) (inr a) = inl (inr (inr (inl a, sym e)))
         decide (inr (inl e)) a = absurd cc
         decide (inr (inr e)) a = absurd cc
 
-    text_done : (status : Status) (out out_after err err_after : Stream) → out.faults ≤ out_after.faults → err.faults ≤ err_after.faults → IsWritten text status out out_after err err_after → Done status out out_after err err_after
-    text_done status out out_after err err_after out_later err_later (inl put) = record {
+    text_done : (status : Status) (out out_after err err_after : Stream) (door : Doorway) → out.faults ≤ out_after.faults → err.faults ≤ err_after.faults → IsWritten text status out out_after err err_after → Done status out out_after err err_after door door
+    text_done status out out_after err err_after door out_later err_later (inl put) = record {
       kept = kept;
-      later = record { store = later; folder = later_folder; out = out_later; err = err_later };
+      later = record { store = later; folder = later_folder; out = out_later; err = err_later; door = omega arith; late = omega arith };
       asked = asked_put status;
-      answered = record {
+      answered = inl (record {
         text = text;
         line = [];
         cause = subst (λ (x : Status). IsAnswer library words told x text []) (sym put.0) (inr (inl (record { command = prints.0; spelled = prints.1; cause = inl (prints.2, refl) })));
         out = inl put.1;
         err = inl put.2;
-      };
+        door = refl;
+        other = λ h. alone;
+      });
       reading = record { failed = λ h. let no = sym put.0 ∙ h in absurd cc; steady = λ other. (same.store_, same.folder_) };
       writing = record { failed = λ h. let no = sym put.0 ∙ h in absurd cc; steady = λ other. let wrote = put.1 in wrote.steady };
       usage = λ none. absurd (none prints.0 prints.1);
+      entrance = λ h. let no = sym put.0 ∙ h in absurd cc;
       complete = complete_put status (inl put.0);
     }
-    text_done status out out_after err err_after out_later err_later (inr put) = record {
+    text_done status out out_after err err_after door out_later err_later (inr put) = record {
       kept = kept;
-      later = record { store = later; folder = later_folder; out = out_later; err = err_later };
+      later = record { store = later; folder = later_folder; out = out_later; err = err_later; door = omega arith; late = omega arith };
       asked = asked_put status;
-      answered = record {
+      answered = inl (record {
         text = text;
         line = write_line;
         cause = subst (λ (x : Status). IsAnswer library words told x text write_line) (sym put.0) (inr (inl (record { command = prints.0; spelled = prints.1; cause = inr (prints.2, refl) })));
         out = inr (subst MayBreak (sym put.0) tt, put.1);
         err = put.2;
-      };
+        door = refl;
+        other = λ h. alone;
+      });
       reading = record { failed = λ h. let no = sym put.0 ∙ h in absurd cc; steady = λ other. (same.store_, same.folder_) };
       writing = record { failed = λ h. let broke = put.1 in broke.rose; steady = λ other. absurd (other (subst MayBreak (sym put.0) tt)) };
       usage = λ none. absurd (none prints.0 prints.1);
+      entrance = λ h. let no = sym put.0 ∙ h in absurd cc;
       complete = complete_put status (inr put.0);
     }
 
@@ -185,28 +211,31 @@ module _ (library : Libraries) (words : List (List ℕ)) (told after : Told) (fo
     written status out out_after own (inl wrote) = inl wrote
     written status out out_after own (inr broke) = inr (subst MayBreak (sym own) tt, broke)
 
-    no_done : (status : Status) (out out_after err err_after : Stream) → out.faults ≤ out_after.faults → err.faults ≤ err_after.faults → IsNoWritten text status out out_after err err_after → Done status out out_after err err_after
-    no_done status out out_after err err_after out_later err_later put = record {
+    no_done : (status : Status) (out out_after err err_after : Stream) (door : Doorway) → out.faults ≤ out_after.faults → err.faults ≤ err_after.faults → IsNoWritten text status out out_after err err_after → Done status out out_after err err_after door door
+    no_done status out out_after err err_after door out_later err_later put = record {
       kept = kept;
-      later = record { store = later; folder = later_folder; out = out_later; err = err_later };
+      later = record { store = later; folder = later_folder; out = out_later; err = err_later; door = omega arith; late = omega arith };
       asked = subst Asked (sym put.0) asked;
-      answered = record {
+      answered = inl (record {
         text = text;
         line = [];
         cause = subst (λ (x : Status). IsAnswer library words told x text []) (sym put.0) (inr (inl (record { command = prints.0; spelled = prints.1; cause = inl (prints.2, refl) })));
         out = written status out out_after put.0 put.1;
         err = inl put.2;
-      };
+        door = refl;
+        other = λ h. let no = sym put.0 ∙ h in absurd cc;
+      });
       reading = record { failed = λ h. let no = sym put.0 ∙ h in absurd cc; steady = λ other. (same.store_, same.folder_) };
       writing = record { failed = λ h. let no = sym put.0 ∙ h in absurd cc; steady = λ other. absurd (other (subst MayBreak (sym put.0) tt)) };
       usage = λ none. absurd (none prints.0 prints.1);
+      entrance = λ h. let no = sym put.0 ∙ h in absurd cc;
       complete = complete_no status put.0;
     }
 
-  pub put_done : (prepared : Prepared) → Asked (status_with prepared) → PreparesWords library words told prepared → AreSteady s t f g → AnswersWords library words told (status_with prepared)
-      → (status : Status) (out out_after err err_after : Stream) → out.faults ≤ out_after.faults → err.faults ≤ err_after.faults → IsPut prepared status out out_after err err_after → Done status out out_after err err_after
-  put_done (Text text) asked prints same due status out out_after err err_after out_later err_later put = text_done text asked prints same due status out out_after err err_after out_later err_later put
-  put_done (No text) asked prints same due status out out_after err err_after out_later err_later put = no_done text asked prints same due status out out_after err err_after out_later err_later put
+  pub put_done : (prepared : Prepared) → Asked (status_with prepared) → PreparesWords library words told prepared → AreSteady s t f g → AnswersWords library words told (status_with prepared) → SpellNoServe words
+      → (status : Status) (out out_after err err_after : Stream) (door : Doorway) → out.faults ≤ out_after.faults → err.faults ≤ err_after.faults → IsPut prepared status out out_after err err_after → Done status out out_after err err_after door door
+  put_done (Text text) asked prints same due alone status out out_after err err_after door out_later err_later put = text_done text asked prints same due alone status out out_after err err_after door out_later err_later put
+  put_done (No text) asked prints same due alone status out out_after err err_after door out_later err_later put = no_done text asked prints same due status out out_after err err_after door out_later err_later put
 
   -- ---- a refusal was told
 
@@ -233,35 +262,42 @@ module _ (library : Libraries) (words : List (List ℕ)) (told after : Told) (fo
         decide (inr (inl of)) (inl e) = absurd (none of.command of.spelled)
         decide (inr (inr short)) (inl e) = inr (e ∙ short.0)
 
-    pub told_done : (status : Status) (out err err_after : Stream) → err.faults ≤ err_after.faults → IsTold refusal status err err_after → Done status out out err err_after
-    told_done status out err err_after err_later told_ = one told_.said
+    pub told_done : (status : Status) (out err err_after : Stream) (door : Doorway) → err.faults ≤ err_after.faults → IsTold refusal status err err_after → Done status out out err err_after door door
+    told_done status out err err_after door err_later told_ = one told_.said
       where
+        refused_as : (status ≡ status_of refusal) ⊎ (status ≡ statuses.Memory) → (other : Status) → (other ≡ statuses.Memory → ⊥) → status ≡ other → status_of refusal ≡ other
+        refused_as (inl e) other never h = sym e ∙ h
+        refused_as (inr e) other never h = absurd (never (sym h ∙ e))
+
         not_writing : (status ≡ status_of refusal) ⊎ (status ≡ statuses.Memory) → status ≡ statuses.Write → ⊥
         not_writing (inl e) h = not_write refusal (sym e ∙ h)
         not_writing (inr e) h = let no = sym e ∙ h in absurd cc
 
         done : (status ≡ status_of refusal) ⊎ (status ≡ statuses.Memory)
-            → HasAnswered library words (record { told = told; store = record { asked = store; faults = s }; folder = record { asked = folder; faults = f }; out = out; err = err }) status
-            (record { told = after; store = record { asked = store_after; faults = t }; folder = record { asked = folder_after; faults = g }; out = out; err = err_after })
-            → Done status out out err err_after
+            → HasAnswered library words (record { told = told; store = record { asked = store; faults = s }; folder = record { asked = folder; faults = f }; out = out; err = err; door = door }) status
+            (record { told = after; store = record { asked = store_after; faults = t }; folder = record { asked = folder_after; faults = g }; out = out; err = err_after; door = door })
+            → Done status out out err err_after door door
         done own answered = record {
           kept = kept;
-          later = record { store = later; folder = later_folder; out = omega arith; err = err_later };
+          later = record { store = later; folder = later_folder; out = omega arith; err = err_later; door = omega arith; late = omega arith };
           asked = asked_told status own;
-          answered = answered;
+          answered = inl answered;
           reading = counted refusal status s t f g counts told_.read own;
           writing = record { failed = λ h. absurd (not_writing own h); steady = λ other. refl };
+          entrance = λ h. absurd (not_door refusal (refused_as own statuses.Door (λ e. absurd cc) h));
           usage = usage_told status own;
           complete = complete_told status own;
         }
 
-        one : ((status ≡ status_of refusal) × WroteOrBroke err err_after (line_of refusal)) ⊎ ((status ≡ statuses.Memory) × Wrote err err_after []) → Done status out out err err_after
+        one : ((status ≡ status_of refusal) × WroteOrBroke err err_after (line_of refusal)) ⊎ ((status ≡ statuses.Memory) × Wrote err err_after []) → Done status out out err err_after door door
         one (inl (e, said)) = done (inl e) (record {
           text = [];
           line = line_of refusal;
           cause = subst (λ (x : Status). IsAnswer library words told x [] (line_of refusal)) (sym e) answers;
           out = inl (wrote_none out);
           err = said;
+          door = refl;
+          other = λ h. absurd (not_done refusal (refused_as (inl e) statuses.Done (λ e. absurd cc) h));
         })
         one (inr (e, none)) = done (inr e) (record {
           text = [];
@@ -269,4 +305,6 @@ module _ (library : Libraries) (words : List (List ℕ)) (told after : Told) (fo
           cause = inr (inr (e, refl, refl));
           out = inl (wrote_none out);
           err = inl none;
+          door = refl;
+          other = λ h. let no = sym e ∙ h in absurd cc;
         })

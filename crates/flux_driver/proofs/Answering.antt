@@ -4,16 +4,18 @@ use Rattle.flux_values.specs.Meanings.{LibraryMeaning}
 use Rattle.flux_library.specs.Documents.{DocMap}
 use Rattle.flux_outside.specs.Causes.{Rose}
 use Rattle.flux_outside.specs.Streams.{Stream, Gains, Wrote, Broke, WroteOrBroke}
-use Rattle.flux_words.specs.Commands.{Command, Spells}
+use Rattle.flux_words.specs.Behind.{Serving}
+use Rattle.flux_words.specs.Commands.{Command, serve, Spells}
 use Rattle.flux_words.proofs.OneCommand.{one_command}
 use Rattle.flux_driver.specs.declared.statuses.Status.{Status}
 use Rattle.flux_driver.specs.declared.statuses.Status.TheVariants as statuses
 use Rattle.flux_driver.specs.Worlds.{Told, Seen}
 use Rattle.flux_driver.specs.Documents.{AreDocs, WithDocs, TellsAll}
 use Rattle.flux_driver.specs.Commands.{folder_of}
-use Rattle.flux_driver.specs.Causes.{IsStatic, IsItems, IsMissing}
+use Rattle.flux_driver.specs.Causes.{IsStatic, IsItems, IsMissing, IsUnserved}
+use Rattle.flux_driver.specs.Serving.{HasServedWords}
 use Rattle.flux_driver.specs.Answers.{Libraries, Decided, Happened, IsAnswer, OrMemory}
-use Rattle.flux_driver.specs.Top.{HasDone}
+use Rattle.flux_driver.specs.Top.{HasAnswered, HasDone}
 use Rattle.flux_driver.specs.Headline.{NoneRose}
 use Rattle.flux_driver.proofs.Documented.{docs_once, not_both}
 
@@ -58,6 +60,13 @@ module _ (library : Libraries) (words : List (List ℕ)) (told : Told) (command 
     | inr memory ↦ absurd cc
   ]
 
+-- words of another command than `serve` were not served
+pub answered_of : (library : Libraries) (words : List (List ℕ)) (before after : Seen) (status : Status) (command : Command) → Spells words command → ((file : List ℕ) (serving : Serving) → command ≡ serve file serving → ⊥)
+    → HasAnswered library words before status after ⊎ HasServedWords library words before status after → HasAnswered library words before status after
+answered_of library words before after status command spelled other (inl answered) = answered
+answered_of library words before after status command spelled other (inr served) =
+    absurd (other served.file served.serving (one_command words command (serve served.file served.serving) spelled served.spelled))
+
 -- ---- commands that have all that they read
 
 module _ (library : Libraries) (told : Told) (command : Command) (tells : TellsAll told command) (docs : DocMap) (are : AreDocs told.folders (folder_of command) docs) where
@@ -66,7 +75,7 @@ module _ (library : Libraries) (told : Told) (command : Command) (tells : TellsA
   with_these Says with_ = subst (λ (own : DocMap). Says (library own))
       (docs_once told.folders (folder_of command) with_.docs docs tells.docs with_.are are) with_.says
 
-  module _ (not_static : (line : List ℕ) → IsStatic (library docs) command told.files line → ⊥) (not_items : (line : List ℕ) → IsItems (library docs) command told.files line → ⊥) (not_missing : (line : List ℕ) → IsMissing (library docs) command told.files line → ⊥) where
+  module _ (not_static : (line : List ℕ) → IsStatic (library docs) command told.files line → ⊥) (not_items : (line : List ℕ) → IsItems (library docs) command told.files line → ⊥) (not_missing : (line : List ℕ) → IsMissing (library docs) command told.files line → ⊥) (not_unserved : (line : List ℕ) → IsUnserved (library docs) command told.files line → ⊥) where
     -- the status is 0 or 8, unless a count rose or memory was short
     pub done_or_no : (status : Status) (text line : List ℕ) → (status ≡ statuses.Read → ⊥) → (status ≡ statuses.Write → ⊥)
         → Decided library command told status text line ⊎ Happened library command told status text line
@@ -87,7 +96,7 @@ module _ (library : Libraries) (told : Told) (command : Command) (tells : TellsA
     done_or_no statuses.Usage text line r w (inr happened) = absurd happened
     done_or_no statuses.Door text line r w (inl decided) = absurd decided
     done_or_no statuses.Door text line r w (inr happened) = absurd happened
-    done_or_no statuses.NotServed text line r w (inl decided) = absurd decided
+    done_or_no statuses.NotServed text line r w (inl (unserved, empty)) = absurd (not_unserved line (with_these (λ m. IsUnserved m command told.files line) unserved))
     done_or_no statuses.NotServed text line r w (inr happened) = absurd happened
 
 -- ---- no count rose
@@ -105,10 +114,10 @@ module _ (library : Libraries) (words : List (List ℕ)) (before after : Seen) (
   not_write write = let writing = done.writing in rose.out (writing.failed write)
 
   -- so what the command's causes leave is answered
-  pub answered_by : (command : Command) (X : Type 0) → Spells words command
+  pub answered_by : (command : Command) (X : Type 0) → Spells words command → ((file : List ℕ) (serving : Serving) → command ≡ serve file serving → ⊥)
       → ((text line : List ℕ) → Decided library command before.told status text line ⊎ Happened library command before.told status text line → X)
       → (status ≡ statuses.Memory → X) → X
-  answered_by command X spelled left short = let answered = done.answered in
+  answered_by command X spelled other left short = let answered = answered_of library words before after status command spelled other done.answered in
       elim (of_command library words before.told command spelled status answered.text answered.line answered.cause) [
         | inl cause ↦ left answered.text answered.line cause
         | inr memory ↦ short memory

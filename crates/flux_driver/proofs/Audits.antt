@@ -13,7 +13,7 @@ use Rattle.flux_driver.specs.Causes.{IsStatic, IsItemsText, AreItemsLost, IsJour
 use Rattle.flux_driver.specs.Answers.{Libraries, Decided, OrMemory}
 use Rattle.flux_driver.specs.Audits.{HasAgreed, YesIsTrue, HasRefuted, NoIsTrue, IsAuditable, AuditsAreAnswered}
 use Rattle.flux_driver.proofs.Once.{not_lost, gives_here, not_faulty, fault_here}
-use Rattle.flux_driver.proofs.Answering.{silent, gained, of_done, of_no, done_or_no, not_read, not_write, answered_by}
+use Rattle.flux_driver.proofs.Answering.{silent, gained, answered_of, of_done, of_no, done_or_no, not_read, not_write, answered_by}
 
 module _ (library : Libraries) (before after : Seen) (file items journal : List ℕ) (dir : Option (List ℕ)) where
   agreed : (text line : List ℕ) → Decided library (audit file items journal dir) before.told statuses.Done text line → Gains before.out after.out text → WroteOrBroke before.err after.err line → HasAgreed library before after file items journal dir
@@ -40,14 +40,14 @@ module _ (library : Libraries) (before after : Seen) (file items journal : List 
 
 pub yes_true : YesIsTrue
 yes_true library words before after file items journal dir spelled done =
-    let answered = done.answered in
+    let answered = answered_of library words before after statuses.Done (audit file items journal dir) spelled (λ other serving e. absurd cc) done.answered in
     agreed library before after file items journal dir answered.text answered.line
     (of_done library words before.told (audit file items journal dir) spelled answered.text answered.line answered.cause)
     (gained before.out after.out answered.text answered.out) answered.err
 
 pub no_true : NoIsTrue
 no_true library words before after file items journal dir spelled done =
-    let answered = done.answered in
+    let answered = answered_of library words before after statuses.No (audit file items journal dir) spelled (λ other serving e. absurd cc) done.answered in
     refuted library before after file items journal dir answered.text answered.line
     (of_no library words before.told (audit file items journal dir) spelled answered.text answered.line answered.cause)
     (some_of library before after file items journal dir answered.text statuses.No answered.out) answered.err
@@ -78,8 +78,8 @@ module _ (library : Libraries) (told : Told) (file items journal : List ℕ) (di
 
 pub audits_answered : AuditsAreAnswered
 audits_answered library words before after status file items journal dir spelled tells there rose done =
-    answered_by library words before after status rose done (audit file items journal dir) (OrMemory status ((status ≡ statuses.Done) ⊎ (status ≡ statuses.No))) spelled
+    answered_by library words before after status rose done (audit file items journal dir) (OrMemory status ((status ≡ statuses.Done) ⊎ (status ≡ statuses.No))) spelled (λ other serving e. absurd cc)
     (λ text line cause. done_or_no library before.told (audit file items journal dir) tells there.docs there.are_docs
     (not_static library before.told file items journal dir tells there) (not_items library before.told file items journal dir tells there) (not_missing library before.told file items journal dir tells there)
-    status text line (not_read library words before after status rose done) (not_write library words before after status rose done) cause)
+    (λ line unserved. unserved) status text line (not_read library words before after status rose done) (not_write library words before after status rose done) cause)
     (λ memory. inr memory)

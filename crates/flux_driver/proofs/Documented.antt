@@ -5,7 +5,7 @@ use Rattle.std.proofs.lemmas.List.{append-nil}
 use Rattle.flux_library.specs.Documents.{DocMap}
 use Rattle.flux_library.specs.laws.Documents.{same_docs}
 use Rattle.flux_docs.proofs.Once.{one_docs, not_lost}
-use Rattle.flux_words.specs.Commands.{Command, check, plan, format, run, audit, load, help}
+use Rattle.flux_words.specs.Commands.{Command, check, plan, format, run, audit, load, serve, help}
 use Rattle.flux_driver.specs.declared.prepared.Prepared.{Prepared}
 use Rattle.flux_driver.specs.declared.prepared.Prepared.TheVariants.{Text, No}
 use Rattle.flux_driver.specs.declared.refusals.Refusal.{Refusal}
@@ -16,7 +16,7 @@ use Rattle.flux_driver.specs.Worlds.{Files, Folders, Told}
 use Rattle.flux_driver.specs.Commands.{ReadsProgram, folder_of}
 use Rattle.flux_driver.specs.Documents.{AreDocs, IsDirLost, TellsDocs}
 use Rattle.flux_driver.specs.Origins.{named}
-use Rattle.flux_driver.specs.Causes.{lost_line}
+use Rattle.flux_driver.specs.Causes.{lost_line, not_served_line}
 use Rattle.flux_driver.specs.Answers.{Libraries, Decided, IsFolderMissing}
 use Rattle.flux_driver.specs.Top.{IsStopped}
 use Rattle.flux_driver.specs.steps.Documents.{AreUnread}
@@ -65,6 +65,7 @@ unread_stops folders (Some dir) (refusals.Missing name) unread = refl
 unread_stops folders (Some dir) refusals.Read unread = refl
 unread_stops folders (Some dir) refusals.Memory unread = tt
 unread_stops folders (Some dir) refusals.Usage unread = absurd unread
+unread_stops folders (Some dir) refusals.NotServed unread = absurd unread
 unread_stops folders (Some dir) (refusals.Static line) unread = absurd unread
 unread_stops folders (Some dir) (refusals.Items fault) unread = absurd unread
 
@@ -76,6 +77,7 @@ module _ (library : Libraries) (command : Command) (told : Told) where
   refused_with docs (refusals.Items fault) are (inl judged) = inl (record { docs = docs; are = are; says = judged }, refl)
   refused_with docs (refusals.Missing name) are (inl judged) = inl (inr (record { docs = docs; are = are; says = judged }), refl)
   refused_with docs refusals.Usage are (inl judged) = absurd judged
+  refused_with docs refusals.NotServed are (inl judged) = inl (record { docs = docs; are = are; says = judged }, refl)
   refused_with docs refusals.Read are (inl judged) = absurd judged
   refused_with docs refusals.Memory are (inl judged) = absurd judged
   refused_with docs refusal are (inr (inl fails)) = subst (IsRefusedAll library command told) (sym fails.is) (inr (inl ((fails.file, fails.reads), refl, refl)))
@@ -92,6 +94,7 @@ module _ (library : Libraries) (command : Command) (told : Told) where
   reads_program (run file items manner) unread = (file, refl)
   reads_program (audit file items journal docs) unread = (file, refl)
   reads_program (load count first runtime) unread = absurd unread
+  reads_program (serve file serving) unread = (file, refl)
   reads_program help unread = absurd unread
 
   none_unread : (dir : Option (List ℕ)) (refusal : Refusal) → (IsStopped dir (status_of refusal) → ⊥) → AreUnread told.folders dir refusal → ⊥
@@ -102,6 +105,7 @@ module _ (library : Libraries) (command : Command) (told : Told) where
   refused_unread refusals.Read unread = inr (inl (reads_program command unread, refl, refl))
   refused_unread refusals.Memory unread = inr (inr refl)
   refused_unread refusals.Usage unread = absurd (none_unread (folder_of command) refusals.Usage (λ x. x) unread)
+  refused_unread refusals.NotServed unread = absurd (none_unread (folder_of command) refusals.NotServed (λ x. x) unread)
   refused_unread (refusals.Static line) unread = absurd (none_unread (folder_of command) (refusals.Static line) (λ x. x) unread)
   refused_unread (refusals.Items fault) unread = absurd (none_unread (folder_of command) (refusals.Items fault) (λ x. x) unread)
 
@@ -122,6 +126,7 @@ module _ (library : Libraries) (command : Command) (told : Told) where
 both_store : (refusal : Refusal) (s t f g : ℕ) → g ≡ f → CountsRefusal refusal s t → CountsBothRefusal refusal s t f g
 both_store refusals.Read s t f g same counts = inl counts
 both_store refusals.Usage s t f g same counts = record { store_ = counts; folder_ = same }
+both_store refusals.NotServed s t f g same counts = record { store_ = counts; folder_ = same }
 both_store (refusals.Static line) s t f g same counts = record { store_ = counts; folder_ = same }
 both_store (refusals.Items fault) s t f g same counts = record { store_ = counts; folder_ = same }
 both_store (refusals.Missing name) s t f g same counts = record { store_ = counts; folder_ = same }
@@ -134,6 +139,7 @@ counts_store (Err refusal) s t f g same counts = both_store refusal s t f g same
 pub counts_folder : (refusal : Refusal) (s f g : ℕ) → CountsRefusal refusal f g → CountsBothRefusal refusal s s f g
 counts_folder refusals.Read s f g counts = inr counts
 counts_folder refusals.Usage s f g counts = record { store_ = refl; folder_ = counts }
+counts_folder refusals.NotServed s f g counts = record { store_ = refl; folder_ = counts }
 counts_folder (refusals.Static line) s f g counts = record { store_ = refl; folder_ = counts }
 counts_folder (refusals.Items fault) s f g counts = record { store_ = refl; folder_ = counts }
 counts_folder (refusals.Missing name) s f g counts = record { store_ = refl; folder_ = counts }
@@ -158,12 +164,12 @@ module _ (library : Libraries) (command : Command) (files : Files) (folders : Fo
   seen statuses.Static text line d = let w = d.0 in inl (w.docs, w.are, inr (inr (inl (refl, w.says))))
   seen statuses.Items text line d = let w = d.0 in inl (w.docs, w.are, inr (inr (inr (inl (refl, w.says)))))
   seen statuses.Missing text line (inl lost, none) = inr (refl, lost)
-  seen statuses.Missing text line (inr w, none) = inl (w.docs, w.are, inr (inr (inr (inr (refl, w.says)))))
+  seen statuses.Missing text line (inr w, none) = inl (w.docs, w.are, inr (inr (inr (inr (inl (refl, w.says))))))
   seen statuses.Usage text line d = absurd d
   seen statuses.Read text line d = absurd d
   seen statuses.Write text line d = absurd d
   seen statuses.Door text line d = absurd d
-  seen statuses.NotServed text line d = absurd d
+  seen statuses.NotServed text line d = let w = d.0 in inl (w.docs, w.are, inr (inr (inr (inr (inr (refl, w.says))))))
   seen statuses.Memory text line d = absurd d
 
   pub due_with : (docs : DocMap) (status : Status) (text line : List ℕ) → AreDocs folders (folder_of command) docs → View (library docs) command files status text line
@@ -192,8 +198,9 @@ module _ (library : Libraries) (command : Command) (files : Files) (folders : Fo
       → IsFirm (library docs) command files (status_of refusal) → AnswersDue library command told (status_of refusal)
   due_refused docs (refusals.Static line) are (inl judged) firm = due_with docs statuses.Static [] line are (inr (inr (inl (refl, judged)))) firm
   due_refused docs (refusals.Items fault) are (inl judged) firm = due_with docs statuses.Items [] (line_of (refusals.Items fault)) are (inr (inr (inr (inl (refl, judged))))) firm
-  due_refused docs (refusals.Missing name) are (inl judged) firm = due_with docs statuses.Missing [] (lost_line name.now) are (inr (inr (inr (inr (refl, judged))))) firm
+  due_refused docs (refusals.Missing name) are (inl judged) firm = due_with docs statuses.Missing [] (lost_line name.now) are (inr (inr (inr (inr (inl (refl, judged)))))) firm
   due_refused docs refusals.Usage are (inl judged) firm = absurd judged
+  due_refused docs refusals.NotServed are (inl judged) firm = due_with docs statuses.NotServed [] not_served_line are (inr (inr (inr (inr (inr (refl, judged)))))) firm
   due_refused docs refusals.Read are (inl judged) firm = absurd judged
   due_refused docs refusals.Memory are (inl judged) firm = absurd judged
   due_refused docs refusal are (inr (inl fails)) firm = λ tells due u m d. inr (inl (ap status_of fails.is))
@@ -204,6 +211,7 @@ module _ (library : Libraries) (command : Command) (files : Files) (folders : Fo
   due_unread refusals.Read unread = λ tells due u m d. inr (inl refl)
   due_unread refusals.Memory unread = λ tells due u m d. inr (inr refl)
   due_unread refusals.Usage unread = absurd (none_unread library command told (folder_of command) refusals.Usage (λ x. x) unread)
+  due_unread refusals.NotServed unread = absurd (none_unread library command told (folder_of command) refusals.NotServed (λ x. x) unread)
   due_unread (refusals.Static line) unread = absurd (none_unread library command told (folder_of command) (refusals.Static line) (λ x. x) unread)
   due_unread (refusals.Items fault) unread = absurd (none_unread library command told (folder_of command) (refusals.Items fault) (λ x. x) unread)
 

@@ -14,8 +14,8 @@ use Rattle.flux_driver.specs.Inputs.{HasProgram, HasItems}
 use Rattle.flux_driver.specs.Causes.{IsStatic, IsItemsText, AreItemsLost, IsMissing}
 use Rattle.flux_driver.specs.Answers.{Libraries, Decided, Happened, OrMemory}
 use Rattle.flux_driver.proofs.Once.{not_lost, gives_here, not_faulty, fault_here}
-use Rattle.flux_driver.proofs.Answering.{silent, gained, of_done, done_or_no, not_read, not_write, answered_by}
-use Rattle.flux_driver.specs.Headline.{IsThere, HasRun, AreFaultless, RunsAreTrue, RunsAreAnswered}
+use Rattle.flux_driver.proofs.Answering.{silent, gained, answered_of, of_done, done_or_no, not_read, not_write, answered_by}
+use Rattle.flux_driver.specs.Headline.{IsThere, HasRun, AreFaultless, RunsAreTrue, NoneRose, RunsAreAnswered}
 
 has_run : (library : Libraries) (before after : Seen) (file items : List ℕ) (manner : Manner) (text line : List ℕ) → Decided library (run file items manner) before.told statuses.Done text line
     → Gains before.out after.out text → WroteOrBroke before.err after.err line → HasRun library before after file items manner
@@ -51,7 +51,7 @@ has_run library before after file items manner text line (prints, none) out err 
 
 pub runs_true : RunsAreTrue
 runs_true library words before after file items manner spelled done =
-    let answered = done.answered in
+    let answered = answered_of library words before after statuses.Done (run file items manner) spelled (λ other serving e. absurd cc) done.answered in
     has_run library before after file items manner answered.text answered.line
     (of_done library words before.told (run file items manner) spelled answered.text answered.line answered.cause)
     (gained before.out after.out answered.text answered.out) answered.err
@@ -94,10 +94,10 @@ no_verdict library told file items manner other text line cause e = absurd cc
 
 pub runs_answered : RunsAreAnswered
 runs_answered library words before after status file items manner spelled tells there none rose done =
-    answered_by library words before after status rose done (run file items manner) (OrMemory status (status ≡ statuses.Done)) spelled
+    answered_by library words before after status rose done (run file items manner) (OrMemory status (status ≡ statuses.Done)) spelled (λ other serving e. absurd cc)
     (λ text line cause. settled text line cause (done_or_no library before.told (run file items manner) tells there.docs there.are_docs
     (not_static library before.told file items manner tells there) (not_items library before.told file items manner tells there none) (not_missing library before.told file items manner tells there)
-    status text line (not_read library words before after status rose done) (not_write library words before after status rose done) cause))
+    (λ line unserved. unserved) status text line (not_read library words before after status rose done) (not_write library words before after status rose done) cause))
     (λ memory. inr memory)
   where
     settled : (text line : List ℕ) → Decided library (run file items manner) before.told status text line ⊎ Happened library (run file items manner) before.told status text line

@@ -13,3 +13,7 @@ pub mod Answering
 mod Headline
 mod Audits
 mod Loads
+pub mod Readied
+pub mod Serves
+mod ServedHeadline
+pub mod ServedDone

@@ -76,6 +76,7 @@ pub counts_says : (Says : List ℕ → Type 0) (refusal : Refusal) (before after
 counts_says Says (refusals.Static line) before after says same = same
 counts_says Says refusals.Memory before after says same = same
 counts_says Says refusals.Usage before after says same = absurd says
+counts_says Says refusals.NotServed before after says same = absurd says
 counts_says Says (refusals.Items fault) before after says same = absurd says
 counts_says Says refusals.Read before after says same = absurd says
 counts_says Says (refusals.Missing name) before after says same = absurd says
@@ -85,6 +86,7 @@ pub counts_items : (rules : ItemRules) (text : List ℕ) (refusal : Refusal) (be
 counts_items rules text (refusals.Items fault) before after are same = same
 counts_items rules text refusals.Memory before after are same = same
 counts_items rules text refusals.Usage before after are same = absurd are
+counts_items rules text refusals.NotServed before after are same = absurd are
 counts_items rules text (refusals.Static line) before after are same = absurd are
 counts_items rules text refusals.Read before after are same = absurd are
 counts_items rules text (refusals.Missing name) before after are same = absurd are
@@ -101,17 +103,19 @@ module _ (meaning : LibraryMeaning) (told : Files) where
   unread_program command file reads refusals.Read u = inr (inl (record { file = file; reads = reads; is = refl }))
   unread_program command file reads refusals.Memory u = inr (inr refl)
   unread_program command file reads refusals.Usage u = absurd u
+  unread_program command file reads refusals.NotServed u = absurd u
   unread_program command file reads (refusals.Static line) u = absurd u
   unread_program command file reads (refusals.Items fault) u = absurd u
 
   -- ---- texts that were refused
 
-  says_refused : (command : Command) (program : Origin) (text : List ℕ) (Stands : StaticFault → Type 0) → ReadsProgram command program → GivesText told program PROGRAM_FILE_LIMIT text
+  pub says_refused : (command : Command) (program : Origin) (text : List ℕ) (Stands : StaticFault → Type 0) → ReadsProgram command program → GivesText told program PROGRAM_FILE_LIMIT text
       → ((fault : StaticFault) → Stands fault → IsStaticOf meaning command text fault) → (refusal : Refusal) → SaysOrMemory (IsFaultLine Stands text) refusal → IsRefused meaning command told refusal
   says_refused command program text Stands reads gives of (refusals.Static line) says =
       inl (record { program = program; reads = reads; text = text; gives = gives; fault = says.fault; stands = of says.fault says.stands; said = says.said })
   says_refused command program text Stands reads gives of refusals.Memory says = inr (inr refl)
   says_refused command program text Stands reads gives of refusals.Usage says = absurd says
+  says_refused command program text Stands reads gives of refusals.NotServed says = absurd says
   says_refused command program text Stands reads gives of (refusals.Items fault) says = absurd says
   says_refused command program text Stands reads gives of refusals.Read says = absurd says
   says_refused command program text Stands reads gives of (refusals.Missing name) says = absurd says
@@ -146,6 +150,7 @@ module _ (meaning : LibraryMeaning) (told : Files) (program items : Origin) wher
   program_unread file is refusals.Read u = (file, is)
   program_unread file is refusals.Memory u = tt
   program_unread file is refusals.Usage u = u
+  program_unread file is refusals.NotServed u = u
   program_unread file is (refusals.Static line) u = absurd u
   program_unread file is (refusals.Items fault) u = absurd u
 
@@ -153,6 +158,7 @@ module _ (meaning : LibraryMeaning) (told : Files) (program items : Origin) wher
   program_faulty text (refusals.Static line) gives says = record { text = text; gives = gives; fault = says }
   program_faulty text refusals.Memory gives says = tt
   program_faulty text refusals.Usage gives says = says
+  program_faulty text refusals.NotServed gives says = says
   program_faulty text (refusals.Items fault) gives says = absurd says
   program_faulty text refusals.Read gives says = absurd says
   program_faulty text (refusals.Missing name) gives says = absurd says
@@ -173,6 +179,7 @@ module _ (meaning : LibraryMeaning) (told : Files) where
   unloaded command program items reads static faulty missed refusals.Read (name, is) = inr (inl (record { file = name; reads = subst (ReadsProgram command) is reads; is = refl }))
   unloaded command program items reads static faulty missed refusals.Memory u = inr (inr refl)
   unloaded command program items reads static faulty missed refusals.Usage u = absurd u
+  unloaded command program items reads static faulty missed refusals.NotServed u = absurd u
 
   named_missed : (file items name : List ℕ) → AreItemsMissed meaning told (named file) (named items) name → name ≡ items
   named_missed file items name missed = let e = missed.is in cc
@@ -197,6 +204,7 @@ module _ (meaning : LibraryMeaning) (told : Files) where
   unloaded_reads program items refusals.Read u tells stands = absurd stands
   unloaded_reads program items refusals.Memory u tells stands = absurd stands
   unloaded_reads program items refusals.Usage u tells stands = absurd stands
+  unloaded_reads program items refusals.NotServed u tells stands = absurd stands
 
 -- texts that a command makes are not read
 pub counts_made : (meaning : LibraryMeaning) (told : Files) (text items : List ℕ) (refusal : Refusal) (faults : ℕ) → IsUnloaded meaning told (made text) (made items) refusal → CountsRefusal refusal faults faults
@@ -204,6 +212,7 @@ counts_made meaning told text items refusals.Read faults (name, is) = absurd cc
 counts_made meaning told text items (refusals.Static line) faults u = refl
 counts_made meaning told text items refusals.Memory faults u = refl
 counts_made meaning told text items refusals.Usage faults u = refl
+counts_made meaning told text items refusals.NotServed faults u = refl
 counts_made meaning told text items (refusals.Items fault) faults u = refl
 counts_made meaning told text items (refusals.Missing name) faults u = refl
 
@@ -341,6 +350,7 @@ module _ (meaning : LibraryMeaning) (text : List ℕ) (program : Program) (sigs 
     items_unread items file name read is refusals.Read u = (file, read)
     items_unread items file name read is refusals.Memory u = tt
     items_unread items file name read is refusals.Usage u = u
+    items_unread items file name read is refusals.NotServed u = u
     items_unread items file name read is (refusals.Static line) u = absurd u
     items_unread items file name read is (refusals.Items fault) u = absurd u
 
@@ -353,6 +363,7 @@ module _ (meaning : LibraryMeaning) (text : List ℕ) (program : Program) (sigs 
       items_faulty (refusals.Items fault) r = (record { has = own_items; fault = fault; stands = subst (λ (r : ItemRules). IsFaultOf r fault items_text) own_rules r; said = refl }, reads_well)
       items_faulty refusals.Memory r = tt
       items_faulty refusals.Usage r = r
+      items_faulty refusals.NotServed r = r
       items_faulty (refusals.Static line) r = absurd r
       items_faulty refusals.Read r = absurd r
       items_faulty (refusals.Missing name) r = absurd r
@@ -413,5 +424,6 @@ module _ (meaning : LibraryMeaning) (told : Files) (file items : List ℕ) (own 
   journal_unread journal docs refusals.Read u = inr (inl (record { file = file; reads = refl; is = refl }))
   journal_unread journal docs refusals.Memory u = inr (inr refl)
   journal_unread journal docs refusals.Usage u = absurd u
+  journal_unread journal docs refusals.NotServed u = absurd u
   journal_unread journal docs (refusals.Static line) u = absurd u
   journal_unread journal docs (refusals.Items fault) u = absurd u

@@ -15,7 +15,7 @@ use Rattle.flux_driver.specs.Causes.{IsStatic, IsItemsText, IsMissing}
 use Rattle.flux_driver.specs.Answers.{Libraries, Decided, Happened, OrMemory}
 use Rattle.flux_driver.specs.Loads.{HasLoaded, LoadsAreTrue, IsLoadable, LoadsAreAnswered}
 use Rattle.flux_driver.proofs.Once.{gives_here, not_faulty, fault_here}
-use Rattle.flux_driver.proofs.Answering.{silent, gained, of_done, done_or_no, not_read, not_write, answered_by}
+use Rattle.flux_driver.proofs.Answering.{silent, gained, answered_of, of_done, done_or_no, not_read, not_write, answered_by}
 
 has_loaded : (library : Libraries) (before after : Seen) (count first : ℕ) (runtime : Runtime) (text line : List ℕ) → Decided library (load count first runtime) before.told statuses.Done text line → Gains before.out after.out text → WroteOrBroke before.err after.err line → HasLoaded library before after count first runtime
 has_loaded library before after count first runtime text line (prints, none) out err = record {
@@ -29,7 +29,7 @@ has_loaded library before after count first runtime text line (prints, none) out
 
 pub loads_true : LoadsAreTrue
 loads_true library words before after count first runtime spelled done =
-    let answered = done.answered in
+    let answered = answered_of library words before after statuses.Done (load count first runtime) spelled (λ other serving e. absurd cc) done.answered in
     has_loaded library before after count first runtime answered.text answered.line
     (of_done library words before.told (load count first runtime) spelled answered.text answered.line answered.cause)
     (gained before.out after.out answered.text answered.out) answered.err
@@ -69,10 +69,10 @@ no_verdict library told count first runtime other text line cause e = absurd cc
 
 pub loads_answered : LoadsAreAnswered
 loads_answered library words before after status count first runtime spelled there rose done =
-    answered_by library words before after status rose done (load count first runtime) (OrMemory status (status ≡ statuses.Done)) spelled
+    answered_by library words before after status rose done (load count first runtime) (OrMemory status (status ≡ statuses.Done)) spelled (λ other serving e. absurd cc)
     (λ text line cause. settled text line cause (done_or_no library before.told (load count first runtime) (tells library before.told count first runtime there) there.docs there.none
     (not_static library before.told count first runtime there) (not_items library before.told count first runtime there) (not_missing library before.told count first runtime there)
-    status text line (not_read library words before after status rose done) (not_write library words before after status rose done) cause))
+    (λ line unserved. unserved) status text line (not_read library words before after status rose done) (not_write library words before after status rose done) cause))
     (λ memory. inr memory)
   where
     settled : (text line : List ℕ) → Decided library (load count first runtime) before.told status text line ⊎ Happened library (load count first runtime) before.told status text line

@@ -12,6 +12,7 @@ use Rattle.flux_syntax.specs.Declares.{Declares}
 use Rattle.flux_syntax.specs.ProgramOfText.{program_of}
 use Rattle.flux_syntax.proofs.Texts.{one_list, no_decls}
 use Rattle.flux_check.specs.Judgement.{AreSound, IsTextFault}
+use Rattle.flux_serve.specs.Served.{IsServed}
 use Rattle.flux_check.proofs.Exclusive.{not_both}
 use Rattle.flux_items.specs.declared.rules.ItemRules.{ItemRules}
 use Rattle.flux_items.specs.Items.{AreItemsOf}
@@ -24,19 +25,19 @@ use Rattle.flux_audit.specs.declared.verdicts.Verdict.{Verdict}
 use Rattle.flux_audit.specs.declared.verdicts.Verdict.TheVariants as verdicts
 use Rattle.flux_audit.specs.Verdicts.{HasVerdict}
 use Rattle.flux_audit.proofs.Judging.{one_verdict}
-use Rattle.flux_words.specs.Commands.{Command, check, plan, format, run, audit, load, help}
+use Rattle.flux_words.specs.Commands.{Command, check, plan, format, run, audit, load, serve, help}
 use Rattle.flux_driver.specs.declared.files.TheConstants.{PROGRAM_FILE_LIMIT, ITEMS_FILE_LIMIT, JOURNAL_FILE_LIMIT}
 use Rattle.flux_driver.specs.declared.statuses.Status.{Status}
 use Rattle.flux_driver.specs.declared.statuses.Status.TheVariants as statuses
 use Rattle.flux_driver.specs.Worlds.{Files, Gives, IsLost}
 use Rattle.flux_driver.specs.Origins.{Origin, named, made, GivesText, TellsText}
 use Rattle.flux_driver.specs.Commands.{ReadsProgram, TellsFiles}
-use Rattle.flux_driver.specs.Inputs.{HasDecls, HasProgram, HasItems, GivesItems}
+use Rattle.flux_driver.specs.Inputs.{HasDecls, HasProgram, HasItems, GivesItems, HasServable, HasUnservable}
 use Rattle.flux_driver.specs.Items.{rules_of, rules_in, kinds_in}
 use Rattle.flux_driver.specs.Audited.{setup_given, IsAudited}
 use Rattle.flux_driver.specs.TrueRuns.{setup_of}
 use Rattle.flux_driver.specs.Printed.{IsPrinted, IsRefuted}
-use Rattle.flux_driver.specs.Causes.{IsStaticOf, IsStatic, IsItemsText, IsItems, AreItemsLost, IsJournalLost, IsMissing}
+use Rattle.flux_driver.specs.Causes.{IsStaticOf, IsStatic, IsItemsText, IsItems, AreItemsLost, IsJournalLost, IsMissing, IsUnserved}
 use Rattle.flux_driver.specs.steps.Preparing.{AreRead, ReadsItems, IsFirm}
 
 -- ---- one text, one list of declarations, one program
@@ -138,7 +139,8 @@ abbrev pub View : LibraryMeaning → Command → Files → Status → List ℕ �
 View meaning command told status text line =
     ((status ≡ statuses.Done) × IsPrinted meaning command told text) ⊎ (((status ≡ statuses.No) × IsRefuted meaning command told text)
     ⊎ (((status ≡ statuses.Static) × IsStatic meaning command told line)
-    ⊎ (((status ≡ statuses.Items) × IsItems meaning command told line) ⊎ ((status ≡ statuses.Missing) × IsMissing meaning command told line))))
+    ⊎ (((status ≡ statuses.Items) × IsItems meaning command told line) ⊎ (((status ≡ statuses.Missing) × IsMissing meaning command told line)
+    ⊎ ((status ≡ statuses.NotServed) × IsUnserved meaning command told line)))))
 
 -- what a command's program is read from, where it goes on to items, and what these are read from
 abbrev HasSound : LibraryMeaning → Files → Origin → Type 0
@@ -152,6 +154,7 @@ module _ (meaning : LibraryMeaning) (told : Files) where
   tells_program (run file items manner) program tells reads = subst (TellsText told) (sym reads) tells
   tells_program (audit file items journal docs) program tells reads = subst (TellsText told) (sym reads) tells
   tells_program (load count first runtime) program tells reads = subst (TellsText told) (sym reads) tt
+  tells_program (serve file serving) program tells reads = subst (TellsText told) (sym reads) tells
   tells_program help program tells reads = absurd reads
 
   -- both are the program's
@@ -162,6 +165,7 @@ module _ (meaning : LibraryMeaning) (told : Files) where
   same_program (run file items manner) a b x y = x ∙ sym y
   same_program (audit file items journal docs) a b x y = x ∙ sym y
   same_program (load count first runtime) a b x y = x ∙ sym y
+  same_program (serve file serving) a b x y = x ∙ sym y
   same_program help a b x y = absurd x
 
   -- a file is read, so that files are told
@@ -172,6 +176,7 @@ module _ (meaning : LibraryMeaning) (told : Files) where
   some_read (run file items manner) name tells reads = tells
   some_read (audit file items journal docs) name tells reads = tells
   some_read (load count first runtime) name tells reads = absurd cc
+  some_read (serve file serving) name tells reads = tells
   some_read help name tells reads = absurd reads
 
   -- ---- what lies behind a sound program
@@ -205,6 +210,7 @@ module _ (meaning : LibraryMeaning) (told : Files) where
   printed_sound (run file items manner) text p = let g = p.given in let h = g.has in inr (sound_of (run file items manner) (named file) refl h.decls h.program_ (λ t f s. s))
   printed_sound (audit file items journal docs) text (events, a, is) = let g = a.given in let h = g.has in inr (sound_of (audit file items journal docs) (named file) refl h.decls h.program_ (λ t f s. s))
   printed_sound (load count first runtime) text p = let g = p.given in let h = g.has in inr (sound_of (load count first runtime) _ refl h.decls h.program_ (λ t f s. s))
+  printed_sound (serve file serving) text p = let ready = p.1 in inr (sound_of (serve file serving) (named file) refl ready.decls ready.has (λ t f s. s))
   printed_sound help text p = inl refl
 
   refuted_sound : (command : Command) (text : List ℕ) → IsRefuted meaning command told text → IsSoundOf command
@@ -298,6 +304,43 @@ module _ (meaning : LibraryMeaning) (told : Files) where
       let e = one_verdict_here meaning told (named file) tells (named items) tells read journal (verdicts.Yes p.0) (verdicts.No r.0 r.1) tells p.1 r.2 in absurd cc
   printed_refuted own text other tells read p r = absurd r
 
+-- ---- programs that can't be served
+
+module _ (meaning : LibraryMeaning) (told : Files) where
+  -- a program can be served, or it can't
+  pub served_unserved : (program : Origin) → TellsText told program → HasServable meaning told program → HasUnservable meaning told program → ⊥
+  served_unserved program tells s u =
+      let can = s.has in
+      let no = u.has in
+      let same = decls_is told program s.decls u.decls tells can.has no.has in
+      u.none s.framing (subst (λ (ds : List Decl). IsServed meaning (program_of ds) s.framing) same s.source)
+
+  printed_unserved : (command : Command) (text line : List ℕ) → TellsFiles told command → IsPrinted meaning command told text → IsUnserved meaning command told line → ⊥
+  printed_unserved (serve file serving) text line tells p u = served_unserved (named file) tells p.1 u.0
+  printed_unserved other text line tells p u = absurd u
+
+  refuted_unserved : (command : Command) (text line : List ℕ) → IsRefuted meaning command told text → IsUnserved meaning command told line → ⊥
+  refuted_unserved (serve file serving) text line r u = r
+  refuted_unserved other text line r u = absurd u
+
+  static_unserved : (command : Command) (said line : List ℕ) → TellsFiles told command → IsStatic meaning command told said → IsUnserved meaning command told line → ⊥
+  static_unserved (serve file serving) said line tells s u = let no = u.0 in
+      not_faulty meaning told (named file) tells s.text s.fault no.decls no.has (gives_here meaning told (named file) s.program s.text s.reads s.gives) s.stands
+  static_unserved other said line tells s u = absurd u
+
+  items_unserved : (command : Command) (said line : List ℕ) → IsItems meaning command told said → IsUnserved meaning command told line → ⊥
+  items_unserved (serve file serving) said line i u = i
+  items_unserved other said line i u = absurd u
+
+  missing_unserved : (command : Command) (said line : List ℕ) → TellsFiles told command → IsMissing meaning command told said → IsUnserved meaning command told line → ⊥
+  missing_unserved (serve file serving) said line tells m u = one m.lost
+    where
+      one : ((named m.name ≡ named file) × IsLost told m.name PROGRAM_FILE_LIMIT) ⊎ (⊥ ⊎ ⊥) → ⊥
+      one (inl (same, lost)) = let no = u.0 in let has = no.has in program_there meaning told (named file) tells no.decls has.has m.name (sym same) tells lost
+      one (inr (inl never)) = never
+      one (inr (inr never)) = never
+  missing_unserved other said line tells m u = absurd u
+
 module _ (meaning : LibraryMeaning) (told : Files) (command : Command) (tells : TellsFiles told command) where
   abbrev Views : Status → List ℕ → List ℕ → Type 0
   Views = View meaning command told
@@ -341,24 +384,35 @@ module _ (meaning : LibraryMeaning) (told : Files) (command : Command) (tells : 
   same_view s r t l u m firm (inl (a, p)) (inr (inl (b, q))) = absurd (printed_refuted meaning told command t u tells (reads s statuses.Done a firm tells tt) p q)
   same_view s r t l u m firm (inl (a, p)) (inr (inr (inl (b, q)))) = absurd (printed_static meaning told command tells t m p q)
   same_view s r t l u m firm (inl (a, p)) (inr (inr (inr (inl (b, q))))) = absurd (printed_items meaning told command t m tells (reads s statuses.Done a firm tells tt) p q)
-  same_view s r t l u m firm (inl (a, p)) (inr (inr (inr (inr (b, q))))) = absurd (printed_missing t m p q)
+  same_view s r t l u m firm (inl (a, p)) (inr (inr (inr (inr (inl (b, q)))))) = absurd (printed_missing t m p q)
   same_view s r t l u m firm (inr (inl (a, p))) (inl (b, q)) = absurd (printed_refuted meaning told command u t tells (reads s statuses.No a firm tells tt) q p)
   same_view s r t l u m firm (inr (inl (a, p))) (inr (inl (b, q))) = a ∙ sym b
   same_view s r t l u m firm (inr (inl (a, p))) (inr (inr (inl (b, q)))) = absurd (refuted_static t m p q)
   same_view s r t l u m firm (inr (inl (a, p))) (inr (inr (inr (inl (b, q))))) = absurd (refuted_items meaning told command t m tells (reads s statuses.No a firm tells tt) p q)
-  same_view s r t l u m firm (inr (inl (a, p))) (inr (inr (inr (inr (b, q))))) = absurd (refuted_missing t m p q)
+  same_view s r t l u m firm (inr (inl (a, p))) (inr (inr (inr (inr (inl (b, q)))))) = absurd (refuted_missing t m p q)
   same_view s r t l u m firm (inr (inr (inl (a, p)))) (inl (b, q)) = absurd (printed_static meaning told command tells u l q p)
   same_view s r t l u m firm (inr (inr (inl (a, p)))) (inr (inl (b, q))) = absurd (refuted_static u l q p)
   same_view s r t l u m firm (inr (inr (inl (a, p)))) (inr (inr (inl (b, q)))) = a ∙ sym b
   same_view s r t l u m firm (inr (inr (inl (a, p)))) (inr (inr (inr (inl (b, q))))) = absurd (items_static m l q p)
-  same_view s r t l u m firm (inr (inr (inl (a, p)))) (inr (inr (inr (inr (b, q))))) = absurd (static_missing meaning told command tells l m p q)
+  same_view s r t l u m firm (inr (inr (inl (a, p)))) (inr (inr (inr (inr (inl (b, q)))))) = absurd (static_missing meaning told command tells l m p q)
   same_view s r t l u m firm (inr (inr (inr (inl (a, p))))) (inl (b, q)) = absurd (printed_items meaning told command u l tells (reads s statuses.Items a firm tells tt) q p)
   same_view s r t l u m firm (inr (inr (inr (inl (a, p))))) (inr (inl (b, q))) = absurd (refuted_items meaning told command u l tells (reads s statuses.Items a firm tells tt) q p)
   same_view s r t l u m firm (inr (inr (inr (inl (a, p))))) (inr (inr (inl (b, q)))) = absurd (items_static l m p q)
   same_view s r t l u m firm (inr (inr (inr (inl (a, p))))) (inr (inr (inr (inl (b, q))))) = a ∙ sym b
-  same_view s r t l u m firm (inr (inr (inr (inl (a, p))))) (inr (inr (inr (inr (b, q))))) = absurd (items_missing l m (reads s statuses.Items a firm tells tt) p q)
-  same_view s r t l u m firm (inr (inr (inr (inr (a, p))))) (inl (b, q)) = absurd (printed_missing u l q p)
-  same_view s r t l u m firm (inr (inr (inr (inr (a, p))))) (inr (inl (b, q))) = absurd (refuted_missing u l q p)
-  same_view s r t l u m firm (inr (inr (inr (inr (a, p))))) (inr (inr (inl (b, q)))) = absurd (static_missing meaning told command tells m l q p)
-  same_view s r t l u m firm (inr (inr (inr (inr (a, p))))) (inr (inr (inr (inl (b, q))))) = absurd (items_missing m l (reads s statuses.Missing a firm tells tt) q p)
-  same_view s r t l u m firm (inr (inr (inr (inr (a, p))))) (inr (inr (inr (inr (b, q))))) = a ∙ sym b
+  same_view s r t l u m firm (inr (inr (inr (inl (a, p))))) (inr (inr (inr (inr (inl (b, q)))))) = absurd (items_missing l m (reads s statuses.Items a firm tells tt) p q)
+  same_view s r t l u m firm (inr (inr (inr (inr (inl (a, p)))))) (inl (b, q)) = absurd (printed_missing u l q p)
+  same_view s r t l u m firm (inr (inr (inr (inr (inl (a, p)))))) (inr (inl (b, q))) = absurd (refuted_missing u l q p)
+  same_view s r t l u m firm (inr (inr (inr (inr (inl (a, p)))))) (inr (inr (inl (b, q)))) = absurd (static_missing meaning told command tells m l q p)
+  same_view s r t l u m firm (inr (inr (inr (inr (inl (a, p)))))) (inr (inr (inr (inl (b, q))))) = absurd (items_missing m l (reads s statuses.Missing a firm tells tt) q p)
+  same_view s r t l u m firm (inr (inr (inr (inr (inl (a, p)))))) (inr (inr (inr (inr (inl (b, q)))))) = a ∙ sym b
+  same_view s r t l u m firm (inl (a, p)) (inr (inr (inr (inr (inr (b, q)))))) = absurd (printed_unserved meaning told command t m tells p q)
+  same_view s r t l u m firm (inr (inl (a, p))) (inr (inr (inr (inr (inr (b, q)))))) = absurd (refuted_unserved meaning told command t m p q)
+  same_view s r t l u m firm (inr (inr (inl (a, p)))) (inr (inr (inr (inr (inr (b, q)))))) = absurd (static_unserved meaning told command l m tells p q)
+  same_view s r t l u m firm (inr (inr (inr (inl (a, p))))) (inr (inr (inr (inr (inr (b, q)))))) = absurd (items_unserved meaning told command l m p q)
+  same_view s r t l u m firm (inr (inr (inr (inr (inl (a, p)))))) (inr (inr (inr (inr (inr (b, q)))))) = absurd (missing_unserved meaning told command l m tells p q)
+  same_view s r t l u m firm (inr (inr (inr (inr (inr (a, p)))))) (inl (b, q)) = absurd (printed_unserved meaning told command u l tells q p)
+  same_view s r t l u m firm (inr (inr (inr (inr (inr (a, p)))))) (inr (inl (b, q))) = absurd (refuted_unserved meaning told command u l q p)
+  same_view s r t l u m firm (inr (inr (inr (inr (inr (a, p)))))) (inr (inr (inl (b, q)))) = absurd (static_unserved meaning told command m l tells q p)
+  same_view s r t l u m firm (inr (inr (inr (inr (inr (a, p)))))) (inr (inr (inr (inl (b, q))))) = absurd (items_unserved meaning told command m l q p)
+  same_view s r t l u m firm (inr (inr (inr (inr (inr (a, p)))))) (inr (inr (inr (inr (inl (b, q)))))) = absurd (missing_unserved meaning told command m l tells q p)
+  same_view s r t l u m firm (inr (inr (inr (inr (inr (a, p)))))) (inr (inr (inr (inr (inr (b, q)))))) = a ∙ sym b

@@ -10,7 +10,7 @@ use Rattle.flux_driver.specs.Documents.{WithDocs, IsDirLost}
 use Rattle.flux_driver.specs.Commands.{ReadsProgram, folder_of}
 use Rattle.flux_driver.specs.Origins.{named}
 use Rattle.flux_driver.specs.Printed.{IsPrinted, IsRefuted}
-use Rattle.flux_driver.specs.Causes.{IsStatic, IsItems, IsMissing, usage_line, read_line, write_line, lost_line}
+use Rattle.flux_driver.specs.Causes.{IsStatic, IsItems, IsMissing, IsUnserved, usage_line, read_line, write_line, lost_line}
 
 -- a library's meaning, by its documents
 abbrev pub Libraries : Type 0
@@ -51,6 +51,8 @@ Decided library command told statuses.Items text line =
     WithDocs library command told (λ meaning. IsItems meaning command told.files line) × (text ≡ [])
 Decided library command told statuses.Missing text line =
     Misses library command told line × (text ≡ [])
+Decided library command told statuses.NotServed text line =
+    WithDocs library command told (λ meaning. IsUnserved meaning command told.files line) × (text ≡ [])
 Decided library command told other text line = ⊥
 
 -- what else a command can come to: reading failed, or writing failed (the text is the one that was to

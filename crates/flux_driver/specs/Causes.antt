@@ -11,12 +11,12 @@ use Rattle.flux_items.specs.declared.rules.ItemFault.{ItemFault}
 use Rattle.flux_items.specs.declared.rules.ItemFault.TheVariants as items_
 use Rattle.flux_items.specs.Faults.{line_of, IsFaultOf}
 use Rattle.flux_load.specs.Loads.{program_text, items_text}
-use Rattle.flux_words.specs.Commands.{Command, check, plan, format, run, audit, load, help}
+use Rattle.flux_words.specs.Commands.{Command, check, plan, format, run, audit, load, serve, help}
 use Rattle.flux_driver.specs.declared.files.TheConstants.{PROGRAM_FILE_LIMIT, ITEMS_FILE_LIMIT, JOURNAL_FILE_LIMIT}
 use Rattle.flux_driver.specs.Worlds.{Files, IsLost}
 use Rattle.flux_driver.specs.Origins.{Origin, named, made, GivesText}
 use Rattle.flux_driver.specs.Commands.{ReadsProgram}
-use Rattle.flux_driver.specs.Inputs.{HasProgram, HasItems, GivesItems}
+use Rattle.flux_driver.specs.Inputs.{HasProgram, HasItems, GivesItems, HasUnservable}
 use Rattle.flux_driver.specs.Items.{rules_in}
 
 -- ---- lines
@@ -45,6 +45,12 @@ read_line = codes "flux: read failed\n"
 abbrev pub write_line : List ℕ
 write_line = codes "flux: write failed\n"
 
+abbrev pub door_line : List ℕ
+door_line = codes "flux: door failed\n"
+
+abbrev pub not_served_line : List ℕ
+not_served_line = codes "flux: not a served program\n"
+
 abbrev pub lost_line : List ℕ → List ℕ
 lost_line name = codes "flux: missing or too long: " ++ name ++ codes "\n"
 
@@ -58,6 +64,7 @@ IsStaticOf meaning (format file) text fault = IsFaulty fault.kind fault.at text 
 IsStaticOf meaning (run file items manner) text fault = IsTextFault meaning text fault
 IsStaticOf meaning (audit file items journal docs) text fault = IsTextFault meaning text fault
 IsStaticOf meaning (load count first runtime) text fault = IsTextFault meaning text fault
+IsStaticOf meaning (serve file serving) text fault = IsTextFault meaning text fault
 IsStaticOf meaning help text fault = ⊥
 
 pub record IsStatic (meaning : LibraryMeaning) (command : Command) (told : Files) (line : List ℕ)
@@ -89,6 +96,7 @@ IsItems meaning (audit file items journal docs) told line =
     IsItemsText meaning told (named file) (named items) line
 IsItems meaning (load count first runtime) told line =
     IsItemsText meaning told (made program_text) (made (items_text count first)) line
+IsItems meaning (serve file serving) told line = ⊥
 IsItems meaning help told line = ⊥
 
 -- ---- a file isn't there, or is past its limit
@@ -127,3 +135,15 @@ pub record IsMissing (meaning : LibraryMeaning) (command : Command) (told : File
   pub lost : (ReadsProgram command (named name) × IsLost told name PROGRAM_FILE_LIMIT)
       ⊎ (AreItemsLost meaning command told name ⊎ IsJournalLost meaning command told name)
   pub said : line ≡ lost_line name
+
+-- ---- a sound program can't be served
+
+abbrev pub IsUnserved : LibraryMeaning → Command → Files → List ℕ → Type 0
+IsUnserved meaning (check file) told line = ⊥
+IsUnserved meaning (plan file) told line = ⊥
+IsUnserved meaning (format file) told line = ⊥
+IsUnserved meaning (run file items manner) told line = ⊥
+IsUnserved meaning (audit file items journal docs) told line = ⊥
+IsUnserved meaning (load count first runtime) told line = ⊥
+IsUnserved meaning (serve file serving) told line = HasUnservable meaning told (named file) × (line ≡ not_served_line)
+IsUnserved meaning help told line = ⊥

@@ -1,7 +1,7 @@
 -- What a command reads.
 use Rattle.std.specs.Prelude.{◌≡◌, ℕ, List, Option, None, IsSome, ⊤}
 use Rattle.flux_load.specs.Loads.{program_text}
-use Rattle.flux_words.specs.Commands.{Command, check, plan, format, run, audit, load, help}
+use Rattle.flux_words.specs.Commands.{Command, check, plan, format, run, audit, load, serve, help}
 use Rattle.flux_driver.specs.Worlds.{Files}
 use Rattle.flux_driver.specs.Origins.{Origin, named, made}
 
@@ -13,6 +13,7 @@ ReadsProgram (format file) from = from ≡ named file
 ReadsProgram (run file items manner) from = from ≡ named file
 ReadsProgram (audit file items journal docs) from = from ≡ named file
 ReadsProgram (load count first runtime) from = from ≡ made program_text
+ReadsProgram (serve file serving) from = from ≡ named file
 ReadsProgram help from = ⊥
 
 -- the folder of documents, where one is named
@@ -23,6 +24,7 @@ folder_of (format file) = None
 folder_of (run file items manner) = manner.docs
 folder_of (audit file items journal docs) = docs
 folder_of (load count first runtime) = None
+folder_of (serve file serving) = serving.docs
 folder_of help = None
 
 -- what files hold is told, where the command reads any
@@ -33,4 +35,5 @@ TellsFiles told (format file) = IsSome told
 TellsFiles told (run file items manner) = IsSome told
 TellsFiles told (audit file items journal docs) = IsSome told
 TellsFiles told (load count first runtime) = ⊤
+TellsFiles told (serve file serving) = IsSome told
 TellsFiles told help = ⊤

@@ -5,8 +5,11 @@ use Rattle.flux_model.specs.declared.items.Item.{Item}
 use Rattle.flux_items.specs.Items.{AreItemsOf}
 use Rattle.flux_syntax.specs.declared.declarations.Decl.{Decl}
 use Rattle.flux_syntax.specs.Declares.{Declares}
+use Rattle.flux_syntax.specs.ProgramOfText.{program_of}
 use Rattle.flux_check.specs.Judgement.{AreSound}
 use Rattle.flux_driver.specs.declared.files.TheConstants.{PROGRAM_FILE_LIMIT, ITEMS_FILE_LIMIT}
+use Rattle.flux_batches.specs.declared.framing.Framing.{Framing}
+use Rattle.flux_serve.specs.Served.{IsServed, IsNotServed}
 use Rattle.flux_driver.specs.Worlds.{Files}
 use Rattle.flux_driver.specs.Origins.{Origin, GivesText}
 use Rattle.flux_driver.specs.Items.{rules_in}
@@ -35,3 +38,16 @@ pub record GivesItems (meaning : LibraryMeaning) (told : Files) (program items :
   pub has : HasItems meaning told program items
   pub its : List Item
   pub are : let own = has.program_ in AreItemsOf (rules_in meaning has.decls own.sound) its has.text
+
+-- a sound program that can be served, whose links are read so
+pub record HasServable (meaning : LibraryMeaning) (told : Files) (program : Origin) : Type 0 where
+  pub decls : List Decl
+  pub has : HasProgram meaning told program decls
+  pub framing : Framing
+  pub source : IsServed meaning (program_of decls) framing
+
+-- and one that can't be
+pub record HasUnservable (meaning : LibraryMeaning) (told : Files) (program : Origin) : Type 0 where
+  pub decls : List Decl
+  pub has : HasProgram meaning told program decls
+  pub none : IsNotServed meaning (program_of decls)

@@ -12,8 +12,10 @@ pub mod Audited
 pub mod Printed
 pub mod Causes
 pub mod Answers
+pub mod Serving
 pub mod Top
 pub mod BuiltIn
 pub mod Headline
 pub mod Audits
 pub mod Loads
+pub mod ServedHeadline

@@ -1,5 +1,5 @@
 -- What commands print on `out`.
-use Rattle.std.specs.Prelude.{◌≡◌, ℕ, List, codes}
+use Rattle.std.specs.Prelude.{◌≡◌, ℕ, List, [], codes}
 use Rattle.flux_values.specs.Meanings.{LibraryMeaning}
 use Rattle.flux_syntax.specs.declared.declarations.Decl.{Decl}
 use Rattle.flux_syntax.specs.Formatted.{formatted}
@@ -12,17 +12,17 @@ use Rattle.flux_load.specs.Loads.{program_text, items_text}
 use Rattle.flux_audit.specs.declared.verdicts.Rule.{Rule}
 use Rattle.flux_audit.specs.declared.verdicts.Verdict.TheVariants.{Yes, No}
 use Rattle.flux_audit.specs.Printed.{printed_verdict}
-use Rattle.flux_words.specs.Commands.{Command, check, plan, format, run, audit, load, help}
+use Rattle.flux_words.specs.Commands.{Command, check, plan, format, run, audit, load, serve, help}
 use Rattle.flux_driver.specs.declared.running.Printing.TheVariants.{Journal, Summary}
 use Rattle.flux_driver.specs.Worlds.{Files}
 use Rattle.flux_driver.specs.Origins.{Origin, named, made}
-use Rattle.flux_driver.specs.Inputs.{HasDecls, HasProgram}
+use Rattle.flux_driver.specs.Inputs.{HasDecls, HasProgram, HasServable}
 use Rattle.flux_driver.specs.TrueRuns.{IsRunText}
 use Rattle.flux_driver.specs.Audited.{IsAudited}
 
 -- a line for each command that is built
 abbrev pub help_text : List ℕ
-help_text = codes "flux check FILE\nflux plan FILE\nflux format FILE\nflux run FILE ITEMS [--runtime R] [--docs DIR] [--journal J]\nflux audit FILE ITEMS JOURNAL [--docs DIR]\nflux load N K [--runtime R]\nflux help or --help\n"
+help_text = codes "flux check FILE\nflux plan FILE\nflux format FILE\nflux run FILE ITEMS [--runtime R] [--docs DIR] [--journal J]\nflux audit FILE ITEMS JOURNAL [--docs DIR]\nflux load N K [--runtime R]\nflux serve FILE --port P [--docs DIR] [--batches B] [--runtime R]\nflux help or --help\n"
 
 -- the report on the locks of a sound program
 pub record IsReportText (meaning : LibraryMeaning) (told : Files) (program : Origin) (text : List ℕ)
@@ -42,7 +42,7 @@ pub record IsPlanText (meaning : LibraryMeaning) (told : Files) (program : Origi
 
 -- `check` prints the report, `plan` the plan, `format` the formatted text of the declarations, `run` a journal, `audit`
 -- that a journal is right, with the number of its events, `load` the summary of a run of its own two texts, and `help`
--- the help text
+-- the help text; `serve` prints nothing before it serves, and then its log
 abbrev pub IsPrinted : LibraryMeaning → Command → Files → List ℕ → Type 0
 IsPrinted meaning (check file) told text = IsReportText meaning told (named file) text
 IsPrinted meaning (plan file) told text = IsPlanText meaning told (named file) text
@@ -55,6 +55,7 @@ IsPrinted meaning (audit file items journal docs) told text = (events : ℕ)
     × (text ≡ printed_verdict (Yes events))
 IsPrinted meaning (load count first runtime) told text =
     IsRunText meaning told (made program_text) (made (items_text count first)) runtime Summary text
+IsPrinted meaning (serve file serving) told text = (text ≡ []) × HasServable meaning told (named file)
 IsPrinted meaning help told text = text ≡ help_text
 
 -- `audit` prints that a journal isn't right: the first line that breaks a rule, and the rule

@@ -3,7 +3,7 @@ use Rattle.std.specs.Prelude.{◌≡◌, ◌≢◌, ◌≤◌, ℕ, ◌⊎◌, L
 use Rattle.flux_values.specs.Meanings.{LibraryMeaning}
 use Rattle.flux_outside.specs.Causes.{Rose}
 use Rattle.flux_syntax.specs.declared.declarations.Decl.{Decl}
-use Rattle.flux_words.specs.Commands.{Command, check, plan, format, run, audit, load, help, Spells, SpellsNone}
+use Rattle.flux_words.specs.Commands.{Command, check, plan, format, run, audit, load, serve, help, Spells, SpellsNone}
 use Rattle.flux_driver.specs.declared.statuses.Status.{Status}
 use Rattle.flux_driver.specs.declared.statuses.Status.TheVariants as statuses
 use Rattle.flux_outside.specs.Streams.{Wrote, Broke, WroteOrBroke}
@@ -13,6 +13,8 @@ use Rattle.flux_driver.specs.Commands.{folder_of}
 use Rattle.flux_driver.specs.Origins.{named}
 use Rattle.flux_driver.specs.Inputs.{HasProgram, GivesItems}
 use Rattle.flux_driver.specs.Answers.{Libraries, Decided, IsAnswer, OrMemory}
+use Rattle.flux_driver.specs.Serving.{HasServedWords}
+use Rattle.flux_words.specs.Behind.{Serving}
 
 -- ---- what was asked for
 
@@ -32,6 +34,7 @@ AreFiles meaning (audit file items journal docs) told names =
     AreTwoFiles meaning told file items names
     ⊎ ((names ≡ file ∷ items ∷ journal ∷ []) × GivesItems meaning told (named file) (named items))
 AreFiles meaning (load count first runtime) told names = names ≡ []
+AreFiles meaning (serve file serving) told names = names ≡ file ∷ []
 AreFiles meaning help told names = names ≡ []
 
 -- the statuses that come where the documents weren't read; where no folder is named, memory was short
@@ -72,8 +75,12 @@ MayBreak statuses.Write = ⊤
 MayBreak statuses.No = ⊤
 MayBreak other = ⊥
 
+-- the words spell no `serve`
+abbrev pub SpellNoServe : List (List ℕ) → Type 0
+SpellNoServe words = (file : List ℕ) (serving : Serving) → Spells words (serve file serving) → ⊥
+
 -- the text is on `out`, all of it, or a front of it where writing failed; the line is on `err`, all of
--- it, or a front of it where `err` failed
+-- it, or a front of it where `err` failed; the door stays as it was; and only words that spell no `serve` end so with status 0
 pub record HasAnswered (library : Libraries) (words : List (List ℕ)) (before : Seen)
     (status : Status) (after : Seen) : Type 0 where
   pub text : List ℕ
@@ -82,6 +89,8 @@ pub record HasAnswered (library : Libraries) (words : List (List ℕ)) (before :
   pub out : Wrote before.out after.out text
       ⊎ (MayBreak status × Broke before.out after.out text)
   pub err : WroteOrBroke before.err after.err line
+  pub door : after.door ≡ before.door
+  pub other : status ≡ statuses.Done → SpellNoServe words
 
 -- ---- counts of failures
 
@@ -95,19 +104,25 @@ pub record RoseForWriting (status : Status) (out out_after : ℕ) : Type 0 where
   pub failed : status ≡ statuses.Write → Rose out out_after
   pub steady : (MayBreak status → ⊥) → out_after ≡ out
 
--- none of the four counts fell
+-- status 7 comes only where the door's count rose
+abbrev pub RoseForDoor : Status → ℕ → ℕ → Type 0
+RoseForDoor status door door_after = status ≡ statuses.Door → Rose door door_after
+
+-- none of these counts fell
 pub record AreLater (before after : Seen) : Type 0 where
   pub store : let own = before.store in let later = after.store in own.faults ≤ later.faults
   pub folder : let own = before.folder in let later = after.folder in own.faults ≤ later.faults
   pub out : let own = before.out in let later = after.out in own.faults ≤ later.faults
   pub err : let own = before.err in let later = after.err in own.faults ≤ later.faults
+  pub door : let own = before.door in let later = after.door in own.faults ≤ later.faults
+  pub late : let own = before.door in let later = after.door in own.late ≤ later.late
 
 -- ---- what was due
 
--- the status is the one that is due, unless reading failed, or the printing of what was due
+-- the status is the one that is due, unless reading failed, or the printing of what was due, or the door
 abbrev pub Decides : Status → Status → Type 0
 Decides status due = (status ≡ due) ⊎ ((status ≡ statuses.Read)
-    ⊎ ((status ≡ statuses.Write) × (due ≡ statuses.Done)))
+    ⊎ (((status ≡ statuses.Write) ⊎ (status ≡ statuses.Door)) × (due ≡ statuses.Done)))
 
 -- what a command decides, where all that it reads is told, is answered
 abbrev pub IsComplete : Libraries → List (List ℕ) → Told → Status → Type 0
@@ -120,9 +135,11 @@ IsComplete library words told status = (command : Command) → Spells words comm
 -- A call with these words answers this status:
 --   what is told of files and folders is as before, no count of failures falls, and the words say which
 --   folder and which files were asked for, in which order;
---   the status has its cause, and `out` and `err` have gained what belongs to it;
+--   the status has its cause, and `out` and `err` have gained what belongs to it, and the door stays as it was; or `serve`
+--   has served;
 --   with status 5 the count of the store or of the folder rose, and with any other both stand as
---   before; the same of status 6 and the count of `out`, which may rise with status 8 too;
+--   before; the same of status 6 and the count of `out`, which may rise with status 8 too; with status 7 that of the
+--   door rose;
 --   words that are no command are refused, and what is due is answered, unless memory was short.
 pub record HasDone (library : Libraries) (words : List (List ℕ)) (before : Seen)
     (status : Status) (after : Seen) : Type 0 where
@@ -132,11 +149,13 @@ pub record HasDone (library : Libraries) (words : List (List ℕ)) (before : See
       let store = before.store in let store_after = after.store in
       HasAsked library words before.told status folder.asked folder_after.asked store.asked
       store_after.asked
-  pub answered : HasAnswered library words before status after
+  pub answered : HasAnswered library words before status after ⊎ HasServedWords library words before status after
   pub reading : let folder = before.folder in let folder_after = after.folder in
       let store = before.store in let store_after = after.store in
       RoseForReading status store.faults store_after.faults folder.faults folder_after.faults
   pub writing : let own = before.out in let later = after.out in
       RoseForWriting status own.faults later.faults
+  pub entrance : let own = before.door in let later = after.door in
+      RoseForDoor status own.faults later.faults
   pub usage : SpellsNone words → OrMemory status (status ≡ statuses.Usage)
   pub complete : IsComplete library words before.told status

@@ -6,3 +6,4 @@ pub mod Preparing
 pub mod Telling
 pub mod Loading
 pub mod Auditing
+pub mod Serving

@@ -1,7 +1,7 @@
 //! What the words ask for: the documents first, and then the command's files.
 
 ghost use Rattle.std.specs.Prelude.{◌≡◌, ◌≤◌, [], IfOk, IfErr, option_copied};
-ghost use Rattle.std.specs.Arc.{arc_value};
+ghost use Rattle.flux_words.specs.Commands.{Command, Spells, IsServe};
 ghost use Rattle.flux_words.specs.Asking.{asked};
 ghost use Rattle.flux_driver.specs.BuiltIn.{built_in};
 ghost use Rattle.flux_driver.specs.Commands.{folder_of};
@@ -12,17 +12,15 @@ ghost use Rattle.flux_driver.specs.steps.Running.{CanDrive};
 ghost use Rattle.flux_driver.specs.steps.Preparing.{AsksAll, PreparesAll, IsRefusedAll, CountsBoth, AnswersDue, AnswersWords, PreparesWords, prepared_status};
 
 use crate::commands::prepare;
-use crate::documents::load_docs;
+use crate::documents::{load_docs, share};
 use crate::prepared::Prepared;
 use crate::refusals::Refusal;
 use flow_core::Core;
-use flux_library::Docs;
 use flux_outside::{Folder, Store};
 use flux_values::{Bytes, Memory};
 use flux_words::{Asked, Runtime, read_words};
 use nodes_all::All;
 use std::alloc::Global;
-use std::sync::Arc;
 
 /// The folder of documents, where one is named.
 fn dir_of<'a>(wanted: &Asked<'a>) -> Option<&'a [u8]>
@@ -31,15 +29,9 @@ fn dir_of<'a>(wanted: &Asked<'a>) -> Option<&'a [u8]>
     match wanted {
         Asked::Run { docs, .. } => *docs,
         Asked::Audit { docs, .. } => *docs,
+        Asked::Serve { docs, .. } => *docs,
         _ => None,
     }
-}
-
-/// The library of these documents.
-fn share(alloc: Global, docs: Docs) -> Result<Arc<All>, Memory>
-    ensures { IfOk result (λ library. let all = arc_value library in all.docs ≡ docs) }
-{
-    Ok(Arc::new(alloc, All { docs })?)
 }
 
 /// What a command prints: all of it is made before any of it is written.
@@ -50,7 +42,8 @@ fn prepare_asked<'a, S: Store, F: Folder, D: Fn(Core<All>, Runtime) -> Result<Co
     driver: &D,
     wanted: Asked<'a>,
 ) -> Result<Prepared, Refusal<'a>>
-    requires { CanDrive (D.pre driver.now) (D.post driver.now) }
+    requires driver { CanDrive (D.pre driver.now) (D.post driver.now) }
+    requires printed { IsServe (asked wanted) → ⊥ }
     ensures kept { S.files store.new ≡ S.files store.old }
     ensures kept_folders { F.folders folder.new ≡ F.folders folder.old }
     ensures later { S.faults store.old ≤ S.faults store.new }
@@ -87,7 +80,8 @@ pub fn prepare_words<
     driver: &D,
     words: &'a [Bytes],
 ) -> Result<Prepared, Refusal<'a>>
-    requires { CanDrive (D.pre driver.now) (D.post driver.now) }
+    requires driver { CanDrive (D.pre driver.now) (D.post driver.now) }
+    requires printed { (command : Command) → Spells words.now command → IsServe command → ⊥ }
     ensures kept { S.files store.new ≡ S.files store.old }
     ensures kept_folders { F.folders folder.new ≡ F.folders folder.old }
     ensures later { S.faults store.old ≤ S.faults store.new }

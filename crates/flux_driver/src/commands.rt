@@ -2,7 +2,7 @@
 
 ghost use Rattle.std.specs.Prelude.{◌≡◌, ◌≤◌, IfOk, IfErr, ℕ, List, Option};
 ghost use Rattle.std.specs.Arc.{arc_value};
-ghost use Rattle.flux_words.specs.Commands.{check, plan, format, audit, load};
+ghost use Rattle.flux_words.specs.Commands.{IsServe, check, plan, format, audit, load};
 ghost use Rattle.flux_words.specs.Asking.{asked};
 ghost use Rattle.flux_driver.specs.BuiltIn.{meaning_in};
 ghost use Rattle.flux_driver.specs.Worlds.{Files};
@@ -32,7 +32,7 @@ use std::sync::Arc;
 
 /// What `help` prints: a line for each command that is built.
 const HELP: &[u8] =
-    b"flux check FILE\nflux plan FILE\nflux format FILE\nflux run FILE ITEMS [--runtime R] [--docs DIR] [--journal J]\nflux audit FILE ITEMS JOURNAL [--docs DIR]\nflux load N K [--runtime R]\nflux help or --help\n";
+    b"flux check FILE\nflux plan FILE\nflux format FILE\nflux run FILE ITEMS [--runtime R] [--docs DIR] [--journal J]\nflux audit FILE ITEMS JOURNAL [--docs DIR]\nflux load N K [--runtime R]\nflux serve FILE --port P [--docs DIR] [--batches B] [--runtime R]\nflux help or --help\n";
 
 /// The report that `check` prints.
 fn prepare_check<'a, L: Library, S: Store>(
@@ -211,7 +211,8 @@ pub fn prepare<'a, S: Store, D: Fn(Core<All>, Runtime) -> Result<Core<All>, Memo
     driver: &D,
     wanted: Asked<'a>,
 ) -> Result<Prepared, Refusal<'a>>
-    requires { CanDrive (D.pre driver.now) (D.post driver.now) }
+    requires driver { CanDrive (D.pre driver.now) (D.post driver.now) }
+    requires printed { IsServe (asked wanted) → ⊥ }
     ensures kept { S.files store.new ≡ S.files store.old }
     ensures later { S.faults store.old ≤ S.faults store.new }
     ensures asked { AsksFiles (meaning_in (arc_value library)) (asked wanted.entry)
@@ -246,6 +247,8 @@ pub fn prepare<'a, S: Store, D: Fn(Core<All>, Runtime) -> Result<Core<All>, Memo
             first,
             runtime,
         } => prepare_load(alloc, library, driver, count, first, runtime),
+        // It is served, and prints nothing before.
+        Asked::Serve { .. } => unreachable!(),
         Asked::Help => Ok(Prepared::Text(prepare_help(alloc)?)),
     }
 }

@@ -1,6 +1,7 @@
 //! The documents of a command.
 
 ghost use Rattle.std.specs.Prelude.{◌≡◌, ◌≤◌, ◌++◌, IfOk, IfErr, option_to_list, option_copied};
+ghost use Rattle.std.specs.Arc.{arc_value};
 ghost use Rattle.flux_outside.specs.Stores.{AskedFor};
 ghost use Rattle.flux_docs.specs.Folders.{GivesDocs};
 ghost use Rattle.flux_driver.specs.Documents.{AreDocs};
@@ -11,7 +12,10 @@ use crate::refusals::Refusal;
 use flux_docs::{DocsFault, read_docs};
 use flux_library::Docs;
 use flux_outside::Folder;
+use flux_values::Memory;
+use nodes_all::All;
 use std::alloc::Global;
+use std::sync::Arc;
 
 /// The documents of a folder.
 fn load<'a, F: Folder>(alloc: Global, folder: &mut F, dir: &'a [u8]) -> Result<Docs, Refusal<'a>>
@@ -49,4 +53,11 @@ pub fn load_docs<'a, F: Folder>(
         None => Ok(Docs::new(alloc)),
         Some(dir) => load(alloc, folder, dir),
     }
+}
+
+/// The library of these documents.
+pub fn share(alloc: Global, docs: Docs) -> Result<Arc<All>, Memory>
+    ensures { IfOk result (λ library. let all = arc_value library in all.docs ≡ docs) }
+{
+    Ok(Arc::new(alloc, All { docs })?)
 }

@@ -3,6 +3,7 @@
 ghost use Rattle.flux_driver.specs.Headline.{RunsAreTrue, RunsAreAnswered};
 ghost use Rattle.flux_driver.specs.Audits.{YesIsTrue, NoIsTrue, AuditsAreAnswered};
 ghost use Rattle.flux_driver.specs.Loads.{LoadsAreTrue, LoadsAreAnswered};
+ghost use Rattle.flux_driver.specs.ServedHeadline.{ServingIsTrue, ServingIsAnswered};
 
 /// Where the words spell `run` and `top` has answered 0, it has printed the journal of a true run of the items of the
 /// one file through the program of the other.
@@ -38,4 +39,16 @@ pub fn loads_are_true()
 /// memory is short.
 pub fn loads_are_answered()
     ensures { LoadsAreAnswered }
+{}
+
+/// Where the words spell `serve` and `top` has answered 0, it has served the program of the file until the door was closed,
+/// or as many batches as were wanted.
+pub fn serving_is_true()
+    ensures { ServingIsTrue }
+{}
+
+/// Where a program that can be served is there, and no reading, writing or accepting fails, `serve` answers 0, unless
+/// memory is short.
+pub fn serving_is_answered()
+    ensures { ServingIsAnswered }
 {}

@@ -17,6 +17,8 @@ mod prepared;
 mod refusals;
 mod rules;
 mod running;
+mod services;
+mod serving;
 mod statuses;
 mod summaries;
 mod telling;
@@ -26,7 +28,7 @@ pub use flow_core::{Gate, OpenGate};
 pub use flux_words::needs_threads;
 pub use laws::{
     audits_are_answered, audits_are_true, loads_are_answered, loads_are_true, runs_are_answered,
-    runs_are_true,
+    runs_are_true, serving_is_answered, serving_is_true,
 };
 pub use outermost::{World, answer, top, top_alone};
 pub use statuses::Status;

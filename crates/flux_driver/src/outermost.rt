@@ -1,20 +1,23 @@
 //! All that the program does, as one call.
 
 ghost use Rattle.std.specs.Prelude.{◌≡◌, [], IfOk, IsErr};
-ghost use Rattle.flux_words.specs.Commands.{Command, Spells, NeedsThreads};
+ghost use Rattle.flux_words.specs.Commands.{Command, Spells, IsServe, NeedsThreads};
 ghost use Rattle.flux_driver.specs.BuiltIn.{built_in, meaning_in};
-ghost use Rattle.flux_driver.specs.Worlds.{Seen, seen_by};
+ghost use Rattle.flux_driver.specs.Worlds.{Seen, seen_by, door_by, link_by};
 ghost use Rattle.flux_driver.specs.Top.{HasDone};
 ghost use Rattle.flux_driver.specs.steps.Running.{CanDrive, DrivesTo};
 
 use crate::asking::prepare_words;
 use crate::running::{drive_alone, drive_by_threads};
+use crate::services::ready_words;
+use crate::serving::serve_ready;
 use crate::statuses::Status;
-use crate::telling::{print, refuse};
+use crate::telling::{print, refuse, tell_end};
 use flow_core::{Core, Gate};
+use flux_doors::{Door, Link};
 use flux_outside::{Folder, Sink, Store};
 use flux_values::{Bytes, List, Memory};
-use flux_words::{Runtime, needs_threads};
+use flux_words::{Runtime, needs_threads, spells_serve};
 use nodes_all::All;
 use std::alloc::Global;
 use std::marker::Sync;
@@ -22,13 +25,14 @@ use std::sync::Wait;
 use std::thread::Threads;
 
 /// The outside world: the files that are named, the folders of documents, the stream that is printed on,
-/// and the stream for lines about what went wrong.
+/// the stream for lines about what went wrong, and the door that clients come in by.
 #[derive(Drop)]
-pub struct World<S: Store, F: Folder, O: Sink, E: Sink> {
+pub struct World<S: Store, F: Folder, O: Sink, E: Sink, D> {
     pub store: S,
     pub folder: F,
     pub out: O,
     pub err: E,
+    pub door: D,
 }
 
 /// Does what the words say, and answers how it ended. A run's flows are driven as the caller likes.
@@ -37,11 +41,14 @@ fn act<
     F: Folder,
     O: Sink,
     E: Sink,
-    D: Fn(Core<All>, Runtime) -> Result<Core<All>, Memory>,
->(alloc: Global, words: &[Bytes], world: &mut World<S, F, O, E>, driver: &D) -> Status
-    requires { CanDrive (D.pre driver.now) (D.post driver.now) }
-    ensures { let seen = seen_by S.files S.asked S.faults F.folders F.asked F.faults O.written O.faults
-        E.written E.faults in
+    D: Door,
+    R: Fn(Core<All>, Runtime) -> Result<Core<All>, Memory>,
+>(alloc: Global, words: &[Bytes], world: &mut World<S, F, O, E, D>, driver: &R) -> Status
+    requires driver { CanDrive (R.pre driver.now) (R.post driver.now) }
+    requires printed { (command : Command) → Spells words.now command → IsServe command → ⊥ }
+    ensures door { world.new.door ≡ world.old.door }
+    ensures done { let seen = seen_by S.files S.asked S.faults F.folders F.asked F.faults O.written O.faults
+        E.written E.faults (door_by (link_by D.Link.left D.Link.written D.Link.faults) D.to_come D.taken_back D.faults D.late) in
         HasDone built_in words.now (seen world.old) result (seen world.new) }
 {
     match prepare_words(alloc, &mut world.store, &mut world.folder, driver, words) {
@@ -53,15 +60,16 @@ fn act<
 /// Does what the words say without starting a thread, and answers how it ended.
 ///
 /// It has the whole clause of `top`. `needs_threads` tells whether words may come here.
-pub fn top_alone<S: Store, F: Folder, O: Sink, E: Sink, G: Gate>(
+pub fn top_alone<S: Store, F: Folder, O: Sink, E: Sink, D: Door, G: Gate>(
     alloc: Global,
     words: &[Bytes],
-    world: &mut World<S, F, O, E>,
+    world: &mut World<S, F, O, E, D>,
     gate: &G,
 ) -> Status
     requires { (command : Command) → Spells words.now command → NeedsThreads command → ⊥ }
-    ensures { let seen = seen_by S.files S.asked S.faults F.folders F.asked F.faults O.written O.faults
-        E.written E.faults in
+    ensures door { world.new.door ≡ world.old.door }
+    ensures done { let seen = seen_by S.files S.asked S.faults F.folders F.asked F.faults O.written O.faults
+        E.written E.faults (door_by (link_by D.Link.left D.Link.written D.Link.faults) D.to_come D.taken_back D.faults D.late) in
         HasDone built_in words.now (seen world.old) result (seen world.new) }
 {
     act(
@@ -75,28 +83,69 @@ pub fn top_alone<S: Store, F: Folder, O: Sink, E: Sink, G: Gate>(
     )
 }
 
+/// Serves the program that the words name, and answers how it ended. It has the whole clause of `top`.
+fn serve_words<S: Store, F: Folder, O: Sink, E: Sink, D: Door, G: Gate, Rt: Threads + Wait + Sync>(
+    rt: &Rt,
+    alloc: Global,
+    words: &[Bytes],
+    world: &mut World<S, F, O, E, D>,
+    gate: &G,
+) -> Status
+    requires spelled { (command : Command) × Spells words.now command × IsServe command }
+    requires out { D.out world.old.door ≡ 0 }
+    // Each accepted link has gone back to the door.
+    ensures out { D.out world.new.door ≡ 0 }
+    ensures done { let seen = seen_by S.files S.asked S.faults F.folders F.asked F.faults O.written O.faults
+        E.written E.faults (door_by (link_by D.Link.left D.Link.written D.Link.faults) D.to_come D.taken_back D.faults D.late) in
+        HasDone built_in words.now (seen world.old) result (seen world.new) }
+{
+    match ready_words(alloc, &mut world.store, &mut world.folder, words) {
+        Ok((service, ready)) => {
+            let end = serve_ready(
+                rt,
+                alloc,
+                ready,
+                service,
+                &mut world.door,
+                &mut world.out,
+                gate,
+            );
+            tell_end(&mut world.err, end)
+        }
+        Err(refusal) => refuse(alloc, &mut world.err, refusal),
+    }
+}
+
 /// Does what the words say, and answers how it ended.
 ///
 /// The words are those behind the program's own name. `check FILE` says whether a program is sound
 /// and reports on its locks, `plan FILE` prints what its nodes take, give, hold and count,
 /// `format FILE` prints its formatted text, `run FILE ITEMS` runs the items of one file through the program
 /// of another and prints the journal of their flows, `audit FILE ITEMS JOURNAL` prints whether a file is the
-/// journal of such a run, `load N K` runs a large load of its own and prints what it counted, and `help` prints
-/// the commands. The clause speaks of what is seen of the world before and after the call. The gate is told before and after each call of a
-/// node.
-pub fn top<S: Store, F: Folder, O: Sink, E: Sink, G: Gate + Sync, Rt: Threads + Wait + Sync>(
-    rt: &Rt,
-    alloc: Global,
-    words: &[Bytes],
-    world: &mut World<S, F, O, E>,
-    gate: &G,
-) -> Status
-    ensures { let seen = seen_by S.files S.asked S.faults F.folders F.asked F.faults O.written O.faults
-        E.written E.faults in
+/// journal of such a run, `load N K` runs a large load of its own and prints what it counted, `serve FILE` answers
+/// the links of a door, batch by batch, and logs them, and `help` prints the commands. The clause speaks of what is
+/// seen of the world before and after the call. The gate is told before and after each call of a node.
+pub fn top<
+    S: Store,
+    F: Folder,
+    O: Sink,
+    E: Sink,
+    D: Door,
+    G: Gate + Sync,
+    Rt: Threads + Wait + Sync,
+>(rt: &Rt, alloc: Global, words: &[Bytes], world: &mut World<S, F, O, E, D>, gate: &G) -> Status
+    requires out { D.out world.old.door ≡ 0 }
+    // Each accepted link has gone back to the door.
+    ensures out { D.out world.new.door ≡ 0 }
+    ensures done { let seen = seen_by S.files S.asked S.faults F.folders F.asked F.faults O.written O.faults
+        E.written E.faults (door_by (link_by D.Link.left D.Link.written D.Link.faults) D.to_come D.taken_back D.faults D.late) in
         HasDone built_in words.now (seen world.old) result (seen world.new) }
 {
     if !needs_threads(words) {
         return top_alone(alloc, words, world, gate);
+    }
+    if spells_serve(words) {
+        return serve_words(rt, alloc, words, world, gate);
     }
     act(
         alloc,
@@ -116,19 +165,21 @@ pub fn answer<
     F: Folder + Drop,
     O: Sink + Drop,
     E: Sink + Drop,
+    D: Door + Drop,
     G: Gate + Sync,
     Rt: Threads + Wait + Sync,
 >(
     rt: &Rt,
     alloc: Global,
     words: Result<List<Bytes>, Memory>,
-    world: Result<World<S, F, O, E>, Memory>,
+    world: Result<World<S, F, O, E, D>, Memory>,
     gate: &G,
 ) -> Status
+    requires out { IfOk world (λ before. D.out before.door ≡ 0) }
     ensures words { IsErr words → result ≡ Status.Memory }
     ensures world { IsErr world → result ≡ Status.Memory }
     ensures done { let seen = seen_by S.files S.asked S.faults F.folders F.asked F.faults O.written O.faults
-        E.written E.faults in
+        E.written E.faults (door_by (link_by D.Link.left D.Link.written D.Link.faults) D.to_come D.taken_back D.faults D.late) in
         IfOk words (λ given. IfOk world (λ before. (after : Seen)
         × HasDone built_in given (seen before) result after)) }
 {

@@ -23,6 +23,8 @@ pub enum Refusal<'a> {
     Read,
     /// The name of a file or a folder that is missing or too long.
     Missing(&'a [u8]),
+    /// The program can't be served.
+    NotServed,
     Memory,
 }
 
@@ -91,6 +93,7 @@ impl<'a> Refusal<'a> {
             Refusal::Items(_) => Status::Items,
             Refusal::Read => Status::Read,
             Refusal::Missing(_) => Status::Missing,
+            Refusal::NotServed => Status::NotServed,
             Refusal::Memory => Status::Memory,
         }
     }
@@ -110,6 +113,7 @@ impl<'a> Refusal<'a> {
                 line.append(name)?;
                 line.append(b"\n")?;
             }
+            Refusal::NotServed => line.append(b"flux: not a served program\n")?,
             Refusal::Memory => {}
         }
         Ok(line)

@@ -18,13 +18,13 @@ pub enum Status {
     Read,
     /// Writing failed.
     Write,
-    /// The door failed; it comes with serving.
+    /// The door failed.
     Door,
     /// The audit's verdict is no.
     No,
     /// A named file is missing or too long.
     Missing,
-    /// The program can't be served; it comes with serving.
+    /// The program can't be served.
     NotServed,
     /// There was no memory.
     Memory,

@@ -1,13 +1,15 @@
 //! What is written at the end: the printed text, or the line about a refusal.
 
-ghost use Rattle.std.specs.Prelude.{◌≤◌};
+ghost use Rattle.std.specs.Prelude.{◌≡◌, ◌≤◌};
 ghost use Rattle.flux_outside.specs.Streams.{WroteOrBroke};
+ghost use Rattle.flux_driver.specs.Serving.{end_status, end_line};
 ghost use Rattle.flux_driver.specs.steps.Telling.{IsTold, IsPut};
 
 use crate::prepared::Prepared;
 use crate::refusals::Refusal;
 use crate::statuses::Status;
 use flux_outside::{Sink, write_all};
+use flux_serve::ServeEnd;
 use std::alloc::Global;
 
 /// Writes a line. A fault of the sink changes nothing else.
@@ -61,5 +63,26 @@ pub fn print<O: Sink, E: Sink>(out: &mut O, err: &mut E, prepared: &Prepared) ->
             say(out, text.as_bytes());
             Status::No
         }
+    }
+}
+
+/// Writes the line about an end of serving, which takes no memory, and answers its status.
+pub fn tell_end<E: Sink>(err: &mut E, end: ServeEnd) -> Status
+    ensures later { E.faults err.old ≤ E.faults err.new }
+    ensures status { result ≡ end_status end }
+    ensures said { WroteOrBroke (record { written = E.written err.old; faults = E.faults err.old })
+        (record { written = E.written err.new; faults = E.faults err.new }) (end_line end) }
+{
+    match end {
+        ServeEnd::Closed | ServeEnd::Counted => Status::Done,
+        ServeEnd::Door => {
+            say(err, b"flux: door failed\n");
+            Status::Door
+        }
+        ServeEnd::Log => {
+            say(err, b"flux: write failed\n");
+            Status::Write
+        }
+        ServeEnd::Memory => Status::Memory,
     }
 }

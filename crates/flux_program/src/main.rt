@@ -1,4 +1,4 @@
-//! The program `flux`: the real files, folders and streams, the words of the command line, and one call of `top`.
+//! The program `flux`: the real files, folders, streams and sockets, the words of the command line, and one call of `top`.
 #![tactic(auto)]
 
 ghost use Rattle.std.specs.Prelude.{◌≡◌, ◌≢◌, [], drop, map, string_bytes, IfOk, IfErr, IsErr, Ok};
@@ -6,6 +6,7 @@ ghost use Rattle.std.specs.IoError.{error_kind};
 ghost use Rattle.std.specs.Process.{exit_status};
 ghost use Rattle.flux_driver.specs.Statuses.{code_of};
 
+use flux_doors::RealDoor;
 use flux_driver::{OpenGate, Status, World, answer};
 use flux_outside::{RealFolder, RealSink, RealStore};
 use flux_values::{Bytes, List, Memory};
@@ -14,20 +15,24 @@ use std::io::{ErrorKind, Stderr, Stdout};
 use std::process::ExitCode;
 use std::{env, io};
 
-/// The files, the folders and the two streams of the system, which differ in type.
+/// The files, the folders, the two streams of the system, which differ in type, and its sockets.
 type Outside<'a> = World<
     RealStore<&'a HostRuntime>,
     RealFolder<&'a HostRuntime>,
     RealSink<Stdout>,
     RealSink<Stderr>,
+    RealDoor<&'a HostRuntime>,
 >;
 
-fn outside(rt: &HostRuntime) -> Result<Outside, Memory> {
+fn outside(rt: &HostRuntime) -> Result<Outside, Memory>
+    ensures { IfOk result (λ world. world.door.out ≡ 0) }
+{
     Ok(World {
         store: RealStore::new(rt),
         folder: RealFolder::new(rt.alloc(), rt)?,
         out: RealSink::new(rt.stdout()),
         err: RealSink::new(rt.stderr()),
+        door: RealDoor::new(rt),
     })
 }
 

@@ -11,7 +11,8 @@ use Rattle.flux_words.specs.declared.values.JournalFormat.{JournalFormat}
 use Rattle.flux_words.specs.declared.loads.TheConstants.{LOAD_LIMIT, FIRST_LIMIT}
 use Rattle.flux_words.specs.Names.{IsNamed}
 use Rattle.flux_words.specs.Values.{SpellsNumber, IsRuntime, IsFormat}
-use Rattle.flux_words.specs.Commands.{Command, check, plan, format, run, audit, load, help, Spells, SpellsNone, NeedsThreads}
+use Rattle.flux_words.specs.Behind.{Serving, HasParts, FitsServe}
+use Rattle.flux_words.specs.Commands.{Command, check, plan, format, run, audit, load, serve, help, Spells, SpellsNone, NeedsThreads}
 use Rattle.flux_words.specs.steps.Given.{files_of, listed, IsGiven}
 use Rattle.flux_words.specs.steps.Found.{IsThreaded}
 use Rattle.flux_words.specs.steps.Asking.{IsCommand, AskThreads}
@@ -31,8 +32,8 @@ pub nothing_asks : (name : CommandName) (words : List (List ℕ)) → Nothing na
 nothing_asks name words none = not_so (AskThreads name words) (λ asks. none asks.command asks.is)
 
 -- names of commands that run no items
-pub calm : (name : CommandName) (words : List (List ℕ)) → (names.Run ≡ name → ⊥) → (names.Load ≡ name → ⊥) → IsTrue false ↔ AskThreads name words
-calm name words no_run no_load = not_so (AskThreads name words) (λ asks. by asks.command asks.is asks.needs)
+pub calm : (name : CommandName) (words : List (List ℕ)) → (names.Run ≡ name → ⊥) → (names.Load ≡ name → ⊥) → (names.Serve ≡ name → ⊥) → IsTrue false ↔ AskThreads name words
+calm name words no_run no_load no_serve = not_so (AskThreads name words) (λ asks. by asks.command asks.is asks.needs)
   where
     by : (command : Command) → IsCommand name words command → NeedsThreads command → ⊥
     by (check file) c needs = needs
@@ -41,14 +42,15 @@ calm name words no_run no_load = not_so (AskThreads name words) (λ asks. by ask
     by (run file items manner) c needs = no_run c.is
     by (audit file items journal docs) c needs = needs
     by (load count first runtime) c needs = no_load c.is
+    by (serve file serving) c needs = no_serve c.is
     by help c needs = needs
 
 module _ (words : List (List ℕ)) (given : Given) (is : IsGiven words given) (r : Bool) (told : IsTrue r ↔ IsThreaded (listed given.runtime)) where
-  pub run_asks : (file items : List ℕ) (journal : JournalFormat) → files_of given.files ≡ file ∷ items ∷ [] → IsFormat (listed given.journal) journal → IsTrue r ↔ AskThreads names.Run words
-  run_asks file items journal files_ format_ = (
+  pub run_asks : (file items : List ℕ) (journal : JournalFormat) → files_of given.files ≡ file ∷ items ∷ [] → IsFormat (listed given.journal) journal → listed given.port ≡ [] → listed given.batches ≡ [] → IsTrue r ↔ AskThreads names.Run words
+  run_asks file items journal files_ format_ p b = (
     (λ e. let threaded = told.0 e in record {
       command = run file items _;
-      is = record { is = refl; behind = run_given words given is file items threaded.runtime journal files_ threaded.is format_ };
+      is = record { is = refl; behind = run_given words given is file items threaded.runtime journal files_ threaded.is format_ p b };
       needs = threaded.starts;
     }),
     (λ asks. told.1 (by asks.command asks.is asks.needs)),
@@ -61,6 +63,7 @@ module _ (words : List (List ℕ)) (given : Given) (is : IsGiven words given) (r
         starts = needs;
       }
       by (load count first runtime) c needs = let e = c.is in absurd cc
+      by (serve f s) c needs = let e = c.is in absurd cc
       by (check f) c needs = absurd needs
       by (plan f) c needs = absurd needs
       by (format f) c needs = absurd needs
@@ -68,11 +71,11 @@ module _ (words : List (List ℕ)) (given : Given) (is : IsGiven words given) (r
       by help c needs = absurd needs
 
   pub load_asks : (x y : List ℕ) (count first : ℕ) → files_of given.files ≡ x ∷ y ∷ [] → SpellsNumber 1 LOAD_LIMIT x count → SpellsNumber 0 FIRST_LIMIT y first
-      → listed given.docs ≡ [] → listed given.journal ≡ [] → IsTrue r ↔ AskThreads names.Load words
-  load_asks x y count first files_ n k d j = (
+      → listed given.docs ≡ [] → listed given.journal ≡ [] → listed given.port ≡ [] → listed given.batches ≡ [] → IsTrue r ↔ AskThreads names.Load words
+  load_asks x y count first files_ n k d j p b = (
     (λ e. let threaded = told.0 e in record {
       command = load count first threaded.runtime;
-      is = record { is = refl; behind = load_given words given is x y count first threaded.runtime files_ n k threaded.is d j };
+      is = record { is = refl; behind = load_given words given is x y count first threaded.runtime files_ n k threaded.is d j p b };
       needs = threaded.starts;
     }),
     (λ asks. told.1 (by asks.command asks.is asks.needs)),
@@ -85,11 +88,23 @@ module _ (words : List (List ℕ)) (given : Given) (is : IsGiven words given) (r
         starts = needs;
       }
       by (run f i m) c needs = let e = c.is in absurd cc
+      by (serve f s) c needs = let e = c.is in absurd cc
       by (check f) c needs = absurd needs
       by (plan f) c needs = absurd needs
       by (format f) c needs = absurd needs
       by (audit f i j docs) c needs = absurd needs
       by help c needs = absurd needs
+
+-- `serve` asks for threads
+pub serve_asks : (words : List (List ℕ)) (r : Bool) → IsTrue r ↔ ((file : List ℕ) × (serving : Serving) × HasParts words (FitsServe file serving)) → IsTrue r ↔ AskThreads names.Serve words
+serve_asks words r told = (
+  (λ e. let has = told.0 e in record { command = serve has.0 has.1; is = record { is = refl; behind = has.2 }; needs = tt }),
+  (λ asks. told.1 (by asks.command asks.is)),
+)
+  where
+    by : (command : Command) → IsCommand names.Serve words command → (file : List ℕ) × (serving : Serving) × HasParts words (FitsServe file serving)
+    by (serve f s) c = (f, s, c.behind)
+    by other c = let e = c.is in absurd cc
 
 -- words need threads where those behind their name ask for them
 pub needs_behind : (words : List (List ℕ)) (first word : List ℕ) (name : CommandName) (r : Bool) → 1 ≤ length words → first ≡ get_or words 0 first → first ≡ word → IsNamed name word

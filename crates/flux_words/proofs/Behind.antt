@@ -1,5 +1,5 @@
 -- What words ask for, or why they ask for nothing.
-use Rattle.std.proofs.Common.{◌≡◌, ℕ, Bool, true, false, ◌-◌, ◌≤◌, List, [], ◌∷◌, length, take, drop, get_or, ap, sym, subst, arith, ◌∙◌}
+use Rattle.std.proofs.Common.{◌≡◌, ℕ, Bool, true, false, ◌-◌, ◌≤◌, List, [], ◌∷◌, length, take, drop, get_or, ap, sym, refl, subst, arith, codes, ◌∙◌}
 use Rattle.std.specs.Prelude.{Option, Some, None, IfNone, IfOk, Result, Ok, Err, option_map, option_copied}
 use Rattle.std.specs.Option.{is_some}
 use Rattle.std.proofs.lemmas.List.{take_all}
@@ -15,14 +15,14 @@ use Rattle.flux_words.specs.declared.values.JournalFormat.{JournalFormat}
 use Rattle.flux_words.specs.declared.loads.TheConstants.{LOAD_LIMIT, FIRST_LIMIT}
 use Rattle.flux_words.specs.declared.commands.Asked.{Asked}
 use Rattle.flux_words.specs.Names.{IsNamed}
-use Rattle.flux_words.specs.Parts.{Part, BeginWith}
-use Rattle.flux_words.specs.Values.{SpellsNumber, IsRuntime, IsFormat}
-use Rattle.flux_words.specs.Behind.{Manner, HasParts, FitsRun, FitsAudit, FitsLoad}
-use Rattle.flux_words.specs.Commands.{Command, run, audit, load, name_of, StandsBehind, Spells, SpellsNone}
+use Rattle.flux_words.specs.Parts.{Part, BeginWith, words_in, values_of}
+use Rattle.flux_words.specs.Values.{SpellsNumber, IsRuntime, IsFormat, IsPort, IsBatches}
+use Rattle.flux_words.specs.Behind.{Manner, Serving, IsFile, HasParts, HasNoServing, FitsRun, FitsAudit, FitsLoad, FitsServe}
+use Rattle.flux_words.specs.Commands.{Command, check, plan, format, run, audit, load, serve, help, name_of, StandsBehind, Spells, SpellsNone, IsServe, NeedsThreads}
 use Rattle.flux_words.specs.Asking.{asked}
 use Rattle.flux_words.specs.steps.Given.{files_of, listed, IsGiven, IsTooMuch}
-use Rattle.flux_words.specs.steps.Asking.{IsAsked, IsCommand, IsAskedBehind}
-use Rattle.flux_words.proofs.Gathered.{fits_given, takes_less, few_run, few_audit, few_load}
+use Rattle.flux_words.specs.steps.Asking.{IsAsked, IsCommand, IsAskedBehind, IsServeRead}
+use Rattle.flux_words.proofs.Gathered.{fits_given, takes_less, few_run, few_audit, few_load, few_serve}
 use Rattle.flux_words.proofs.OneCommand.{one_name, one_command}
 
 pub if_none : {A : Type 0} (r : Option A) (P : Type 0) → P → IfNone r P
@@ -33,6 +33,11 @@ if_none (Some x) P p = tt
 pub some_given : (value : Option (Bor (List ℕ))) (r : Bool) → r ≡ is_some value → r ≡ true → listed value ≡ [] → ⊥
 some_given None r same is none = let e : false ≡ true = sym same ∙ is in absurd cc
 some_given (Some x) r same is none = absurd cc
+
+-- or none is
+pub none_given : (value : Option (Bor (List ℕ))) (r : Bool) → r ≡ is_some value → r ≡ false → listed value ≡ []
+none_given None r same is = refl
+none_given (Some x) r same is = let e : true ≡ false = sym same ∙ is in absurd cc
 
 -- ---- words that no command of a name stands on
 
@@ -51,6 +56,10 @@ pub none_of_load : (words : List (List ℕ)) → ((count first : ℕ) (runtime :
 none_of_load words none (load count first runtime) c = none count first runtime c.behind
 none_of_load words none command c = let e = c.is in absurd cc
 
+pub none_of_serve : (words : List (List ℕ)) → ((file : List ℕ) (serving : Serving) → HasParts words (FitsServe file serving) → ⊥) → Nothing names.Serve words
+none_of_serve words none (serve file serving) c = none file serving c.behind
+none_of_serve words none command c = let e = c.is in absurd cc
+
 -- more than three words, or an option twice
 module _ (words : List (List ℕ)) (much : (parts : List Part) → BeginWith parts words [] → IsTooMuch parts) where
   pub run_of_too_much : Nothing names.Run words
@@ -61,6 +70,15 @@ module _ (words : List (List ℕ)) (much : (parts : List Part) → BeginWith par
 
   pub load_of_too_much : Nothing names.Load words
   load_of_too_much = none_of_load words (λ count first runtime has. takes_less words (FitsLoad count first runtime) (few_load count first runtime) much has)
+
+  pub serve_of_too_much : (file : List ℕ) (serving : Serving) → HasParts words (FitsServe file serving) → ⊥
+  serve_of_too_much file serving has = takes_less words (FitsServe file serving) (few_serve file serving) much has
+
+not_one : (fs : Files) (file : List ℕ) → ((x : Bor (List ℕ)) → fs ≡ files.One x → ⊥) → files_of fs ≡ file ∷ [] → ⊥
+not_one files.None file other e = let n = ap length e in omega arith
+not_one (files.One x) file other e = other x (λ i. files.One x)
+not_one (files.Two x y) file other e = let n = ap length e in omega arith
+not_one (files.Three x y z) file other e = let n = ap length e in omega arith
 
 not_two : (fs : Files) (file items : List ℕ) → ((x y : Bor (List ℕ)) → fs ≡ files.Two x y → ⊥) → files_of fs ≡ file ∷ items ∷ [] → ⊥
 not_two files.None file items other e = let n = ap length e in omega arith
@@ -84,7 +102,20 @@ module _ (words : List (List ℕ)) (given : Given) (is : IsGiven words given) wh
   pub load_fits : (count first : ℕ) (runtime : Runtime) → HasParts words (FitsLoad count first runtime) → FitsLoad count first runtime is.parts
   load_fits count first runtime has = fits_given words given is (FitsLoad count first runtime) has
 
+  serve_fits : (file : List ℕ) (serving : Serving) → HasParts words (FitsServe file serving) → FitsServe file serving is.parts
+  serve_fits file serving has = fits_given words given is (FitsServe file serving) has
+
+  no_serving : listed given.port ≡ [] → listed given.batches ≡ [] → HasNoServing is.parts
+  no_serving p b = record { no_port = sym is.holds.port_ ∙ p; no_batches = sym is.holds.batches_ ∙ b }
+
+  -- an option that `serve` alone has is given
+  serving_given : (listed given.port ≡ [] → listed given.batches ≡ [] → ⊥) → HasNoServing is.parts → ⊥
+  serving_given some none = some (is.holds.port_ ∙ none.no_port) (is.holds.batches_ ∙ none.no_batches)
+
   -- ---- `run`
+
+  pub run_of_serving : (listed given.port ≡ [] → listed given.batches ≡ [] → ⊥) → Nothing names.Run words
+  run_of_serving some = none_of_run words (λ file items manner has. serving_given some (run_fits file items manner has).no_serving)
 
   pub run_of_files : ((x y : Bor (List ℕ)) → given.files ≡ files.Two x y → ⊥) → Nothing names.Run words
   run_of_files other = none_of_run words (λ file items manner has.
@@ -98,9 +129,9 @@ module _ (words : List (List ℕ)) (given : Given) (is : IsGiven words given) wh
   run_of_runtime none = none_of_run words (λ file items manner has.
       none manner.runtime (subst (λ (l : List (List ℕ)). IsRuntime l manner.runtime) (sym is.holds.runtime_) (run_fits file items manner has).runtime_))
 
-  pub run_given : (file items : List ℕ) (runtime : Runtime) (journal : JournalFormat) → files_of given.files ≡ file ∷ items ∷ [] → IsRuntime (listed given.runtime) runtime → IsFormat (listed given.journal) journal
+  pub run_given : (file items : List ℕ) (runtime : Runtime) (journal : JournalFormat) → files_of given.files ≡ file ∷ items ∷ [] → IsRuntime (listed given.runtime) runtime → IsFormat (listed given.journal) journal → listed given.port ≡ [] → listed given.batches ≡ []
       → HasParts words (FitsRun file items (record { runtime = runtime; docs = option_copied given.docs; journal = journal }))
-  run_given file items runtime journal files_ r j = record {
+  run_given file items runtime journal files_ r j p b = record {
     parts = is.parts;
     laid = is.laid;
     fits = record {
@@ -108,10 +139,14 @@ module _ (words : List (List ℕ)) (given : Given) (is : IsGiven words given) wh
       runtime_ = subst (λ (l : List (List ℕ)). IsRuntime l runtime) is.holds.runtime_ r;
       docs_ = sym is.holds.docs_;
       journal_ = subst (λ (l : List (List ℕ)). IsFormat l journal) is.holds.journal_ j;
+      no_serving = no_serving p b;
     };
   }
 
   -- ---- `audit`
+
+  pub audit_of_serving : (listed given.port ≡ [] → listed given.batches ≡ [] → ⊥) → Nothing names.Audit words
+  audit_of_serving some = none_of_audit words (λ file items journal docs has. serving_given some (audit_fits file items journal docs has).no_serving)
 
   pub audit_of_files : ((x y z : Bor (List ℕ)) → given.files ≡ files.Three x y z → ⊥) → Nothing names.Audit words
   audit_of_files other = none_of_audit words (λ file items journal docs has.
@@ -121,9 +156,9 @@ module _ (words : List (List ℕ)) (given : Given) (is : IsGiven words given) wh
   audit_of_options some = none_of_audit words (λ file items journal docs has. let fits = audit_fits file items journal docs has in
       some (is.holds.runtime_ ∙ fits.no_runtime) (is.holds.journal_ ∙ fits.no_journal))
 
-  pub audit_given : (file items journal : List ℕ) → files_of given.files ≡ file ∷ items ∷ journal ∷ [] → listed given.runtime ≡ [] → listed given.journal ≡ []
+  pub audit_given : (file items journal : List ℕ) → files_of given.files ≡ file ∷ items ∷ journal ∷ [] → listed given.runtime ≡ [] → listed given.journal ≡ [] → listed given.port ≡ [] → listed given.batches ≡ []
       → HasParts words (FitsAudit file items journal (option_copied given.docs))
-  audit_given file items journal files_ r j = record {
+  audit_given file items journal files_ r j p b = record {
     parts = is.parts;
     laid = is.laid;
     fits = record {
@@ -131,10 +166,14 @@ module _ (words : List (List ℕ)) (given : Given) (is : IsGiven words given) wh
       docs_ = sym is.holds.docs_;
       no_runtime = sym is.holds.runtime_ ∙ r;
       no_journal = sym is.holds.journal_ ∙ j;
+      no_serving = no_serving p b;
     };
   }
 
   -- ---- `load`
+
+  pub load_of_serving : (listed given.port ≡ [] → listed given.batches ≡ [] → ⊥) → Nothing names.Load words
+  load_of_serving some = none_of_load words (λ count first runtime has. serving_given some (load_fits count first runtime has).no_serving)
 
   pub load_of_options : ((listed given.docs ≡ []) → (listed given.journal ≡ []) → ⊥) → Nothing names.Load words
   load_of_options some = none_of_load words (λ count first runtime has. let fits = load_fits count first runtime has in
@@ -161,8 +200,8 @@ module _ (words : List (List ℕ)) (given : Given) (is : IsGiven words given) wh
       none runtime (subst (λ (l : List (List ℕ)). IsRuntime l runtime) (sym is.holds.runtime_) fits.runtime_))
 
   pub load_given : (x y : List ℕ) (count first : ℕ) (runtime : Runtime) → files_of given.files ≡ x ∷ y ∷ [] → SpellsNumber 1 LOAD_LIMIT x count → SpellsNumber 0 FIRST_LIMIT y first
-      → IsRuntime (listed given.runtime) runtime → listed given.docs ≡ [] → listed given.journal ≡ [] → HasParts words (FitsLoad count first runtime)
-  load_given x y count first runtime files_ n k r d j = record {
+      → IsRuntime (listed given.runtime) runtime → listed given.docs ≡ [] → listed given.journal ≡ [] → listed given.port ≡ [] → listed given.batches ≡ [] → HasParts words (FitsLoad count first runtime)
+  load_given x y count first runtime files_ n k r d j p b = record {
     parts = is.parts;
     laid = is.laid;
     fits = record {
@@ -174,7 +213,41 @@ module _ (words : List (List ℕ)) (given : Given) (is : IsGiven words given) wh
       runtime_ = subst (λ (l : List (List ℕ)). IsRuntime l runtime) is.holds.runtime_ r;
       no_docs = sym is.holds.docs_ ∙ d;
       no_journal = sym is.holds.journal_ ∙ j;
+      no_serving = no_serving p b;
     };
+  }
+
+  -- ---- `serve`
+
+  pub serve_of_files : ((x : Bor (List ℕ)) → given.files ≡ files.One x → ⊥) → (file : List ℕ) (serving : Serving) → HasParts words (FitsServe file serving) → ⊥
+  serve_of_files other file serving has = not_one given.files file other (is.holds.words_ ∙ (serve_fits file serving has).files)
+
+  pub serve_of_journal : (listed given.journal ≡ [] → ⊥) → (file : List ℕ) (serving : Serving) → HasParts words (FitsServe file serving) → ⊥
+  serve_of_journal some file serving has = some (is.holds.journal_ ∙ (serve_fits file serving has).no_journal)
+
+  pub serve_of_port : ((port : ℕ) → IsPort (listed given.port) port → ⊥) → (file : List ℕ) (serving : Serving) → HasParts words (FitsServe file serving) → ⊥
+  serve_of_port none file serving has = none serving.port (subst (λ (l : List (List ℕ)). IsPort l serving.port) (sym is.holds.port_) (serve_fits file serving has).port_)
+
+  pub serve_of_batches : ((batches : ℕ) → IsBatches (listed given.batches) batches → ⊥) → (file : List ℕ) (serving : Serving) → HasParts words (FitsServe file serving) → ⊥
+  serve_of_batches none file serving has = none serving.batches (subst (λ (l : List (List ℕ)). IsBatches l serving.batches) (sym is.holds.batches_) (serve_fits file serving has).batches_)
+
+  -- all but the runtime is read
+  pub serve_given : (file : Bor (List ℕ)) (port batches : ℕ) → files_of given.files ≡ file.now ∷ [] → IsPort (listed given.port) port → IsBatches (listed given.batches) batches → listed given.journal ≡ []
+      → IsServeRead words (Some (record { file = file; port = port; batches = batches; docs = given.docs; runtime = given.runtime }))
+  serve_given file port batches files_ p b j = record {
+    to = λ runtime r. record {
+      parts = is.parts;
+      laid = is.laid;
+      fits = record {
+        files = sym is.holds.words_ ∙ files_;
+        port_ = subst (λ (l : List (List ℕ)). IsPort l port) is.holds.port_ p;
+        batches_ = subst (λ (l : List (List ℕ)). IsBatches l batches) is.holds.batches_ b;
+        docs_ = sym is.holds.docs_;
+        runtime_ = subst (λ (l : List (List ℕ)). IsRuntime l runtime) is.holds.runtime_ r;
+        no_journal = sym is.holds.journal_ ∙ j;
+      };
+    };
+    from = λ other serving has. subst (λ (l : List (List ℕ)). IsRuntime l serving.runtime) (sym is.holds.runtime_) (serve_fits other serving has).runtime_;
   }
 
 -- ---- all words
@@ -225,3 +298,34 @@ none_named (v ∷ words) first word some is same none command spells =
     let both : spells.first ∷ spells.rest ≡ v ∷ words = sym spells.are in
     let heads : spells.first ≡ v = cc in
     none (name_of command) (subst (IsNamed (name_of command)) (heads ∙ sym is ∙ same) spells.named)
+
+-- ---- whether words spell `serve`
+
+module _ (words : List (List ℕ)) where
+  abbrev behind : List (List ℕ)
+  behind = take (length words - 1) (drop 1 words)
+
+  -- behind the word `serve`, a file and how it is served are a command that does
+  pub serve_spelled : (first word : List ℕ) → 1 ≤ length words → first ≡ get_or words 0 first → first ≡ word → word ≡ codes "serve"
+      → (file : List ℕ) × (serving : Serving) × HasParts behind (FitsServe file serving) → (command : Command) × Spells words command × IsServe command
+  serve_spelled first word some is same named (file, serving, has) =
+      (serve file serving, record { first = first; rest = behind; are = first_and_rest words first some is; named = same ∙ named; behind = has }, tt)
+
+  rest_is : (first : List ℕ) (rest : List (List ℕ)) → words ≡ first ∷ rest → behind ≡ rest
+  rest_is first rest are = ap (λ (ws : List (List ℕ)). take (length ws - 1) (drop 1 ws)) are ∙ take_all (length (first ∷ rest) - 1) rest (omega arith)
+
+  -- and no other command does
+  pub serve_found : (command : Command) × Spells words command × IsServe command → (file : List ℕ) × (serving : Serving) × HasParts behind (FitsServe file serving)
+  serve_found (serve file serving, spells, is) = (file, serving, subst (λ (ws : List (List ℕ)). HasParts ws (FitsServe file serving)) (sym (rest_is spells.first spells.rest spells.are)) spells.behind)
+  serve_found (check file, spells, is) = absurd is
+  serve_found (plan file, spells, is) = absurd is
+  serve_found (format file, spells, is) = absurd is
+  serve_found (run file items manner, spells, is) = absurd is
+  serve_found (audit file items journal docs, spells, is) = absurd is
+  serve_found (load count first runtime, spells, is) = absurd is
+  serve_found (help, spells, is) = absurd is
+
+-- `serve` needs threads
+pub serve_needs : (command : Command) → IsServe command → NeedsThreads command
+serve_needs (serve file serving) is = tt
+serve_needs other is = absurd is

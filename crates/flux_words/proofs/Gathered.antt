@@ -3,12 +3,12 @@ use Rattle.std.proofs.Common.{◌≡◌, inl, inr, ℕ, ◌<◌, ◌≤◌, List
 use Rattle.std.specs.Prelude.{Option, Some, None, option_to_list}
 use Rattle.std.proofs.lemmas.List.{length-append}
 use Rattle.flux_words.specs.declared.names.OptionName.{OptionName}
-use Rattle.flux_words.specs.declared.names.OptionName.TheVariants.{Runtime, Docs, Journal}
+use Rattle.flux_words.specs.declared.names.OptionName.TheVariants.{Runtime, Docs, Journal, Port, Batches}
 use Rattle.flux_words.specs.declared.given.Given.{Given}
 use Rattle.flux_words.specs.declared.values.Runtime as values
 use Rattle.flux_words.specs.declared.values.JournalFormat.{JournalFormat}
-use Rattle.flux_words.specs.Values.{IsRuntime, IsFormat}
-use Rattle.flux_words.specs.Behind.{Manner, HasParts, FitsRun, FitsAudit, FitsLoad}
+use Rattle.flux_words.specs.Values.{IsRuntime, IsFormat, IsPort, IsBatches}
+use Rattle.flux_words.specs.Behind.{Manner, Serving, HasParts, HasNoServing, FitsRun, FitsAudit, FitsLoad, FitsServe}
 use Rattle.flux_words.specs.Parts.{Part, word, option, Begins, BeginWith, if_for, words_in, values_of}
 use Rattle.flux_words.specs.steps.Given.{files_of, listed, HoldsAll, Adds, IsFull, IsTooMuch, IsGiven, AreSoFar}
 use Rattle.flux_words.proofs.Laid.{begin_more, past, one_part, one_parting, words_in-append, values_of-append, if_for-same}
@@ -16,7 +16,7 @@ use Rattle.flux_words.proofs.Laid.{begin_more, past, one_part, one_parting, word
 -- the parts so far, and what is given by them
 abbrev pub AreAllSoFar : List (List ℕ) → List (List ℕ) → Given → Type 0
 AreAllSoFar words rest given =
-    AreSoFar words rest (files_of given.files) (listed given.runtime) (listed given.docs) (listed given.journal)
+    AreSoFar words rest (files_of given.files) (listed given.runtime) (listed given.docs) (listed given.journal) (listed given.port) (listed given.batches)
 
 value_more : (name : OptionName) (before after : List (List ℕ)) (parts : List Part) (p : Part) → before ≡ values_of name parts → after ≡ before ++ values_of name (p ∷ []) → after ≡ values_of name (parts ++ p ∷ [])
 value_more name before after parts p is adds = adds ∙ ap (λ (l : List (List ℕ)). l ++ values_of name (p ∷ [])) is ∙ sym (values_of-append name parts (p ∷ []))
@@ -30,6 +30,8 @@ one_more words rest next before after p sofar begins adds = record {
     runtime_ = value_more Runtime (listed before.runtime) (listed after.runtime) sofar.parts p sofar.holds.runtime_ adds.runtime_;
     docs_ = value_more Docs (listed before.docs) (listed after.docs) sofar.parts p sofar.holds.docs_ adds.docs_;
     journal_ = value_more Journal (listed before.journal) (listed after.journal) sofar.parts p sofar.holds.journal_ adds.journal_;
+    port_ = value_more Port (listed before.port) (listed after.port) sofar.parts p sofar.holds.port_ adds.port_;
+    batches_ = value_more Batches (listed before.batches) (listed after.batches) sofar.parts p sofar.holds.batches_ adds.batches_;
   };
 }
 
@@ -55,6 +57,8 @@ full_too_much given sofar more all (word a) holds full e =
 full_too_much given sofar more all (option Runtime v) holds full e = inr (Runtime, twice Runtime (listed given.runtime) v sofar more all holds.runtime_ full e)
 full_too_much given sofar more all (option Docs v) holds full e = inr (Docs, twice Docs (listed given.docs) v sofar more all holds.docs_ full e)
 full_too_much given sofar more all (option Journal v) holds full e = inr (Journal, twice Journal (listed given.journal) v sofar more all holds.journal_ full e)
+full_too_much given sofar more all (option Port v) holds full e = inr (Port, twice Port (listed given.port) v sofar more all holds.port_ full e)
+full_too_much given sofar more all (option Batches v) holds full e = inr (Batches, twice Batches (listed given.batches) v sofar more all holds.batches_ full e)
 
 too_much_more : (rest next : List (List ℕ)) (given : Given) (p : Part) (sofar more all : List Part) → (rest ≡ [] → ⊥) → HoldsAll given sofar → Begins p rest next → IsFull given p → all ≡ sofar ++ more → BeginWith more rest [] → IsTooMuch all
 too_much_more rest next given p sofar [] all some holds begins full e laid = absurd (some laid)
@@ -108,25 +112,51 @@ docs_once vs (Some d) is = omega (arith, ap length is)
 none_once : (vs : List (List ℕ)) → vs ≡ [] → length vs ≤ 1
 none_once vs is = omega (arith, ap length is)
 
-by_name : (parts : List Part) → length (values_of Runtime parts) ≤ 1 → length (values_of Docs parts) ≤ 1 → length (values_of Journal parts) ≤ 1 → (name : OptionName) → length (values_of name parts) ≤ 1
-by_name parts r d j Runtime = r
-by_name parts r d j Docs = d
-by_name parts r d j Journal = j
+port_once : (vs : List (List ℕ)) (port : ℕ) → IsPort vs port → length vs ≤ 1
+port_once [] port is = absurd is
+port_once (v ∷ []) port is = omega arith
+port_once (v ∷ w ∷ vs) port is = absurd is
+
+batches_once : (vs : List (List ℕ)) (batches : ℕ) → IsBatches vs batches → length vs ≤ 1
+batches_once [] batches is = omega arith
+batches_once (v ∷ []) batches is = omega arith
+batches_once (v ∷ w ∷ vs) batches is = absurd is
+
+by_name : (parts : List Part) → length (values_of Runtime parts) ≤ 1 → length (values_of Docs parts) ≤ 1 → length (values_of Journal parts) ≤ 1 → length (values_of Port parts) ≤ 1 → length (values_of Batches parts) ≤ 1 → (name : OptionName) → length (values_of name parts) ≤ 1
+by_name parts r d j p b Runtime = r
+by_name parts r d j p b Docs = d
+by_name parts r d j p b Journal = j
+by_name parts r d j p b Port = p
+by_name parts r d j p b Batches = b
+
+-- options of `serve` that aren't given
+no_port : (parts : List Part) → HasNoServing parts → length (values_of Port parts) ≤ 1
+no_port parts none = none_once (values_of Port parts) none.no_port
+
+no_batches : (parts : List Part) → HasNoServing parts → length (values_of Batches parts) ≤ 1
+no_batches parts none = none_once (values_of Batches parts) none.no_batches
 
 pub few_run : (file items : List ℕ) (manner : Manner) (parts : List Part) → FitsRun file items manner parts → IsFew parts
 few_run file items manner parts fits = record {
   words_ = omega (arith, ap length fits.files);
-  once = by_name parts (runtime_once (values_of Runtime parts) manner.runtime fits.runtime_) (docs_once (values_of Docs parts) manner.docs fits.docs_) (format_once (values_of Journal parts) manner.journal fits.journal_);
+  once = by_name parts (runtime_once (values_of Runtime parts) manner.runtime fits.runtime_) (docs_once (values_of Docs parts) manner.docs fits.docs_) (format_once (values_of Journal parts) manner.journal fits.journal_) (no_port parts fits.no_serving) (no_batches parts fits.no_serving);
 }
 
 pub few_audit : (file items journal : List ℕ) (docs : Option (List ℕ)) (parts : List Part) → FitsAudit file items journal docs parts → IsFew parts
 few_audit file items journal docs parts fits = record {
   words_ = omega (arith, ap length fits.files);
-  once = by_name parts (none_once (values_of Runtime parts) fits.no_runtime) (docs_once (values_of Docs parts) docs fits.docs_) (none_once (values_of Journal parts) fits.no_journal);
+  once = by_name parts (none_once (values_of Runtime parts) fits.no_runtime) (docs_once (values_of Docs parts) docs fits.docs_) (none_once (values_of Journal parts) fits.no_journal) (no_port parts fits.no_serving) (no_batches parts fits.no_serving);
 }
 
 pub few_load : (count first : ℕ) (runtime : values.Runtime) (parts : List Part) → FitsLoad count first runtime parts → IsFew parts
 few_load count first runtime parts fits = record {
   words_ = omega (arith, ap length fits.numbers);
-  once = by_name parts (runtime_once (values_of Runtime parts) runtime fits.runtime_) (none_once (values_of Docs parts) fits.no_docs) (none_once (values_of Journal parts) fits.no_journal);
+  once = by_name parts (runtime_once (values_of Runtime parts) runtime fits.runtime_) (none_once (values_of Docs parts) fits.no_docs) (none_once (values_of Journal parts) fits.no_journal) (no_port parts fits.no_serving) (no_batches parts fits.no_serving);
+}
+
+pub few_serve : (file : List ℕ) (serving : Serving) (parts : List Part) → FitsServe file serving parts → IsFew parts
+few_serve file serving parts fits = record {
+  words_ = omega (arith, ap length fits.files);
+  once = by_name parts (runtime_once (values_of Runtime parts) serving.runtime fits.runtime_) (docs_once (values_of Docs parts) serving.docs fits.docs_) (none_once (values_of Journal parts) fits.no_journal)
+      (port_once (values_of Port parts) serving.port fits.port_) (batches_once (values_of Batches parts) serving.batches fits.batches_);
 }

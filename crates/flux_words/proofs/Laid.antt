@@ -2,22 +2,39 @@
 use Rattle.std.proofs.Common.{◌≡◌, ◌⊎◌, inl, inr, ℕ, ◌≤◌, List, [], ◌∷◌, ◌++◌, length, drop, get_or, refl, sym, ap, ◌∙◌, subst, arith, append_assoc}
 use Rattle.std.proofs.lemmas.List.{append_cancel_left, append-nil}
 use Rattle.flux_words.specs.declared.names.OptionName.{OptionName}
-use Rattle.flux_words.specs.declared.names.OptionName.TheVariants.{Runtime, Docs, Journal}
+use Rattle.flux_words.specs.declared.names.OptionName.TheVariants.{Runtime, Docs, Journal, Port, Batches}
 use Rattle.flux_words.specs.Parts.{Part, word, option, IsPositional, IsNoOption, Begins, BeginWith, spelled, if_for, words_in, values_of}
 
 -- ---- one part
 
+-- the third letter of an option's spelling
+third : OptionName → ℕ
+third Runtime = 114
+third Docs = 100
+third Journal = 106
+third Port = 112
+third Batches = 98
+
+third_is : (n : OptionName) (a : List ℕ) → get_or (spelled n ++ a) 2 0 ≡ third n
+unfolding third
+third_is Runtime a = refl
+third_is Docs a = refl
+third_is Journal a = refl
+third_is Port a = refl
+third_is Batches a = refl
+
+by_third : (n m : OptionName) → third n ≡ third m → n ≡ m
+unfolding third
+by_third Runtime Runtime e = refl
+by_third Docs Docs e = refl
+by_third Journal Journal e = refl
+by_third Port Port e = refl
+by_third Batches Batches e = refl
+by_third n m e = absurd (omega (arith, e))
+
 -- no option's spelling begins with that of another
 pub one_name : (n m : OptionName) (a b : List ℕ) → spelled n ++ a ≡ spelled m ++ b → n ≡ m
-one_name Runtime Runtime a b e = refl
-one_name Docs Docs a b e = refl
-one_name Journal Journal a b e = refl
-one_name Runtime Docs a b e = absurd (let third : 114 ≡ 100 = ap (λ (l : List ℕ). get_or l 2 0) e in omega arith)
-one_name Runtime Journal a b e = absurd (let third : 114 ≡ 106 = ap (λ (l : List ℕ). get_or l 2 0) e in omega arith)
-one_name Docs Runtime a b e = absurd (let third : 100 ≡ 114 = ap (λ (l : List ℕ). get_or l 2 0) e in omega arith)
-one_name Docs Journal a b e = absurd (let third : 100 ≡ 106 = ap (λ (l : List ℕ). get_or l 2 0) e in omega arith)
-one_name Journal Runtime a b e = absurd (let third : 106 ≡ 114 = ap (λ (l : List ℕ). get_or l 2 0) e in omega arith)
-one_name Journal Docs a b e = absurd (let third : 106 ≡ 100 = ap (λ (l : List ℕ). get_or l 2 0) e in omega arith)
+one_name n m a b e = by_third n m (sym (third_is n a) ∙ ap (λ (l : List ℕ). get_or l 2 0) e ∙ third_is m b)
 
 pub same_behind : (n m : OptionName) (a b : List ℕ) → spelled n ++ a ≡ spelled m ++ b → n ≡ m → a ≡ b
 same_behind n m a b e same = append_cancel_left (spelled m) a b (ap (λ (k : OptionName). spelled k ++ a) (sym same) ∙ e)
@@ -27,6 +44,8 @@ pub no_word : (n : OptionName) (x : List ℕ) → IsPositional (spelled n ++ x) 
 no_word Runtime x other = other refl
 no_word Docs x other = other refl
 no_word Journal x other = other refl
+no_word Port x other = other refl
+no_word Batches x other = other refl
 
 same_head : (a b : List ℕ) (r s : List (List ℕ)) → a ∷ r ≡ b ∷ s → a ≡ b
 same_head a b r s e = cc
@@ -122,6 +141,8 @@ pub if_for-same : (name : OptionName) (v : List ℕ) → if_for name name v ≡ 
 if_for-same Runtime v = refl
 if_for-same Docs v = refl
 if_for-same Journal v = refl
+if_for-same Port v = refl
+if_for-same Batches v = refl
 
 -- where the first word is neither, no part begins words
 pub no_begin : (words : List (List ℕ)) (w first : List ℕ) → 1 ≤ length words → first ≡ get_or words 0 first → w ≡ first → ((n : OptionName) (rest : List ℕ) → w ≡ spelled n ++ rest → ⊥) → (IsPositional w → ⊥) → (p : Part) (rest : List (List ℕ)) → Begins p words rest → ⊥

@@ -1,18 +1,18 @@
 -- Numbers of flows with commas between them, and the values of options: each is read one way.
 use Rattle.std.proofs.Common.{◌≡◌, ◌⊎◌, inl, inr, ℕ, Option, Some, None, zero, suc, ◌+◌, ◌-◌, ◌*◌, ◌<◌, ◌≤◌, List, [], ◌∷◌, ◌++◌, length, take, get_or, refl, sym, ap, ◌∙◌, subst, arith, codes}
-use Rattle.std.specs.Prelude.{◌↔◌, IsTrue}
+use Rattle.std.specs.Prelude.{◌↔◌, Bool, IsTrue}
 use Rattle.std.specs.Option.{is_some}
 use native.Mathlib.Bridge.{le_prop}
 use Rattle.std.specs.List.{AllByRecursion, slice_split}
 use Rattle.std.proofs.lemmas.List.{append_cancel_left, take_more, take_all}
 use Rattle.flux_model.specs.declared.items.FlowNo.{FlowNo}
-use Rattle.flux_words.specs.declared.values.TheConstants.{NUMBER_LIMIT, WORKER_LIMIT}
+use Rattle.flux_words.specs.declared.values.TheConstants.{NUMBER_LIMIT, WORKER_LIMIT, PORT_LIMIT, BATCHES_LIMIT}
 use Rattle.flux_words.specs.declared.workers.Workers.{Workers}
 use Rattle.flux_words.specs.declared.values.Runtime.{Runtime}
 use Rattle.flux_words.specs.declared.values.Runtime.TheVariants.{Event, Script, PerFlow, Pool}
 use Rattle.flux_words.specs.declared.values.JournalFormat.{JournalFormat}
 use Rattle.flux_words.specs.declared.values.JournalFormat.TheVariants.{One, Two}
-use Rattle.flux_words.specs.Values.{is_comma, IsDigit, number_from, SpellsNumber, SpellEach, SpellsNumbers, SpellsRuntime, StartsThreads, SpellsFormat, IsRuntime, IsFormat}
+use Rattle.flux_words.specs.Values.{is_comma, IsDigit, number_from, SpellsNumber, SpellEach, SpellsNumbers, SpellsRuntime, StartsThreads, SpellsFormat, IsRuntime, IsFormat, IsPort, IsBatches}
 use Rattle.flux_words.specs.steps.Found.{AreSoFar, IsThreadedRead, IsThreaded, IsRuntimeRead}
 
 -- ---- one number
@@ -244,6 +244,26 @@ threaded_none threaded = by threaded.runtime threaded.is threaded.starts
     by PerFlow is starts = absurd cc
     by (Pool workers) is starts = absurd cc
 
+-- a value that begins as a script's spells that of its numbers
+script_numbers : (value list : List ℕ) → value ≡ codes "script=" ++ list → (runtime : Runtime) → SpellsRuntime value runtime → (numbers : List FlowNo) × SpellsNumbers list numbers
+unfolding mark
+script_numbers value list is Event s = let e = only_script value list Event is s in absurd (omega (arith, e))
+script_numbers value list is (Script numbers) s =
+    let same : s.0 ≡ list = append_cancel_left (codes "script=") s.0 list (sym s.1 ∙ is) in
+    (numbers, subst (λ (l : List ℕ). SpellsNumbers l numbers) same s.2)
+script_numbers value list is PerFlow s = let e = only_script value list PerFlow is s in absurd (omega (arith, e))
+script_numbers value list is (Pool workers) s = let e = only_script value list (Pool workers) is s in absurd (omega (arith, e))
+
+-- a list that is told to spell numbers, or none, spells a runtime, or none
+pub script_given : (value list : List ℕ) → value ≡ codes "script=" ++ list → (told : Bool)
+    → (IsTrue told ↔ ((numbers : List FlowNo) × SpellsNumbers list numbers)) → IsTrue told ↔ ((runtime : Runtime) × SpellsRuntime value runtime)
+script_given value list is told both = (λ yes. let found = both.0 yes in (Script found.0, (list, is, found.1)), λ has. both.1 (script_numbers value list is has.0 has.1))
+
+-- a runtime that is read, or none, is told
+pub runtime_told : (value : List ℕ) (found : Option Runtime) → IsRuntimeRead (value ∷ []) found → IsTrue (is_some found) ↔ ((runtime : Runtime) × IsRuntime (value ∷ []) runtime)
+runtime_told value (Some runtime) is = ((λ yes. (runtime, is)), (λ has. refl))
+runtime_told value None none = ((λ e. absurd cc), (λ has. absurd (none has.0 has.1)))
+
 pub one_runtime : (values : List (List ℕ)) (a b : Runtime) → IsRuntime values a → IsRuntime values b → a ≡ b
 one_runtime [] a b s t = s ∙ sym t
 one_runtime (v ∷ []) a b s t = one_value v a b s t
@@ -259,3 +279,15 @@ pub one_format : (values : List (List ℕ)) (a b : JournalFormat) → IsFormat v
 one_format [] a b s t = s ∙ sym t
 one_format (v ∷ []) a b s t = one_spelled v a b s t
 one_format (v ∷ w ∷ values) a b s t = absurd s
+
+-- ---- ports, and counts of batches
+
+pub one_port : (vs : List (List ℕ)) (a b : ℕ) → IsPort vs a → IsPort vs b → a ≡ b
+one_port [] a b x y = absurd x
+one_port (v ∷ []) a b x y = one_number 1 PORT_LIMIT v a b x y
+one_port (v ∷ w ∷ vs) a b x y = absurd x
+
+pub one_batches : (vs : List (List ℕ)) (a b : ℕ) → IsBatches vs a → IsBatches vs b → a ≡ b
+one_batches [] a b x y = x ∙ sym y
+one_batches (v ∷ []) a b x y = one_number 1 BATCHES_LIMIT v a b x y
+one_batches (v ∷ w ∷ vs) a b x y = absurd x

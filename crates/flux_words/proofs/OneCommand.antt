@@ -7,12 +7,12 @@ use Rattle.flux_words.specs.declared.names.OptionName.TheVariants as names
 use Rattle.flux_words.specs.declared.values.Runtime.{Runtime}
 use Rattle.flux_words.specs.declared.loads.TheConstants.{LOAD_LIMIT, FIRST_LIMIT}
 use Rattle.flux_words.specs.Names.{IsNamed}
-use Rattle.flux_words.specs.Parts.{Part, values_of}
-use Rattle.flux_words.specs.Values.{SpellsNumber}
-use Rattle.flux_words.specs.Behind.{Manner, IsFile, HasParts, FitsRun, FitsAudit, FitsLoad}
-use Rattle.flux_words.specs.Commands.{Command, check, plan, format, run, audit, load, help, name_of, StandsBehind, Spells}
+use Rattle.flux_words.specs.Parts.{Part, words_in, values_of}
+use Rattle.flux_words.specs.Values.{SpellsNumber, IsRuntime, IsFormat}
+use Rattle.flux_words.specs.Behind.{Manner, Serving, IsFile, HasParts, FitsRun, FitsAudit, FitsLoad, FitsServe}
+use Rattle.flux_words.specs.Commands.{Command, check, plan, format, run, audit, load, serve, help, name_of, StandsBehind, Spells}
 use Rattle.flux_words.proofs.Laid.{one_parting}
-use Rattle.flux_words.proofs.Numbers.{one_number, one_runtime, one_format}
+use Rattle.flux_words.proofs.Numbers.{one_number, one_runtime, one_format, one_port, one_batches}
 
 -- ---- one name
 
@@ -24,6 +24,7 @@ letter commands.Format = 102
 letter commands.Run = 114
 letter commands.Audit = 97
 letter commands.Load = 108
+letter commands.Serve = 115
 letter commands.Help = 104
 
 -- what a word's first letter tells of the command: `--help` is `help`
@@ -38,6 +39,7 @@ told commands.Format word is = ap told_by is
 told commands.Run word is = ap told_by is
 told commands.Audit word is = ap told_by is
 told commands.Load word is = ap told_by is
+told commands.Serve word is = ap told_by is
 told commands.Help word (inl is) = ap told_by is
 told commands.Help word (inr is) = ap told_by is
 
@@ -49,6 +51,7 @@ by_letter commands.Format commands.Format e = refl
 by_letter commands.Run commands.Run e = refl
 by_letter commands.Audit commands.Audit e = refl
 by_letter commands.Load commands.Load e = refl
+by_letter commands.Serve commands.Serve e = refl
 by_letter commands.Help commands.Help e = refl
 by_letter a b e = absurd (omega (arith, e))
 
@@ -91,6 +94,16 @@ same_load n k m l r s parts a b =
     let runtime = one_runtime (values_of names.Runtime parts) r s a.runtime_ b.runtime_ in
     cc (count, first, runtime)
 
+same_serving : (a b : Serving) → a.port ≡ b.port → a.batches ≡ b.batches → a.docs ≡ b.docs → a.runtime ≡ b.runtime → a ≡ b
+same_serving a b p n d r = λ i. record { port = p i; batches = n i; docs = d i; runtime = r i }
+
+same_serve : (f g : List ℕ) (m n : Serving) (parts : List Part) → FitsServe f m parts → FitsServe g n parts → serve f m ≡ serve g n
+same_serve f g m n parts a b =
+    let files : f ∷ [] ≡ g ∷ [] = sym a.files ∙ b.files in
+    let serving = same_serving m n (one_port (values_of names.Port parts) m.port n.port a.port_ b.port_) (one_batches (values_of names.Batches parts) m.batches n.batches a.batches_ b.batches_)
+    (one_option m.docs n.docs (sym a.docs_ ∙ b.docs_)) (one_runtime (values_of names.Runtime parts) m.runtime n.runtime a.runtime_ b.runtime_) in
+    cc (files, serving)
+
 -- both fit the same parts
 on_parts : (words : List (List ℕ)) (First Second : List Part → Type 0) (X : Type 0) → HasParts words First → HasParts words Second → ((parts : List Part) → First parts → Second parts → X) → X
 on_parts words First Second X a b f = f b.parts (subst First (one_parting a.parts b.parts words a.laid b.laid) a.fits) b.fits
@@ -103,6 +116,7 @@ one_behind words (format f) (format g) e s t = ap format (one_file words f g s t
 one_behind words (run f i m) (run g j n) e s t = on_parts words (FitsRun f i m) (FitsRun g j n) (run f i m ≡ run g j n) s t (same_run f i g j m n)
 one_behind words (audit f i j d) (audit g k l c) e s t = on_parts words (FitsAudit f i j d) (FitsAudit g k l c) (audit f i j d ≡ audit g k l c) s t (same_audit f i j g k l d c)
 one_behind words (load n k r) (load m l q) e s t = on_parts words (FitsLoad n k r) (FitsLoad m l q) (load n k r ≡ load m l q) s t (same_load n k m l r q)
+one_behind words (serve f m) (serve g n) e s t = on_parts words (FitsServe f m) (FitsServe g n) (serve f m ≡ serve g n) s t (same_serve f g m n)
 one_behind words help help e s t = refl
 one_behind words a b e s t = absurd (omega (arith, e))
 

@@ -2,7 +2,7 @@
 use Rattle.std.specs.Prelude.{option_copied}
 use Rattle.flux_words.specs.declared.commands.Asked.{Asked}
 use Rattle.flux_words.specs.declared.commands.Asked.TheVariants as reads
-use Rattle.flux_words.specs.Commands.{Command, check, plan, format, run, audit, load, help}
+use Rattle.flux_words.specs.Commands.{Command, check, plan, format, run, audit, load, serve, help}
 
 -- the command that was asked for
 abbrev pub asked : Asked → Command
@@ -17,4 +17,10 @@ asked (reads.Run file items runtime docs journal) = run file.now items.now (reco
 asked (reads.Audit file items journal docs) =
     audit file.now items.now journal.now (option_copied docs)
 asked (reads.Load count first runtime) = load count first runtime
+asked (reads.Serve file port batches docs runtime) = serve file.now (record {
+  port = port;
+  batches = batches;
+  docs = option_copied docs;
+  runtime = runtime;
+})
 asked reads.Help = help

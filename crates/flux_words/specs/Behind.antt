@@ -5,13 +5,20 @@ use Rattle.flux_words.specs.declared.values.Runtime.{Runtime}
 use Rattle.flux_words.specs.declared.values.JournalFormat.{JournalFormat}
 use Rattle.flux_words.specs.declared.loads.TheConstants.{LOAD_LIMIT, FIRST_LIMIT}
 use Rattle.flux_words.specs.Parts.{Part, IsPositional, BeginWith, words_in, values_of}
-use Rattle.flux_words.specs.Values.{SpellsNumber, IsRuntime, IsFormat}
+use Rattle.flux_words.specs.Values.{SpellsNumber, IsRuntime, IsFormat, IsPort, IsBatches}
 
 -- how items are run: the runtime, the folder of documents, the journal's format
 pub record Manner : Type 0 where
   pub runtime : Runtime
   pub docs : Option (List ℕ)
   pub journal : JournalFormat
+
+-- how a program is served: at which port, for how many batches, with which folder of documents, by which runtime
+pub record Serving : Type 0 where
+  pub port : ℕ
+  pub batches : ℕ
+  pub docs : Option (List ℕ)
+  pub runtime : Runtime
 
 -- one file
 abbrev pub IsFile : List ℕ → List (List ℕ) → Type 0
@@ -23,12 +30,18 @@ pub record HasParts (words : List (List ℕ)) (Fits : List Part → Type 0) : Ty
   pub laid : BeginWith parts words []
   pub fits : Fits parts
 
+-- none of the options that `serve` alone has
+pub record HasNoServing (parts : List Part) : Type 0 where
+  pub no_port : values_of names.Port parts ≡ []
+  pub no_batches : values_of names.Batches parts ≡ []
+
 -- `run`: FILE, ITEMS, and anywhere `--runtime R`, `--docs DIR` and `--journal J`, each at most once
 pub record FitsRun (file items : List ℕ) (manner : Manner) (parts : List Part) : Type 0 where
   pub files : words_in parts ≡ file ∷ items ∷ []
   pub runtime_ : IsRuntime (values_of names.Runtime parts) manner.runtime
   pub docs_ : values_of names.Docs parts ≡ option_to_list manner.docs
   pub journal_ : IsFormat (values_of names.Journal parts) manner.journal
+  pub no_serving : HasNoServing parts
 
 -- `audit`: FILE, ITEMS, JOURNAL, and anywhere `--docs DIR`, at most once
 pub record FitsAudit (file items journal : List ℕ) (docs : Option (List ℕ)) (parts : List Part)
@@ -37,6 +50,7 @@ pub record FitsAudit (file items journal : List ℕ) (docs : Option (List ℕ)) 
   pub docs_ : values_of names.Docs parts ≡ option_to_list docs
   pub no_runtime : values_of names.Runtime parts ≡ []
   pub no_journal : values_of names.Journal parts ≡ []
+  pub no_serving : HasNoServing parts
 
 -- `load`: N, which is 1 to 4,096, K, which is at most 4,294,967,295, and anywhere `--runtime R`, at most once
 pub record FitsLoad (count first : ℕ) (runtime : Runtime) (parts : List Part) : Type 0 where
@@ -47,4 +61,14 @@ pub record FitsLoad (count first : ℕ) (runtime : Runtime) (parts : List Part) 
   pub first_ : SpellsNumber 0 FIRST_LIMIT first_digits first
   pub runtime_ : IsRuntime (values_of names.Runtime parts) runtime
   pub no_docs : values_of names.Docs parts ≡ []
+  pub no_journal : values_of names.Journal parts ≡ []
+  pub no_serving : HasNoServing parts
+
+-- `serve`: FILE, `--port P`, and anywhere `--batches B`, `--docs DIR` and `--runtime R`, each at most once
+pub record FitsServe (file : List ℕ) (serving : Serving) (parts : List Part) : Type 0 where
+  pub files : words_in parts ≡ file ∷ []
+  pub port_ : IsPort (values_of names.Port parts) serving.port
+  pub batches_ : IsBatches (values_of names.Batches parts) serving.batches
+  pub docs_ : values_of names.Docs parts ≡ option_to_list serving.docs
+  pub runtime_ : IsRuntime (values_of names.Runtime parts) serving.runtime
   pub no_journal : values_of names.Journal parts ≡ []

@@ -1,14 +1,14 @@
 -- Which words spell which command.
-use Rattle.std.specs.Prelude.{◌≡◌, ℕ, List, [], ◌∷◌, Option}
+use Rattle.std.specs.Prelude.{◌≡◌, ℕ, List, [], ◌∷◌, Option, ⊤}
 use Rattle.flux_words.specs.declared.names.CommandName.{CommandName}
 use Rattle.flux_words.specs.declared.names.CommandName.TheVariants as names
 use Rattle.flux_words.specs.declared.values.Runtime.{Runtime}
 use Rattle.flux_words.specs.Values.{StartsThreads}
 use Rattle.flux_words.specs.Names.{IsNamed}
-use Rattle.flux_words.specs.Behind.{Manner, IsFile, HasParts, FitsRun, FitsAudit, FitsLoad}
+use Rattle.flux_words.specs.Behind.{Manner, Serving, IsFile, HasParts, FitsRun, FitsAudit, FitsLoad, FitsServe}
 
 -- `check FILE`, `plan FILE`, `format FILE`, `run FILE ITEMS` with options, `audit FILE ITEMS JOURNAL` with documents,
--- `load N K` with a runtime, and `help` or `--help`
+-- `load N K` with a runtime, `serve FILE` with a port and options, and `help` or `--help`
 pub data Command : Type 0 where
   check : List ℕ → Command
   plan : List ℕ → Command
@@ -16,6 +16,7 @@ pub data Command : Type 0 where
   run : List ℕ → List ℕ → Manner → Command
   audit : List ℕ → List ℕ → List ℕ → Option (List ℕ) → Command
   load : ℕ → ℕ → Runtime → Command
+  serve : List ℕ → Serving → Command
   help : Command
 
 -- a command's name
@@ -26,6 +27,7 @@ name_of (format file) = names.Format
 name_of (run file items manner) = names.Run
 name_of (audit file items journal docs) = names.Audit
 name_of (load count first runtime) = names.Load
+name_of (serve file serving) = names.Serve
 name_of help = names.Help
 
 -- these words stand behind its name
@@ -37,6 +39,7 @@ StandsBehind (run file items manner) words = HasParts words (FitsRun file items 
 StandsBehind (audit file items journal docs) words =
     HasParts words (FitsAudit file items journal docs)
 StandsBehind (load count first runtime) words = HasParts words (FitsLoad count first runtime)
+StandsBehind (serve file serving) words = HasParts words (FitsServe file serving)
 StandsBehind help words = words ≡ []
 
 -- the words spell this command: the first is its name
@@ -51,7 +54,18 @@ pub record Spells (words : List (List ℕ)) (command : Command) : Type 0 where
 abbrev pub SpellsNone : List (List ℕ) → Type 0
 SpellsNone words = (command : Command) → Spells words command → ⊥
 
--- a command that needs threads
+-- `serve`
+abbrev pub IsServe : Command → Type 0
+IsServe (check file) = ⊥
+IsServe (plan file) = ⊥
+IsServe (format file) = ⊥
+IsServe (run file items manner) = ⊥
+IsServe (audit file items journal docs) = ⊥
+IsServe (load count first runtime) = ⊥
+IsServe (serve file serving) = ⊤
+IsServe help = ⊥
+
+-- a command that needs threads: a runtime that starts some, or `serve`, which may wait for clients
 abbrev pub NeedsThreads : Command → Type 0
 NeedsThreads (check file) = ⊥
 NeedsThreads (plan file) = ⊥
@@ -59,4 +73,5 @@ NeedsThreads (format file) = ⊥
 NeedsThreads (run file items manner) = StartsThreads manner.runtime
 NeedsThreads (audit file items journal docs) = ⊥
 NeedsThreads (load count first runtime) = StartsThreads runtime
+NeedsThreads (serve file serving) = ⊤
 NeedsThreads help = ⊥

@@ -1,7 +1,7 @@
 -- What stands behind the command's word: positional words, and options with their values.
 use Rattle.std.specs.Prelude.{◌≡◌, ◌≢◌, ◌⊎◌, ℕ, List, [], ◌∷◌, ◌++◌, codes, ⊤}
 use Rattle.flux_words.specs.declared.names.OptionName.{OptionName}
-use Rattle.flux_words.specs.declared.names.OptionName.TheVariants.{Runtime, Docs, Journal}
+use Rattle.flux_words.specs.declared.names.OptionName.TheVariants.{Runtime, Docs, Journal, Port, Batches}
 
 -- a positional word is not empty and doesn't begin with `-`
 abbrev pub IsPositional : List ℕ → Type 0
@@ -22,6 +22,8 @@ abbrev pub spelled : OptionName → List ℕ
 spelled Runtime = codes "--runtime"
 spelled Docs = codes "--docs"
 spelled Journal = codes "--journal"
+spelled Port = codes "--port"
+spelled Batches = codes "--batches"
 
 -- a part: a positional word, or an option with its value
 pub data Part : Type 0 where
@@ -53,6 +55,8 @@ abbrev pub if_for : OptionName → OptionName → List ℕ → List (List ℕ)
 if_for Runtime Runtime value = value ∷ []
 if_for Docs Docs value = value ∷ []
 if_for Journal Journal value = value ∷ []
+if_for Port Port value = value ∷ []
+if_for Batches Batches value = value ∷ []
 if_for wanted name value = []
 
 -- the values that are given for an option, in order

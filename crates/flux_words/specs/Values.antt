@@ -1,8 +1,8 @@
--- Numbers, and the values of options: runtimes and formats of journals.
+-- Numbers, and the values of options: runtimes, formats of journals, ports and counts of batches.
 use Rattle.std.specs.Prelude.{◌≡◌, ◌⊎◌, ℕ, ◌+◌, ◌-◌, ◌*◌, ◌==◌, ◌<◌, ◌≤◌, List, [], ◌∷◌, ◌++◌, length, codes, ⊤}
 use Rattle.std.specs.List.{AllByRecursion, slice_split}
 use Rattle.flux_model.specs.declared.items.FlowNo.{FlowNo}
-use Rattle.flux_words.specs.declared.values.TheConstants.{DIGIT_LIMIT, NUMBER_LIMIT, WORKER_LIMIT}
+use Rattle.flux_words.specs.declared.values.TheConstants.{DIGIT_LIMIT, NUMBER_LIMIT, WORKER_LIMIT, PORT_LIMIT, BATCHES_LIMIT}
 use Rattle.flux_words.specs.declared.values.Runtime.{Runtime}
 use Rattle.flux_words.specs.declared.values.Runtime.TheVariants.{Event, Script, PerFlow, Pool}
 use Rattle.flux_words.specs.declared.values.JournalFormat.{JournalFormat}
@@ -74,3 +74,15 @@ abbrev pub IsFormat : List (List ℕ) → JournalFormat → Type 0
 IsFormat [] format = format ≡ One
 IsFormat (value ∷ []) format = SpellsFormat value format
 IsFormat (value ∷ other ∷ values) format = ⊥
+
+-- the port of `--port`, once, from 1 to 65,535
+abbrev pub IsPort : List (List ℕ) → ℕ → Type 0
+IsPort [] port = ⊥
+IsPort (value ∷ []) port = SpellsNumber 1 PORT_LIMIT value port
+IsPort (value ∷ other ∷ values) port = ⊥
+
+-- how many batches `--batches` wants, at most once, from 1 to 4,294,967,295; that many where it isn't given
+abbrev pub IsBatches : List (List ℕ) → ℕ → Type 0
+IsBatches [] batches = batches ≡ BATCHES_LIMIT
+IsBatches (value ∷ []) batches = SpellsNumber 1 BATCHES_LIMIT value batches
+IsBatches (value ∷ other ∷ values) batches = ⊥

@@ -18,6 +18,9 @@ pub fn read_audit(words: &[Bytes]) -> Option<Asked<'_>>
     if given.runtime.is_some() || given.journal.is_some() {
         return None;
     }
+    if given.serves() {
+        return None;
+    }
     Some(Asked::Audit {
         file,
         items,

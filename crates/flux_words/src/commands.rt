@@ -10,6 +10,7 @@ use crate::loads::read_load;
 use crate::names::{CommandName, read_name};
 use crate::parts::is_positional;
 use crate::runs::read_run;
+use crate::serves::{is_serve, read_serve};
 use crate::values::{JournalFormat, Runtime};
 use flux_values::{Bytes, Memory};
 use std::alloc::Global;
@@ -47,6 +48,15 @@ pub enum Asked<'a> {
         first: u32,
         runtime: Runtime,
     },
+    Serve {
+        file: &'a [u8],
+        port: u16,
+        /// How many batches, one at least.
+        batches: u32,
+        /// The folder of documents.
+        docs: Option<&'a [u8]>,
+        runtime: Runtime,
+    },
     Help,
 }
 
@@ -80,6 +90,7 @@ fn read_behind<'a>(
         CommandName::Run => read_run(alloc, words),
         CommandName::Audit => Ok(read_audit(words)),
         CommandName::Load => read_load(alloc, words),
+        CommandName::Serve => read_serve(alloc, words),
         CommandName::Help if words.is_empty() => Ok(Some(Asked::Help)),
         CommandName::Help => Ok(None),
     }
@@ -101,7 +112,7 @@ fn read_command<'a>(alloc: Global, words: &'a [Bytes]) -> Result<Option<Asked<'a
 ///
 /// The words are those behind the program's own name: `check FILE`, `plan FILE`, `format FILE`,
 /// `run FILE ITEMS [--runtime R] [--docs DIR] [--journal J]`, `audit FILE ITEMS JOURNAL [--docs DIR]`,
-/// `load N K [--runtime R]`, and `help` or `--help`.
+/// `load N K [--runtime R]`, `serve FILE --port P [--docs DIR] [--batches B] [--runtime R]`, and `help` or `--help`.
 pub fn read_words<'a>(alloc: Global, words: &'a [Bytes]) -> Result<Option<Asked<'a>>, Memory>
     // Each answer has its cause.
     ensures found { IfOk result (λ found. IfSome found (λ a. Spells words.now (asked a))) }

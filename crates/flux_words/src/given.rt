@@ -1,6 +1,6 @@
 //! All that is given behind the command's word.
 
-ghost use Rattle.std.specs.Prelude.{◌≡◌, ◌∷◌, ◌++◌, [], List, IfSome, IfNone, length};
+ghost use Rattle.std.specs.Prelude.{◌≡◌, ◌∷◌, ◌++◌, [], List, IfSome, IfNone, IsTrue, IsFalse, length};
 ghost use Rattle.flux_words.specs.Parts.{Part as AnyPart, BeginWith};
 ghost use Rattle.flux_words.specs.steps.Found.{part_of};
 ghost use Rattle.flux_words.specs.steps.Given.{files_of, listed, HoldsAll, Adds, IsFull, IsGiven, IsTooMuch};
@@ -25,6 +25,8 @@ pub struct Given<'a> {
     pub runtime: Option<&'a [u8]>,
     pub docs: Option<&'a [u8]>,
     pub journal: Option<&'a [u8]>,
+    pub port: Option<&'a [u8]>,
+    pub batches: Option<&'a [u8]>,
 }
 
 impl<'a> Files<'a> {
@@ -62,7 +64,17 @@ impl<'a> Given<'a> {
             runtime: None,
             docs: None,
             journal: None,
+            port: None,
+            batches: None,
         }
+    }
+
+    /// Whether an option is given that `serve` alone has.
+    pub fn serves(&self) -> bool
+        ensures some { IsTrue result → listed self.now.port ≡ [] → listed self.now.batches ≡ [] → ⊥ }
+        ensures none { IsFalse result → (listed self.now.port ≡ []) × (listed self.now.batches ≡ []) }
+    {
+        self.port.is_some() || self.batches.is_some()
     }
 
     /// Adds a part; None where no command has it once more.
@@ -75,6 +87,8 @@ impl<'a> Given<'a> {
             Part::Option(OptionName::Runtime, value) => self.runtime = once(self.runtime, value)?,
             Part::Option(OptionName::Docs, value) => self.docs = once(self.docs, value)?,
             Part::Option(OptionName::Journal, value) => self.journal = once(self.journal, value)?,
+            Part::Option(OptionName::Port, value) => self.port = once(self.port, value)?,
+            Part::Option(OptionName::Batches, value) => self.batches = once(self.batches, value)?,
         }
         Some(())
     }

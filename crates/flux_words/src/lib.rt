@@ -12,11 +12,12 @@ mod names;
 mod needs;
 mod parts;
 mod runs;
+mod serves;
 mod values;
 mod workers;
 
 pub use commands::{Asked, read_words};
 pub use loads::{FIRST_LIMIT, LOAD_LIMIT};
-pub use needs::needs_threads;
-pub use values::{JournalFormat, NUMBER_LIMIT, Runtime, WORKER_LIMIT};
+pub use needs::{needs_threads, spells_serve};
+pub use values::{BATCHES_LIMIT, JournalFormat, NUMBER_LIMIT, PORT_LIMIT, Runtime, WORKER_LIMIT};
 pub use workers::Workers;

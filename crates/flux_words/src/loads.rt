@@ -26,6 +26,9 @@ pub fn read_load<'a>(alloc: Global, words: &'a [Bytes]) -> Result<Option<Asked<'
     if given.docs.is_some() || given.journal.is_some() {
         return Ok(None);
     }
+    if given.serves() {
+        return Ok(None);
+    }
     let Files::Two(count, first) = given.files else {
         return Ok(None);
     };

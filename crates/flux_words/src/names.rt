@@ -15,6 +15,7 @@ pub enum CommandName {
     Run,
     Audit,
     Load,
+    Serve,
     Help,
 }
 
@@ -24,6 +25,8 @@ pub enum OptionName {
     Runtime,
     Docs,
     Journal,
+    Port,
+    Batches,
 }
 
 /// The command that a first word names.
@@ -38,6 +41,7 @@ pub fn read_name(word: &[u8]) -> Option<CommandName>
         b"run" => Some(CommandName::Run),
         b"audit" => Some(CommandName::Audit),
         b"load" => Some(CommandName::Load),
+        b"serve" => Some(CommandName::Serve),
         b"help" | b"--help" => Some(CommandName::Help),
         _ => None,
     }
@@ -65,6 +69,12 @@ pub fn split_name(word: &[u8]) -> Option<(OptionName, &[u8])>
     }
     if let Some(rest) = strip(b"--journal", word) {
         return Some((OptionName::Journal, rest));
+    }
+    if let Some(rest) = strip(b"--port", word) {
+        return Some((OptionName::Port, rest));
+    }
+    if let Some(rest) = strip(b"--batches", word) {
+        return Some((OptionName::Batches, rest));
     }
     None
 }

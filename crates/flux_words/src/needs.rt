@@ -1,8 +1,8 @@
-//! Which words need threads. No memory is taken to tell it.
+//! Which words need threads, and which spell `serve`. No memory is taken to tell it.
 
 ghost use Rattle.std.specs.Prelude.{◌↔◌, IsTrue};
 ghost use Rattle.flux_words.specs.declared.names.CommandName.TheVariants.{Run, Load};
-ghost use Rattle.flux_words.specs.Commands.{Command, Spells, NeedsThreads};
+ghost use Rattle.flux_words.specs.Commands.{Command, Spells, IsServe, NeedsThreads};
 ghost use Rattle.flux_words.specs.steps.Given.{listed};
 ghost use Rattle.flux_words.specs.steps.Found.{IsThreaded};
 ghost use Rattle.flux_words.specs.steps.Asking.{AskThreads};
@@ -10,6 +10,7 @@ ghost use Rattle.flux_words.specs.steps.Asking.{AskThreads};
 use crate::given::{Files, gather};
 use crate::loads::{FIRST_LIMIT, LOAD_LIMIT};
 use crate::names::{CommandName, read_name};
+use crate::serves::is_serve;
 use crate::values::{read_format, read_number, read_threaded};
 use flux_values::Bytes;
 
@@ -30,6 +31,9 @@ fn run_needs(words: &[Bytes]) -> bool
     let Some(given) = gather(words) else {
         return false;
     };
+    if given.serves() {
+        return false;
+    }
     let Files::Two(_, _) = given.files else {
         return false;
     };
@@ -47,6 +51,9 @@ fn load_needs(words: &[Bytes]) -> bool
         return false;
     };
     if given.docs.is_some() || given.journal.is_some() {
+        return false;
+    }
+    if given.serves() {
         return false;
     }
     let Files::Two(count, first) = given.files else {
@@ -68,6 +75,7 @@ fn behind_needs(name: CommandName, words: &[Bytes]) -> bool
     match name {
         CommandName::Run => run_needs(words),
         CommandName::Load => load_needs(words),
+        CommandName::Serve => is_serve(words),
         CommandName::Check => false,
         CommandName::Plan => false,
         CommandName::Format => false,
@@ -76,7 +84,17 @@ fn behind_needs(name: CommandName, words: &[Bytes]) -> bool
     }
 }
 
-/// Whether the words spell a command that needs threads: a `run` or a `load` by `perflow` or `pool=N`.
+/// Whether the words spell `serve`.
+pub fn spells_serve(words: &[Bytes]) -> bool
+    ensures { IsTrue result ↔ ((command : Command) × Spells words.now command × IsServe command) }
+{
+    match words {
+        [first, rest @ ..] if first.as_bytes() == b"serve".as_slice() => is_serve(rest),
+        _ => false,
+    }
+}
+
+/// Whether the words spell a command that needs threads: `serve`, or a `run` or a `load` by `perflow` or `pool=N`.
 pub fn needs_threads(words: &[Bytes]) -> bool
     ensures { IsTrue result ↔ ((command : Command) × Spells words.now command
         × NeedsThreads command) }

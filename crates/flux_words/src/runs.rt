@@ -17,6 +17,9 @@ pub fn read_run<'a>(alloc: Global, words: &'a [Bytes]) -> Result<Option<Asked<'a
     let Some(given) = gather(words) else {
         return Ok(None);
     };
+    if given.serves() {
+        return Ok(None);
+    }
     let Files::Two(file, items) = given.files else {
         return Ok(None);
     };

@@ -1,8 +1,9 @@
 //! The values of options, and numbers.
 
-ghost use Rattle.std.specs.Prelude.{IfOk};
+ghost use Rattle.std.specs.Prelude.{◌↔◌, List, IfOk, IsTrue};
+ghost use Rattle.flux_words.specs.Values.{SpellsNumbers, IsRuntime};
 ghost use Rattle.flux_words.specs.steps.Given.{listed};
-ghost use Rattle.flux_words.specs.steps.Found.{IsValueRead, IsNumberRead, AreNumbersRead, IsThreadedRead, IsRuntimeRead, IsFormatRead};
+ghost use Rattle.flux_words.specs.steps.Found.{IsValueRead, IsNumberRead, AreNumbersRead, IsThreadedRead, IsRuntimeRead, IsFormatRead, IsPortRead, IsBatchesRead};
 
 use crate::names::strip;
 use crate::workers::Workers;
@@ -18,6 +19,12 @@ pub const NUMBER_LIMIT: u32 = 4_095;
 
 /// The greatest number of workers of a pool.
 pub const WORKER_LIMIT: u32 = 16;
+
+/// The greatest number of a port.
+pub const PORT_LIMIT: u32 = 65_535;
+
+/// The greatest number of batches, which is wanted where none is given.
+pub const BATCHES_LIMIT: u32 = 4_294_967_295;
 
 /// By which runtime items are run. `event=H` comes with helpers of the event loop; until then no words spell it.
 #[derive(Debug, Drop)]
@@ -103,6 +110,38 @@ pub fn read_threaded(value: &[u8]) -> Option<Runtime>
     }
 }
 
+/// Whether numbers stand in a list, which is told without memory.
+fn are_numbers(list: &[u8]) -> bool
+    ensures { IsTrue result ↔ ((numbers : List FlowNo) × SpellsNumbers list.now numbers) }
+{
+    if list.is_empty() {
+        return true;
+    }
+    'numbers: for digits in list.split(|byte| *byte == b',') {
+        match read_number(digits, 0, NUMBER_LIMIT) {
+            Some(_) => {}
+            None => return false,
+        }
+    }
+    true
+}
+
+/// Whether a runtime is given, or none has to be, which is told without memory.
+pub fn is_runtime(given: Option<&[u8]>) -> bool
+    ensures { IsTrue result ↔ ((runtime : Runtime) × IsRuntime (listed given.entry) runtime) }
+{
+    let Some(value) = given else {
+        return true;
+    };
+    if value == b"event".as_slice() {
+        return true;
+    }
+    match strip(b"script=", value) {
+        Some(list) => are_numbers(list),
+        None => read_threaded(value).is_some(),
+    }
+}
+
 /// The runtime that is given, or `event`.
 pub fn read_runtime(alloc: Global, given: Option<&[u8]>) -> Result<Option<Runtime>, Memory>
     ensures { IfOk result (IsRuntimeRead (listed given.entry)) }
@@ -133,5 +172,25 @@ pub fn read_format(given: Option<&[u8]>) -> Option<JournalFormat>
         b"1" => Some(JournalFormat::One),
         b"2" => Some(JournalFormat::Two),
         _ => None,
+    }
+}
+
+/// The port that is given.
+pub fn read_port(given: Option<&[u8]>) -> Option<u16>
+    ensures { IsPortRead (listed given.entry) result }
+{
+    match read_number(given?, 1, PORT_LIMIT) {
+        Some(port) => Some(port as u16),
+        None => None,
+    }
+}
+
+/// How many batches are given, or as many as can be.
+pub fn read_batches(given: Option<&[u8]>) -> Option<u32>
+    ensures { IsBatchesRead (listed given.entry) result }
+{
+    match given {
+        Some(value) => read_number(value, 1, BATCHES_LIMIT),
+        None => Some(BATCHES_LIMIT),
     }
 }

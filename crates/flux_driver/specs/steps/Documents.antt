@@ -2,7 +2,7 @@
 use Rattle.std.specs.Prelude.{◌≡◌, ℕ, List, Option, Some, None, ⊤}
 use Rattle.flux_docs.specs.Folders.{IsFolderLost}
 use Rattle.flux_driver.specs.declared.refusals.Refusal.{Refusal}
-use Rattle.flux_driver.specs.declared.refusals.Refusal.TheVariants.{Usage, Static, Items, Read, Missing, Memory}
+use Rattle.flux_driver.specs.declared.refusals.Refusal.TheVariants.{Usage, Static, Items, Read, Missing, NotServed, Memory}
 use Rattle.flux_driver.specs.Worlds.{Folders}
 
 -- a folder was not read: it isn't there or is past a limit, it failed, or there was no memory
@@ -13,6 +13,7 @@ IsUnreadFolder told dir Memory = ⊤
 IsUnreadFolder told dir Usage = ⊥
 IsUnreadFolder told dir (Static line) = ⊥
 IsUnreadFolder told dir (Items fault) = ⊥
+IsUnreadFolder told dir NotServed = ⊥
 
 -- where none is named there is nothing to read
 abbrev pub AreUnread : Folders → Option (List ℕ) → Refusal → Type 0

@@ -9,7 +9,7 @@ use Rattle.flux_check.specs.Judgement.{IsTextFault, IsChecked}
 use Rattle.flux_driver.specs.declared.files.TheConstants.{PROGRAM_FILE_LIMIT, ITEMS_FILE_LIMIT}
 use Rattle.flux_driver.specs.declared.loaded.Loaded.{Loaded}
 use Rattle.flux_driver.specs.declared.refusals.Refusal.{Refusal}
-use Rattle.flux_driver.specs.declared.refusals.Refusal.TheVariants.{Usage, Static, Items, Read, Missing, Memory}
+use Rattle.flux_driver.specs.declared.refusals.Refusal.TheVariants.{Usage, Static, Items, Read, Missing, NotServed, Memory}
 use Rattle.flux_driver.specs.Worlds.{Files, IsLost}
 use Rattle.flux_driver.specs.Origins.{Origin, named, GivesText, TellsText}
 use Rattle.flux_driver.specs.Items.{rules_of}
@@ -67,6 +67,7 @@ IsUnloaded meaning told program items Read =
     (name : List ℕ) × (program ≡ named name)
 IsUnloaded meaning told program items Memory = ⊤
 IsUnloaded meaning told program items Usage = ⊥
+IsUnloaded meaning told program items NotServed = ⊥
 
 -- the store was asked for one file, or for both
 pub record AsksTwo (meaning : LibraryMeaning) (told : Files) (file items : List ℕ)

@@ -11,7 +11,7 @@ use Rattle.flux_words.specs.declared.values.Runtime.{Runtime}
 use Rattle.flux_words.specs.declared.values.JournalFormat.{JournalFormat}
 use Rattle.flux_words.specs.Commands.{Command, run, audit, load, Spells}
 use Rattle.flux_driver.specs.declared.refusals.Refusal.{Refusal}
-use Rattle.flux_driver.specs.declared.refusals.Refusal.TheVariants.{Usage, Static, Items, Read, Missing, Memory}
+use Rattle.flux_driver.specs.declared.refusals.Refusal.TheVariants.{Usage, Static, Items, Read, Missing, NotServed, Memory}
 use Rattle.flux_driver.specs.declared.statuses.Status.{Status}
 use Rattle.flux_driver.specs.declared.statuses.Status.TheVariants as statuses
 use Rattle.flux_driver.specs.declared.prepared.Prepared.{Prepared}
@@ -111,6 +111,7 @@ CountsBothRefusal Usage s t f g = AreSteady s t f g
 CountsBothRefusal (Static line) s t f g = AreSteady s t f g
 CountsBothRefusal (Items fault) s t f g = AreSteady s t f g
 CountsBothRefusal (Missing name) s t f g = AreSteady s t f g
+CountsBothRefusal NotServed s t f g = AreSteady s t f g
 CountsBothRefusal Memory s t f g = AreSteady s t f g
 
 abbrev pub CountsBoth : Result Prepared Refusal → ℕ → ℕ → ℕ → ℕ → Type 0

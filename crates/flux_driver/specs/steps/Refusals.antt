@@ -11,11 +11,11 @@ use Rattle.flux_words.specs.Commands.{Command}
 use Rattle.flux_driver.specs.declared.statuses.Status.{Status}
 use Rattle.flux_driver.specs.declared.statuses.Status.TheVariants as statuses
 use Rattle.flux_driver.specs.declared.refusals.Refusal.{Refusal}
-use Rattle.flux_driver.specs.declared.refusals.Refusal.TheVariants.{Usage, Static, Items, Read, Missing, Memory}
+use Rattle.flux_driver.specs.declared.refusals.Refusal.TheVariants.{Usage, Static, Items, Read, Missing, NotServed, Memory}
 use Rattle.flux_driver.specs.Worlds.{Files, IsLost}
 use Rattle.flux_driver.specs.Origins.{named}
 use Rattle.flux_driver.specs.Commands.{ReadsProgram}
-use Rattle.flux_driver.specs.Causes.{usage_line, fault_text, item_fault_line, read_line, lost_line, IsStatic, IsItems, IsMissing}
+use Rattle.flux_driver.specs.Causes.{usage_line, fault_text, item_fault_line, read_line, lost_line, not_served_line, IsStatic, IsItems, IsMissing, IsUnserved}
 
 -- the status of a refusal
 abbrev pub status_of : Refusal → Status
@@ -24,6 +24,7 @@ status_of (Static line) = statuses.Static
 status_of (Items fault) = statuses.Items
 status_of Read = statuses.Read
 status_of (Missing name) = statuses.Missing
+status_of NotServed = statuses.NotServed
 status_of Memory = statuses.Memory
 
 -- its line
@@ -33,6 +34,7 @@ line_of (Static line) = line
 line_of (Items fault) = item_fault_line fault
 line_of Read = read_line
 line_of (Missing name) = lost_line name.now
+line_of NotServed = not_served_line
 line_of Memory = []
 
 -- the refusal of an items text
@@ -53,6 +55,7 @@ IsUnread told name max Memory = ⊤
 IsUnread told name max Usage = ⊥
 IsUnread told name max (Static line) = ⊥
 IsUnread told name max (Items fault) = ⊥
+IsUnread told name max NotServed = ⊥
 
 -- a count rose where reading failed, and stands as before in every other answer
 abbrev pub CountsRefusal : Refusal → ℕ → ℕ → Type 0
@@ -61,6 +64,7 @@ CountsRefusal Usage before after = after ≡ before
 CountsRefusal (Static line) before after = after ≡ before
 CountsRefusal (Items fault) before after = after ≡ before
 CountsRefusal (Missing name) before after = after ≡ before
+CountsRefusal NotServed before after = after ≡ before
 CountsRefusal Memory before after = after ≡ before
 
 abbrev pub Counts : {T : Type 0} → Result T Refusal → ℕ → ℕ → Type 0
@@ -77,6 +81,7 @@ SaysOrMemory Says Usage = ⊥
 SaysOrMemory Says (Items fault) = ⊥
 SaysOrMemory Says Read = ⊥
 SaysOrMemory Says (Missing name) = ⊥
+SaysOrMemory Says NotServed = ⊥
 
 -- the line of a fault of a text
 pub record IsFaultLine (Stands : StaticFault → Type 0) (text line : List ℕ) : Type 0 where
@@ -100,6 +105,7 @@ abbrev pub IsJudged : LibraryMeaning → Command → Files → Status → List �
 IsJudged meaning command told statuses.Static line = IsStatic meaning command told line
 IsJudged meaning command told statuses.Items line = IsItems meaning command told line
 IsJudged meaning command told statuses.Missing line = IsMissing meaning command told line
+IsJudged meaning command told statuses.NotServed line = IsUnserved meaning command told line
 IsJudged meaning command told other line = ⊥
 
 -- reading failed

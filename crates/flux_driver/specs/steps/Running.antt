@@ -35,7 +35,7 @@ use Rattle.flow_core.specs.Runs.{SameSetup}
 use Rattle.flux_values.specs.declared.failures.Memory.{Memory}
 use Rattle.flux_driver.specs.BuiltIn.{meaning_in}
 use Rattle.flux_driver.specs.declared.refusals.Refusal.{Refusal}
-use Rattle.flux_driver.specs.declared.refusals.Refusal.TheVariants.{Usage, Static, Items, Read, Missing, Memory as NoMemory}
+use Rattle.flux_driver.specs.declared.refusals.Refusal.TheVariants.{Usage, Static, Items, Read, Missing, NotServed, Memory as NoMemory}
 use Rattle.flux_driver.specs.declared.running.Wanted.{Wanted}
 use Rattle.flux_driver.specs.TrueRuns.{IsTrueRun, setup_of, printed_by}
 
@@ -103,3 +103,4 @@ AreRefused rules items_text Usage = ⊥
 AreRefused rules items_text (Static line) = ⊥
 AreRefused rules items_text Read = ⊥
 AreRefused rules items_text (Missing name) = ⊥
+AreRefused rules items_text NotServed = ⊥

@@ -7,7 +7,7 @@ use Rattle.flux_words.specs.declared.parts.Part.TheVariants as reads
 use Rattle.flux_words.specs.declared.values.Runtime.{Runtime}
 use Rattle.flux_words.specs.declared.values.JournalFormat.{JournalFormat}
 use Rattle.flux_words.specs.Parts.{Part, word, option}
-use Rattle.flux_words.specs.Values.{is_comma, IsDigit, number_from, SpellsNumber, SpellEach, SpellsNumbers, SpellsRuntime, StartsThreads, IsRuntime, IsFormat}
+use Rattle.flux_words.specs.Values.{is_comma, IsDigit, number_from, SpellsNumber, SpellEach, SpellsNumbers, SpellsRuntime, StartsThreads, IsRuntime, IsFormat, IsPort, IsBatches}
 
 -- the part that was read
 abbrev pub part_of : Read → Part
@@ -51,3 +51,11 @@ IsFormatRead values None = (format : JournalFormat) → IsFormat values format �
 -- the numbers of the first pieces between commas
 abbrev pub AreSoFar : List ℕ → ℕ → List FlowNo → Type 0
 AreSoFar list n numbers = SpellEach (take n (slice_split is_comma list)) numbers
+
+abbrev pub IsPortRead : List (List ℕ) → Option ℕ → Type 0
+IsPortRead values (Some port) = IsPort values port
+IsPortRead values None = (port : ℕ) → IsPort values port → ⊥
+
+abbrev pub IsBatchesRead : List (List ℕ) → Option ℕ → Type 0
+IsBatchesRead values (Some batches) = IsBatches values batches
+IsBatchesRead values None = (batches : ℕ) → IsBatches values batches → ⊥

@@ -1,4 +1,4 @@
-use Rattle.flux_words.proofs.Behind.{some_given, audit_of_files, audit_of_options}
+use Rattle.flux_words.proofs.Behind.{audit_of_serving, some_given, audit_of_files, audit_of_options}
 use Rattle.flux_words.proofs.audits.read_audit.Goals.{then-is_some-via-then-is_some, then-is_some-via-else-is_some+then-is_some-2}
 use Rattle.flux_words.proofs.audits.read_audit.Goals as goal
 
@@ -10,3 +10,6 @@ returns-then-is_some c = audit_of_options c.args.words.now c.in_ok-given.given c
   | then-is_some-via-then-is_some w ↦ some_given c.in_ok-given.given.runtime c.is_some.result c.is_some.ensures w.if-is_some.true r
   | then-is_some-via-else-is_some+then-is_some-2 w ↦ some_given c.in_ok-given.given.journal w.is_some-else-is_some.result w.is_some-else-is_some.ensures w.if-is_some-2.true j
 ])
+
+pub returns-then-serves : goal.returns-then-serves
+returns-then-serves c = audit_of_serving c.args.words.now c.in_ok-given.given c.in_ok-given.ensures.found (c.serves.ensures.some c.if-serves.true)

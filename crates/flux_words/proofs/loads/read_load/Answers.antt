@@ -1,6 +1,6 @@
 use Rattle.std.proofs.Common.{ap}
 use Rattle.flux_words.specs.steps.Given.{files_of}
-use Rattle.flux_words.proofs.Behind.{some_given, load_of_options, load_of_files, load_of_count, load_of_first, load_of_runtime}
+use Rattle.flux_words.proofs.Behind.{load_of_serving, some_given, load_of_options, load_of_files, load_of_count, load_of_first, load_of_runtime}
 use Rattle.flux_words.proofs.loads.read_load.Goals.{then-is_some-via-then-is_some, then-is_some-via-else-is_some+then-is_some-2}
 use Rattle.flux_words.proofs.loads.read_load.Goals as goal
 
@@ -23,3 +23,6 @@ pub returns-in_default-2 : goal.returns-in_default-2
 returns-in_default-2 c =
     let none = rw c.in_default-2.is at c.in_ok-runtime.ensures in
     load_of_runtime c.args.words.now c.in-Some.given c.in-Some.ensures.found none
+
+pub returns-then-serves : goal.returns-then-serves
+returns-then-serves c = load_of_serving c.args.words.now c.in-Some.given c.in-Some.ensures.found (c.serves.ensures.some c.if-serves.true)

@@ -1,7 +1,7 @@
 use Rattle.std.proofs.Common.{ap}
 use Rattle.flux_words.specs.declared.names.CommandName.TheVariants.{Load}
 use Rattle.flux_words.specs.steps.Given.{files_of}
-use Rattle.flux_words.proofs.Behind.{some_given, load_of_too_much, load_of_options, load_of_files, load_of_count, load_of_first}
+use Rattle.flux_words.proofs.Behind.{some_given, load_of_too_much, load_of_serving, load_of_options, load_of_files, load_of_count, load_of_first}
 use Rattle.flux_words.proofs.AskingThreads.{none_listed, nothing_asks, load_asks}
 use Rattle.flux_words.proofs.needs.load_needs.Goals.{then-is_some-via-then-is_some, then-is_some-via-else-is_some+then-is_some-2}
 use Rattle.flux_words.proofs.needs.load_needs.Goals as goal
@@ -34,3 +34,7 @@ returns c = load_asks c.args.words.now c.in-Some.given c.in-Some.ensures.found c
     c.in-Two.count.now c.in-Two.first.now c.in-Some-read_number.field-0 c.in-Some-read_number-2.field-0
     (ap files_of c.in-Two.is) c.in-Some-read_number.ensures c.in-Some-read_number-2.ensures
     (none_listed c.in-Some.given.docs c.if-is_some.ensures) (none_listed c.in-Some.given.journal c.if-is_some-2.ensures)
+    (c.serves.ensures.none c.if-serves.false).0 (c.serves.ensures.none c.if-serves.false).1
+
+pub returns-then-serves : goal.returns-then-serves
+returns-then-serves c = nothing_asks Load c.args.words.now (load_of_serving c.args.words.now c.in-Some.given c.in-Some.ensures.found (c.serves.ensures.some c.if-serves.true))

@@ -1,4 +1,4 @@
-use Rattle.flux_words.proofs.Behind.{run_of_files, run_of_format, run_of_runtime}
+use Rattle.flux_words.proofs.Behind.{run_of_serving, run_of_files, run_of_format, run_of_runtime}
 use Rattle.flux_words.proofs.runs.read_run.Goals as goal
 
 pub returns-in_default-files : goal.returns-in_default-files
@@ -11,3 +11,6 @@ pub returns-in_default-2 : goal.returns-in_default-2
 returns-in_default-2 c =
     let none = rw c.in_default-2.is at c.in_ok-runtime.ensures in
     run_of_runtime c.args.words.now c.in-Some.given c.in-Some.ensures.found none
+
+pub returns-then-serves : goal.returns-then-serves
+returns-then-serves c = run_of_serving c.args.words.now c.in-Some.given c.in-Some.ensures.found (c.serves.ensures.some c.if-serves.true)

@@ -1,0 +1,91 @@
+//! The links that a case's door gives, and what they are written.
+
+ghost use Rattle.std.specs.Prelude.{◌≡◌, IfOk};
+ghost use Rattle.flux_doors.specs.Memory.{door_out};
+
+use crate::cases::Case;
+use crate::entries::{Entry, Line, Part, Stream};
+use flux_doors::{MemoryDoor, MemoryLink};
+use flux_outside::MemorySink;
+use flux_values::{Bytes, List, Memory};
+use std::alloc::Global;
+
+/// How many bytes of a reply a link has room for, and gives and takes a call, where a case says nothing of it.
+const ROOM: usize = 2_097_152;
+
+/// A link to a client.
+#[derive(Clone, Copy)]
+pub struct Client<'a> {
+    /// The number of its batch, from 1 on.
+    batch: usize,
+    /// What it gives.
+    input: &'a [u8],
+    /// The lines about it, which tell what it has to be written.
+    pub lines: &'a [Line],
+}
+
+/// The links of a case, in order.
+pub fn clients_of<'a>(alloc: Global, case: &Case<'a>) -> Result<Vec<Client<'a>>, Memory> {
+    let mut clients = Vec::new(alloc);
+    let mut batch = 0usize;
+    for lines in case
+        .door_lines()
+        .chunk_by(|_, next| !next.entry.begins_links())
+    {
+        match lines.first() {
+            Some(line) => batch = add_clients(&mut clients, &line.entry, lines, batch)?,
+            None => {}
+        }
+    }
+    Ok(clients)
+}
+
+/// Adds the links of an entry, if it is one of links behind a batch's line, and answers the number of its batch.
+fn add_clients<'a>(
+    clients: &mut Vec<Client<'a>>,
+    entry: &'a Entry,
+    lines: &'a [Line],
+    batch: usize,
+) -> Result<usize, Memory> {
+    match entry {
+        Entry::Batch => return Ok(batch.saturating_add(1)),
+        Entry::Links(count, input) if batch > 0 => {
+            let input = input.as_bytes();
+            for _ in 0..*count {
+                clients.push(Client {
+                    batch,
+                    input,
+                    lines,
+                })?;
+            }
+        }
+        _ => {}
+    }
+    Ok(batch)
+}
+
+/// The door that gives a case's links. None is out yet.
+pub fn door(alloc: Global, case: &Case) -> Result<MemoryDoor, Memory>
+    ensures { IfOk result (λ door. door_out door ≡ 0) }
+{
+    let clients = clients_of(alloc, case)?;
+    let mut batches = List::new(alloc);
+    for batch in clients.chunk_by(|one, next| one.batch == next.batch) {
+        let mut links = List::new(alloc);
+        for client in batch {
+            links.add(link(alloc, case, client)?)?;
+        }
+        batches.add(links)?;
+    }
+    MemoryDoor::new(alloc, batches, case.fails(alloc, Part::Door)?)
+}
+
+fn link(alloc: Global, case: &Case, client: &Client) -> Result<MemoryLink, Memory> {
+    let shape = case.link_shape(client.lines);
+    let piece = shape.piece.unwrap_or(ROOM).max(1);
+    let writes = case.link_fails(alloc, client.lines, Part::Stream(Stream::Link))?;
+    let written = MemorySink::new(alloc, shape.room.unwrap_or(ROOM), piece, writes)?;
+    let reads = case.link_fails(alloc, client.lines, Part::Reads)?;
+    let input = Bytes::copy(alloc, client.input)?;
+    Ok(MemoryLink::new(input, piece, written, reads))
+}

@@ -1,0 +1,57 @@
+-- Words that spell `serve`, and how serving goes before its first batch.
+use Rattle.std.proofs.Common.{◌≡◌, ℕ, ◌<◌, inl, inr, List, [], ◌∷◌, Option, refl, sym, ap, subst, arith}
+use Rattle.flux_values.specs.Meanings.{LibraryMeaning}
+use Rattle.flux_outside.specs.Causes.{Rose}
+use Rattle.flux_outside.specs.Streams.{Stream}
+use Rattle.flux_model.specs.declared.programs.Program.{Program}
+use Rattle.flux_batches.specs.declared.framing.Framing.{Framing}
+use Rattle.flux_batches.specs.Links.{Seen}
+use Rattle.flux_batches.proofs.Giving.{back_none}
+use Rattle.flux_serve.specs.declared.batches.ServeEnd.{ServeEnd}
+use Rattle.flux_serve.specs.declared.batches.ServeEnd.TheVariants.{Door, Memory}
+use Rattle.flux_serve.specs.Batches.{Service}
+use Rattle.flux_serve.specs.Ends.{Sight, HasServed}
+use Rattle.flux_words.specs.Behind.{Serving}
+use Rattle.flux_words.specs.Values.{IsBatches}
+use Rattle.flux_words.specs.Commands.{serve, Spells}
+
+-- ---- how many batches
+
+some_batches : (values : List (List ℕ)) (batches : ℕ) → IsBatches values batches → 0 < batches
+some_batches [] batches is = subst (λ (n : ℕ). 0 < n) (sym is) (omega arith)
+some_batches (value ∷ []) batches is = is.from
+some_batches (value ∷ other ∷ values) batches is = absurd is
+
+-- ---- before the first batch
+
+module _ {L : Type 0} (see : L → Seen) (wanted : ℕ) (some : 0 < wanted) where
+  -- there was no memory for the plans
+  pub unplanned : (service : Service) (sight : Sight L) → HasServed see service wanted sight sight Memory
+  unplanned service sight = record {
+    batches = [];
+    mid = sight;
+    served = refl;
+    ended = (some, inl (record { came = []; backs = []; formed = inr refl; back = back_none sight.taken_back; unwritten = tt; log_ = refl }));
+  }
+
+  -- the door failed to open
+  pub unopened : (service : Service) (before after : Sight L) → Rose before.faults after.faults → after.taken_back ≡ before.taken_back → after.log ≡ before.log → HasServed see service wanted before after Door
+  unopened service before after rose back log_ = record {
+    batches = [];
+    mid = before;
+    served = refl;
+    ended = (some, (rose, back, log_));
+  }
+
+-- ---- the same service, from the same sight
+
+pub service_same : (p q : Program) (f g : Framing) (m n : LibraryMeaning) → p ≡ q → f ≡ g → m ≡ n → ◌≡◌ {A = Service} (record { program = p; framing = f; meaning = m }) (record { program = q; framing = g; meaning = n })
+service_same p q f g m n program framing meaning = λ i. record { program = program i; framing = framing i; meaning = meaning i }
+
+pub sight_same : {L : Type 0} (to_come to_come_after : Option (List (List L))) (back back_after : Option (List L)) (faults faults_after late late_after : ℕ) (log : Stream)
+    → to_come_after ≡ to_come → back_after ≡ back → faults_after ≡ faults → late_after ≡ late
+    → ◌≡◌ {A = Sight L} (record { to_come = to_come_after; taken_back = back_after; faults = faults_after; late = late_after; log = log }) (record { to_come = to_come; taken_back = back; faults = faults; late = late; log = log })
+sight_same to_come to_come_after back back_after faults faults_after late late_after log a b c d = λ i. record { to_come = a i; taken_back = b i; faults = c i; late = d i; log = log }
+
+pub serves_some : (words : List (List ℕ)) (file : List ℕ) (serving : Serving) → Spells words (serve file serving) → 0 < serving.batches
+serves_some words file serving spelled = let behind = spelled.behind in let fits = behind.fits in some_batches _ serving.batches fits.batches_

@@ -1,0 +1,38 @@
+use Rattle.std.specs.Arc.{arc_value}
+use Rattle.std.proofs.Common.{ap, refl, subst}
+use Rattle.flux_batches.specs.Links.{Seen}
+use Rattle.flux_serve.specs.Batches.{Service}
+use Rattle.flux_serve.specs.Ends.{Sight, HasServed}
+use Rattle.flux_driver.proofs.Serves.{unplanned, unopened, service_same, sight_same}
+use Rattle.flux_driver.proofs.serving.serve_ready.Goals as goal
+
+pub returns-in-Err-clause-served : goal.returns-in-Err-clause-served
+returns-in-Err-clause-served g c = unplanned _ _ c.requires.some _ _
+
+pub returns-in-Err-open-clause-served : goal.returns-in-Err-open-clause-served
+returns-in-Err-open-clause-served g c = unopened _ _ c.requires.some _ _ _ (let cause = c.in-Err-open.ensures.cause in cause.failed) c.open.ensures.kept.1 refl
+
+pub returns-clause-served : goal.returns-clause-served
+returns-clause-served g c =
+    let see : g.row.D-Link.Denot → Seen = λ link. record { left = g.D.Link.Link.left link; written = g.D.Link.Link.written link; faults = g.D.Link.Link.faults link } in
+    let meaning = g.L.Meaning.meaning in
+    let checked = c.args.ready.checked in
+    let own : Service = record { program = checked.program; framing = c.args.ready.framing; meaning = meaning (arc_value c.args.ready.library) } in
+    let after : Sight g.row.D-Link.Denot = record {
+      to_come = g.D.Door.to_come c.serve.new.door;
+      taken_back = g.D.Door.taken_back c.serve.new.door;
+      faults = g.D.Door.faults c.serve.new.door;
+      late = g.D.Door.late c.serve.new.door;
+      log = record { written = g.O.Sink.written c.serve.new.log; faults = g.O.Sink.faults c.serve.new.log };
+    } in
+    let opened : Sight g.row.D-Link.Denot = record {
+      to_come = g.D.Door.to_come c.open.new.self;
+      taken_back = g.D.Door.taken_back c.open.new.self;
+      faults = g.D.Door.faults c.open.new.self;
+      late = g.D.Door.late c.open.new.self;
+      log = record { written = g.O.Sink.written c.args.log.now; faults = g.O.Sink.faults c.args.log.now };
+    } in
+    let S : Service → Type 0 = λ s. HasServed see s c.args.service.batches opened after c.serve.result in
+    let B : Sight g.row.D-Link.Denot → Type 0 = λ b. HasServed see own c.args.service.batches b after c.serve.result in
+    subst B (sight_same _ _ _ _ _ _ _ _ _ c.open.ensures.kept.0 c.open.ensures.kept.1 (let cause = c.in-Ok-open.ensures.cause in cause.steady) c.open.ensures.late)
+    (subst S (service_same _ _ _ _ _ _ c.in-Ok.ensures.program c.in-Ok.ensures.framing (ap meaning c.in-Ok.ensures.library)) c.serve.ensures.served)

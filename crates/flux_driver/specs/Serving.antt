@@ -1,0 +1,69 @@
+-- Serving: how it ends, and what it has done.
+use Rattle.std.specs.Prelude.{◌≡◌, ℕ, List, []}
+use Rattle.flux_library.specs.Documents.{DocMap}
+use Rattle.flux_syntax.specs.ProgramOfText.{program_of}
+use Rattle.flux_outside.specs.Streams.{WroteOrBroke}
+use Rattle.flux_serve.specs.declared.batches.ServeEnd.{ServeEnd}
+use Rattle.flux_serve.specs.declared.batches.ServeEnd.TheVariants.{Closed, Counted, Door, Log, Memory}
+use Rattle.flux_serve.specs.Ends.{Sight, HasServed}
+use Rattle.flux_words.specs.Behind.{Serving}
+use Rattle.flux_words.specs.Commands.{serve, Spells}
+use Rattle.flux_driver.specs.declared.statuses.Status.{Status}
+use Rattle.flux_driver.specs.declared.statuses.Status.TheVariants as statuses
+use Rattle.flux_driver.specs.Worlds.{Link, Seen}
+use Rattle.flux_driver.specs.Origins.{named}
+use Rattle.flux_driver.specs.Inputs.{HasServable}
+use Rattle.flux_driver.specs.Documents.{AreDocs}
+use Rattle.flux_driver.specs.Causes.{door_line, write_line}
+use Rattle.flux_driver.specs.Answers.{Libraries}
+
+-- the status with which serving ends
+abbrev pub end_status : ServeEnd → Status
+end_status Closed = statuses.Done
+end_status Counted = statuses.Done
+end_status Door = statuses.Door
+end_status Log = statuses.Write
+end_status Memory = statuses.Memory
+
+-- and its line on `err`
+abbrev pub end_line : ServeEnd → List ℕ
+end_line Closed = []
+end_line Counted = []
+end_line Door = door_line
+end_line Log = write_line
+end_line Memory = []
+
+-- what is seen of the door, and of `out`, where the log stands
+abbrev pub sight_of : Seen → Sight Link
+sight_of seen = let door = seen.door in record {
+  to_come = door.to_come;
+  taken_back = door.taken_back;
+  faults = door.faults;
+  late = door.late;
+  log = seen.out;
+}
+
+-- a file's program was served:
+--   docs, are_docs   with the documents of the folder that the words name;
+--   there            the file has a sound program that can be served;
+--   end, served      so many batches were served, or fewer, and serving ended so;
+--   said             the end's line is on `err`, or a front of it where `err` failed.
+pub record HasServedFile (library : Libraries) (file : List ℕ) (serving : Serving) (before after : Seen)
+    : Type 0 where
+  pub docs : DocMap
+  pub are_docs : let told = before.told in AreDocs told.folders serving.docs docs
+  pub there : let told = before.told in HasServable (library docs) told.files (named file)
+  pub end : ServeEnd
+  pub served : let own = there in HasServed (λ link. link)
+      (record { program = program_of own.decls; framing = own.framing; meaning = library docs })
+      serving.batches (sight_of before) (sight_of after) end
+  pub said : WroteOrBroke before.err after.err (end_line end)
+
+-- the words spell `serve`, and it was served
+pub record HasServedWords (library : Libraries) (words : List (List ℕ)) (before : Seen)
+    (status : Status) (after : Seen) : Type 0 where
+  pub file : List ℕ
+  pub serving : Serving
+  pub spelled : Spells words (serve file serving)
+  pub has : HasServedFile library file serving before after
+  pub is : let own = has in status ≡ end_status own.end

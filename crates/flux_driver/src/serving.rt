@@ -1,0 +1,112 @@
+//! Serving a checked program: its plans, its door, and batch after batch.
+
+ghost use Rattle.std.specs.Prelude.{◌≡◌, ◌<◌, ◌≤◌, IfOk};
+ghost use Rattle.std.specs.Arc.{arc_value};
+ghost use Rattle.flux_model.specs.Kinds.{kinds_at};
+ghost use Rattle.flux_model.specs.Soundness.{IsSound};
+ghost use Rattle.flux_serve.specs.Served.{IsServed, CanServe};
+ghost use Rattle.flux_serve.specs.Batches as batches;
+ghost use Rattle.flux_serve.specs.Ends.{HasServed};
+
+use crate::services::{Ready, Service};
+use flow_core::Gate;
+use flux_batches::Framing;
+use flux_compile::compile;
+use flux_doors::Door;
+use flux_hoist::Checked;
+use flux_library::Library;
+use flux_outside::Sink;
+use flux_serve::{ServeEnd, Served, serve};
+use flux_values::Memory;
+use rt_all::Chosen;
+use std::alloc::Global;
+use std::marker::Sync;
+use std::sync::{Arc, Wait};
+use std::thread::Threads;
+
+/// A checked program with its plans.
+fn plan_all<L: Library>(
+    alloc: Global,
+    library: Arc<L>,
+    checked: Checked,
+    framing: Framing,
+) -> Result<Served<L>, Memory>
+    requires sound { IsSound (L.meaning (arc_value library)) checked.program (kinds_at checked.sigs.nodes) }
+    requires source { IsServed (L.meaning (arc_value library)) checked.program framing }
+    ensures can { IfOk result (λ served. CanServe (L.meaning (arc_value served.library)) (arc_value served.program)
+        (arc_value served.plans) served.framing) }
+    ensures program { IfOk result (λ served. arc_value served.program ≡ checked.program) }
+    ensures library { IfOk result (λ served. arc_value served.library ≡ arc_value library) }
+    ensures framing { IfOk result (λ served. served.framing ≡ framing) }
+{
+    let plans = compile(alloc, &checked)?;
+    Ok(Served {
+        program: Arc::new(alloc, checked.program)?,
+        plans: Arc::new(alloc, plans)?,
+        library,
+        framing,
+    })
+}
+
+/// Serves a program that is ready: plans it, opens the door, and serves its batches.
+pub fn serve_ready<L: Library, D: Door, O: Sink, G: Gate, Rt: Threads + Wait + Sync>(
+    rt: &Rt,
+    alloc: Global,
+    ready: Ready<L>,
+    service: Service,
+    door: &mut D,
+    log: &mut O,
+    gate: &G,
+) -> ServeEnd
+    requires sound { IsSound (L.meaning (arc_value ready.library)) ready.checked.program (kinds_at ready.checked.sigs.nodes) }
+    requires source { IsServed (L.meaning (arc_value ready.library)) ready.checked.program ready.framing }
+    requires some { 0 < service.batches }
+    requires out { D.out door.old ≡ 0 }
+    // Each accepted link has gone back to the door.
+    ensures out { D.out door.new ≡ 0 }
+    ensures later { (D.faults door.old ≤ D.faults door.new) × (D.late door.old ≤ D.late door.new) }
+    ensures later_log { O.faults log.old ≤ O.faults log.new }
+    ensures served { let own : batches.Service = (record { program = ready.checked.program; framing = ready.framing; meaning = L.meaning (arc_value ready.library) }) in
+        HasServed
+        (λ link. record { left = D.Link.left link; written = D.Link.written link; faults = D.Link.faults link })
+        own service.entry.batches
+        (record {
+          to_come = D.to_come door.old;
+          taken_back = D.taken_back door.old;
+          faults = D.faults door.old;
+          late = D.late door.old;
+          log = record { written = O.written log.old; faults = O.faults log.old };
+        })
+        (record {
+          to_come = D.to_come door.new;
+          taken_back = D.taken_back door.new;
+          faults = D.faults door.new;
+          late = D.late door.new;
+          log = record { written = O.written log.new; faults = O.faults log.new };
+        }) result }
+{
+    let Ready {
+        library,
+        checked,
+        framing,
+    } = ready;
+    let served = match plan_all(alloc, library, checked, framing) {
+        Ok(served) => served,
+        Err(_) => return ServeEnd::Memory,
+    };
+    match door.open(service.port) {
+        Ok(()) => {}
+        Err(_) => return ServeEnd::Door,
+    }
+    let mut runtime = Chosen::by(service.runtime);
+    serve(
+        alloc,
+        rt,
+        &served,
+        door,
+        log,
+        &mut runtime,
+        gate,
+        service.batches,
+    )
+}

@@ -1,0 +1,73 @@
+//! The words behind `serve`.
+
+ghost use Rattle.std.specs.Prelude.{◌↔◌, ℕ, List, IfOk, IsTrue};
+ghost use Rattle.flux_words.specs.declared.names.CommandName.TheVariants.{Serve};
+ghost use Rattle.flux_words.specs.Behind.{Serving, HasParts, FitsServe};
+ghost use Rattle.flux_words.specs.steps.Asking.{IsAskedBehind, IsServeRead};
+
+use crate::commands::Asked;
+use crate::given::{Files, gather};
+use crate::values::{is_runtime, read_batches, read_port, read_runtime};
+use flux_values::{Bytes, Memory};
+use std::alloc::Global;
+
+/// What they ask for, with the runtime as it is spelled.
+#[derive(Clone, Copy, Debug)]
+pub struct Service<'a> {
+    file: &'a [u8],
+    port: u16,
+    batches: u32,
+    docs: Option<&'a [u8]>,
+    runtime: Option<&'a [u8]>,
+}
+
+/// All of it but the runtime.
+fn read_service(words: &[Bytes]) -> Option<Service<'_>>
+    ensures { IsServeRead words.now result }
+{
+    let given = gather(words)?;
+    let Files::One(file) = given.files else {
+        return None;
+    };
+    if given.journal.is_some() {
+        return None;
+    }
+    let port = read_port(given.port)?;
+    let batches = read_batches(given.batches)?;
+    Some(Service {
+        file,
+        port,
+        batches,
+        docs: given.docs,
+        runtime: given.runtime,
+    })
+}
+
+/// What they ask for.
+pub fn read_serve<'a>(alloc: Global, words: &'a [Bytes]) -> Result<Option<Asked<'a>>, Memory>
+    ensures { IfOk result (IsAskedBehind Serve words.now) }
+{
+    let Some(service) = read_service(words) else {
+        return Ok(None);
+    };
+    let Some(runtime) = read_runtime(alloc, service.runtime)? else {
+        return Ok(None);
+    };
+    Ok(Some(Asked::Serve {
+        file: service.file,
+        port: service.port,
+        batches: service.batches,
+        docs: service.docs,
+        runtime,
+    }))
+}
+
+/// Whether they ask for anything, which is told without memory.
+pub fn is_serve(words: &[Bytes]) -> bool
+    ensures { IsTrue result ↔ ((file : List ℕ) × (serving : Serving) × HasParts words.now (FitsServe file serving)) }
+{
+    match read_service(words) {
+        Some(service) => is_runtime(service.runtime),
+        None => false,
+    }
+}
