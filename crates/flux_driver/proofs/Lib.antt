@@ -17,3 +17,4 @@ pub mod Readied
 pub mod Serves
 mod ServedHeadline
 pub mod ServedDone
+mod Explained

@@ -19,3 +19,4 @@ pub mod Headline
 pub mod Audits
 pub mod Loads
 pub mod ServedHeadline
+pub mod Explained
