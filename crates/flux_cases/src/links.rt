@@ -3,8 +3,7 @@
 ghost use Rattle.std.specs.Prelude.{◌≡◌, IfOk};
 ghost use Rattle.flux_doors.specs.Memory.{door_out};
 
-use crate::cases::Case;
-use crate::entries::{Entry, Line, Part, Stream};
+use case_files::{Case, Entry, Line, Part, Stream};
 use flux_doors::{MemoryDoor, MemoryLink};
 use flux_outside::MemorySink;
 use flux_values::{Bytes, List, Memory};
