@@ -2,11 +2,13 @@
 
 ghost use Rattle.std.specs.Prelude.{◌≡◌, ◌≤◌, IfOk, length};
 ghost use Rattle.std.specs.List.{AllByRecursion};
+ghost use Rattle.std.specs.Arc.{arc_value};
 ghost use Rattle.flux_model.specs.Kinds.{kinds_at};
 ghost use Rattle.flux_model.specs.Items.{IsItemFor};
 ghost use Rattle.flux_model.specs.Names.{IsNamed};
 ghost use Rattle.flux_model.specs.Numbered.{IsNumbered};
 ghost use Rattle.flux_model.specs.Soundness.{IsSound};
+ghost use Rattle.flow_state.specs.States.{MayRun};
 
 use crate::troubles::Trouble;
 use flow_core::{Core, Setup};
@@ -85,6 +87,29 @@ fn items_of(alloc: Global, checked: &Checked, given: &[Given]) -> Result<List<It
     Ok(items)
 }
 
+/// The text's program with its plans, and a flow for each number.
+pub fn setup_of<L: Library>(
+    alloc: Global,
+    text: &[u8],
+    given: &[Given],
+    library: L,
+) -> Result<Setup<L>, Trouble>
+    ensures run { IfOk result (λ setup. MayRun (L.meaning (arc_value setup.library))
+        (arc_value setup.program) (arc_value setup.plans) setup.items) }
+    ensures named { IfOk result (λ setup. IsNamed (arc_value setup.program)) }
+{
+    let checked = checked_of(alloc, text, &library)?;
+    let plans = compile(alloc, &checked)?;
+    let items = items_of(alloc, &checked, given)?;
+    Ok(Setup {
+        program: Arc::new(alloc, checked.program)?,
+        plans: Arc::new(alloc, plans)?,
+        items,
+        opening: Cells::new(alloc),
+        library: Arc::new(alloc, library)?,
+    })
+}
+
 /// A core of the text's program, with a flow for each number.
 pub fn core_of<L: Library>(
     alloc: Global,
@@ -92,15 +117,6 @@ pub fn core_of<L: Library>(
     given: &[Given],
     library: L,
 ) -> Result<Core<L>, Trouble> {
-    let checked = checked_of(alloc, text, &library)?;
-    let plans = compile(alloc, &checked)?;
-    let items = items_of(alloc, &checked, given)?;
-    let setup = Setup {
-        program: Arc::new(alloc, checked.program)?,
-        plans: Arc::new(alloc, plans)?,
-        items,
-        opening: Cells::new(alloc),
-        library: Arc::new(alloc, library)?,
-    };
+    let setup = setup_of(alloc, text, given, library)?;
     Ok(Core::new(alloc, setup)?)
 }

@@ -1,11 +1,13 @@
-//! A journal's text, printed and read back again and again.
+//! A journal's text, printed and read back again and again, and audited.
 
 ghost use Rattle.flux_model.specs.Names.{IsNamed};
 ghost use Rattle.flux_model.specs.Numbered.{IsNumbered};
 
+use crate::building::{Given, setup_of};
 use crate::troubles::Trouble;
 use flow_core::Core;
 use flow_model::Journal;
+use flux_audit::{Verdict, audit};
 use flux_hoist::Checked;
 use flux_journal::{JournalFault, print_journal, read_journal};
 use flux_library::Library;
@@ -63,4 +65,19 @@ pub fn read_again(alloc: Global, checked: &Checked, text: &[u8], times: u32) -> 
         }
     }
     Ok(())
+}
+
+/// How many events a text has as the journal of a true run of the program's flows, one for each number.
+pub fn audit_again<L: Library>(
+    alloc: Global,
+    program: &[u8],
+    given: &[Given],
+    library: L,
+    text: &[u8],
+) -> Result<u64, Trouble> {
+    let setup = setup_of(alloc, program, given, library)?;
+    match audit(alloc, setup, text)? {
+        Verdict::Yes { events } => Ok(events),
+        Verdict::No { .. } => Err(Trouble::Journal),
+    }
 }

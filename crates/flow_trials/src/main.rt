@@ -2,27 +2,34 @@
 //!
 //! `core N` drives N flows to their ends, and prints how many flows and events there are. `journal N P R` makes their
 //! journal's text P times and reads it R times, and prints how many events and bytes there are. `text N` prints that text.
-//! `watch N` does what `core N` does; then it drives N flows by the loop of the runtimes, over a library that refuses one call
-//! for want of memory, each call in turn, and prints how many calls there are where each was made once and told of before and
-//! after.
+//! `watch N` does what `core N` does; then it drives N flows by one drain, by the event loop and by a script, each over a library
+//! that refuses one call for want of memory, each call in turn, and prints how many calls there are where each was made once and
+//! told of before and after, and where steps of the lowest flow make as many. Each of these cores' journals is audited: it is that
+//! of a true run.
 #![tactic(auto)]
 
 mod building;
 mod journals;
+mod runs;
 mod troubles;
 mod turns;
 mod watching;
 
 use building::{Given, checked_of, core_of};
 use flow_core::Core;
-use flow_waits::drain_by;
+use flow_waits::drain;
+use flux_library::Library;
 use flux_values::{Bytes, List};
-use journals::{entry_count, journal_of, print_again, read_again};
+use journals::{audit_again, entry_count, journal_of, print_again, read_again};
 use nodes_counter::Counter;
+use runs::{Way, drive_by, step_by_step};
 use std::alloc::Global;
 use std::env;
 use std::io::Write;
+use std::marker::Sync;
 use std::process::ExitCode;
+use std::sync::Wait;
+use std::thread::Threads;
 use troubles::Trouble;
 use turns::drive;
 use watching::{Calls, Watched};
@@ -114,9 +121,20 @@ fn answer_journal(rt: &HostRuntime, flows: u32, prints: u32, reads: u32) -> Resu
     Ok(())
 }
 
-fn print_once(alloc: Global, core: &Core<Counter>) -> Result<Bytes, Trouble> {
+fn print_once<L: Library>(alloc: Global, core: &Core<L>) -> Result<Bytes, Trouble> {
     let checked = checked_of(alloc, PROGRAM, &Counter)?;
     Ok(print_again(alloc, &checked, journal_of(core), 1)?)
+}
+
+/// Audits what a core prints of its flows: it is the journal of a true run, with as many events as the core has entries.
+fn audit_core<L: Library>(alloc: Global, core: &Core<L>, given: &[Given]) -> Result<(), Trouble> {
+    let text = print_once(alloc, core)?;
+    let events = audit_again(alloc, PROGRAM, given, Counter, text.as_bytes())?;
+    if events == entry_count(core) as u64 {
+        Ok(())
+    } else {
+        Err(Trouble::Journal)
+    }
 }
 
 fn answer_text(rt: &HostRuntime, flows: u32) -> Result<(), Trouble> {
@@ -126,35 +144,76 @@ fn answer_text(rt: &HostRuntime, flows: u32) -> Result<(), Trouble> {
     Ok(())
 }
 
-/// How many calls flows make, of which one is refused and made again. Behind the refusal each call was told of, too.
-fn watched_calls(alloc: Global, flows: u32, refused: u32) -> Result<u32, Trouble> {
+/// How many calls flows make, of which one is refused and made again. Each call was told of before and after.
+fn watched_calls<Rt: Threads + Wait + Sync>(
+    threads: &Rt,
+    alloc: Global,
+    flows: u32,
+    way: Way,
+    refused: u32,
+) -> Result<u32, Trouble> {
     let calls = Calls::new();
     let given = given(alloc, flows)?;
     let library = Watched {
         calls: &calls,
         refused,
     };
-    let mut core = core_of(alloc, PROGRAM, given.as_slice(), library)?;
-    if drain_by(&mut core, &calls).is_err() {
-        let _ = calls.count().ok_or(Trouble::Calls)?;
-        drain_by(&mut core, &calls)?;
-    }
+    let core = core_of(alloc, PROGRAM, given.as_slice(), library)?;
+    let core = drive_by(threads, alloc, core, way, &calls)?;
+    audit_core(alloc, &core, given.as_slice())?;
     calls.count().ok_or(Trouble::Calls)
 }
 
-fn answer_watch(rt: &HostRuntime, flows: u32) -> Result<(), Trouble> {
-    answer_core(rt, flows)?;
-    let whole = watched_calls(rt.alloc(), flows, u32::MAX)?;
+/// Refuses each call of flows in turn, and gives how many calls they make.
+fn refuse_each<Rt: Threads + Wait + Sync>(
+    threads: &Rt,
+    alloc: Global,
+    flows: u32,
+    way: Way,
+) -> Result<u32, Trouble> {
+    let whole = watched_calls(threads, alloc, flows, way, u32::MAX)?;
     for refused in 0..whole {
-        if watched_calls(rt.alloc(), flows, refused)? != whole.saturating_add(1) {
+        if watched_calls(threads, alloc, flows, way, refused)? != whole.saturating_add(1) {
             return Err(Trouble::Calls);
         }
     }
-    println!(rt; "calls {whole}")?;
+    Ok(whole)
+}
+
+/// Lets the lowest flow go on, step by step, then drains the core, in which nothing is left to do.
+fn count_calls(alloc: Global, flows: u32) -> Result<u32, Trouble> {
+    let given = given(alloc, flows)?;
+    let mut core = core_of(alloc, PROGRAM, given.as_slice(), Counter)?;
+    let calls = step_by_step(alloc, &mut core)?;
+    let events = entry_count(&core);
+    drain(&mut core)?;
+    if core.live() != 0 || entry_count(&core) != events {
+        return Err(Trouble::Calls);
+    }
+    audit_core(alloc, &core, given.as_slice())?;
+    Ok(calls)
+}
+
+fn answer_watch<Rt: Threads + Wait + Sync>(
+    rt: &HostRuntime,
+    threads: &Rt,
+    flows: u32,
+) -> Result<(), Trouble> {
+    let core = driven(rt.alloc(), flows)?;
+    println!(rt; "flows {flows} events {}", entry_count(&core))?;
+    let given = given(rt.alloc(), flows)?;
+    audit_core(rt.alloc(), &core, given.as_slice())?;
+    let calls = count_calls(rt.alloc(), flows)?;
+    for way in [Way::Drain, Way::Round, Way::Script] {
+        if refuse_each(threads, rt.alloc(), flows, way)? != calls {
+            return Err(Trouble::Calls);
+        }
+    }
+    println!(rt; "calls {calls}")?;
     Ok(())
 }
 
-fn answer(rt: &HostRuntime) -> Result<(), Trouble> {
+fn answer<Rt: Threads + Wait + Sync>(rt: &HostRuntime, threads: &Rt) -> Result<(), Trouble> {
     let words: Vec<String> = env::args(rt)?.collect(rt.alloc())?;
     match read_words(words.as_slice())? {
         Words::Core { flows } => answer_core(rt, flows),
@@ -164,12 +223,12 @@ fn answer(rt: &HostRuntime) -> Result<(), Trouble> {
             reads,
         } => answer_journal(rt, flows, prints, reads),
         Words::Text { flows } => answer_text(rt, flows),
-        Words::Watch { flows } => answer_watch(rt, flows),
+        Words::Watch { flows } => answer_watch(rt, threads, flows),
     }
 }
 
 fn main(rt: HostRuntime) -> ExitCode {
-    match answer(&rt) {
+    match answer(&rt, &rt) {
         Ok(()) => ExitCode::SUCCESS,
         Err(trouble) => ExitCode::from(trouble.code()),
     }

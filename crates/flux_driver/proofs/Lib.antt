@@ -13,3 +13,4 @@ pub mod Answering
 mod Headline
 mod Audits
 mod Loads
+mod Explained

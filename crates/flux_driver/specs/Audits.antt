@@ -59,7 +59,7 @@ pub record HasRefuted (library : Libraries) (before after : Seen) (file items jo
       ⊎ Broke before.out after.out (printed_verdict (No line rule))
   pub silent : Gains before.err after.err []
 
--- where the program has answered 8, the words spell `audit`, and the journal isn't that of a true run
+-- where the words spell `audit` and the program has answered 8, the journal isn't that of a true run
 abbrev pub NoIsTrue : Type 0
 NoIsTrue = (library : Libraries) (words : List (List ℕ)) (before after : Seen)
     (file items journal : List ℕ) (dir : Option (List ℕ))

@@ -1,4 +1,20 @@
--- The headline: what `run` has done where the program answered 0, and that it does so where nothing is in the way.
+-- The headline: what `run` has done where the program answered 0, and that it answers 0 where
+-- nothing is in the way.
+--
+-- `HasDone` is the clause of the public call `top`: what a call with these words has done, by what
+-- is seen of the world before and after. Where the world tells what its files, folders and streams
+-- hold, the texts below are those; of a real one, which doesn't tell, they are some texts within
+-- the limits. A manner is what the options say: the runtime, the folder of documents, the format.
+-- `Libraries` gives what the library's nodes mean, by its documents. `Holds` are the locks of each
+-- node. `OrMemory` allows one status more: 12, where memory was short.
+--
+-- That a journal is legal says that its locks are the program's, and that
+--   each flow follows the walk of its source text;
+--   each call has its node's answer, on the cells as earlier calls left them;
+--   no take and no section overlaps one of another flow in conflict with it;
+--   each wait is where a take is blocked, nobody overtakes it, and no waits form a cycle.
+--
+-- That every other status comes exactly for its cause is in `Explained`.
 use Rattle.std.specs.Prelude.{◌≡◌, List, [], ℕ, length}
 use Rattle.flux_library.specs.Documents.{DocMap}
 use Rattle.flux_model.specs.declared.items.Item.{Item}
@@ -30,9 +46,9 @@ use Rattle.flux_driver.specs.Top.{HasDone}
 
 -- what a run reads, as the world tells it:
 --   docs, are_docs           the documents of the folder that the words name;
---   text, in_file            the text of the program's file;
+--   text, in_file            the text of the program's file, of at most 2,097,152 bytes;
 --   decls, declared, sound   what that text declares, which is sound for the library with these documents;
---   items_text, in_items     the text of the items' file.
+--   items_text, in_items     the text of the items' file, of at most 16,777,216 bytes.
 pub record IsThere (library : Libraries) (told : Told) (file items : List ℕ) (manner : Manner)
     : Type 0 where
   pub docs : DocMap

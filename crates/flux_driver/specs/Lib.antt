@@ -17,3 +17,4 @@ pub mod BuiltIn
 pub mod Headline
 pub mod Audits
 pub mod Loads
+pub mod Explained

@@ -26,7 +26,7 @@ pub use flow_core::{Gate, OpenGate};
 pub use flux_words::needs_threads;
 pub use laws::{
     audits_are_answered, audits_are_true, loads_are_answered, loads_are_true, runs_are_answered,
-    runs_are_true,
+    runs_are_true, statuses_are_explained,
 };
 pub use outermost::{World, answer, top, top_alone};
 pub use statuses::Status;

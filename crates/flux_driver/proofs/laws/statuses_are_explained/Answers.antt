@@ -1,0 +1,11 @@
+use Rattle.flux_driver.proofs.Explained.{statuses_have_causes, causes_are_answered, usage_is_for_no_command}
+use Rattle.flux_driver.proofs.laws.statuses_are_explained.Goals as goal
+
+pub returns-clause-causes : goal.returns-clause-causes
+returns-clause-causes c = statuses_have_causes
+
+pub returns-clause-answered : goal.returns-clause-answered
+returns-clause-answered c = causes_are_answered
+
+pub returns-clause-usage : goal.returns-clause-usage
+returns-clause-usage c = usage_is_for_no_command
