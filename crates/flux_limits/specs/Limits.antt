@@ -7,7 +7,7 @@ use Rattle.flux_lexer.specs.declared.reading.TheConstants.{PROGRAM_LIMIT}
 use Rattle.flux_library.specs.declared.documents.TheConstants.{BODY_LIMIT}
 use Rattle.flux_items.specs.declared.rules.TheConstants.{ITEM_LIMIT, SIZE_LIMIT}
 use Rattle.flux_docs.specs.declared.reading.TheConstants.{DOC_LIMIT, BODIES_LIMIT}
-use Rattle.flux_words.specs.declared.values.TheConstants.{DIGIT_LIMIT, NUMBER_LIMIT}
+use Rattle.flux_words.specs.declared.values.TheConstants.{DIGIT_LIMIT, NUMBER_LIMIT, WORKER_LIMIT}
 use Rattle.flux_words.specs.declared.loads.TheConstants.{LOAD_LIMIT, FIRST_LIMIT}
 use Rattle.flux_driver.specs.declared.files.TheConstants.{PROGRAM_FILE_LIMIT, ITEMS_FILE_LIMIT, JOURNAL_FILE_LIMIT}
 use Rattle.nodes_cache.specs.declared.entries.TheConstants.{NAME_LIMIT, ENTRY_LIMIT}
@@ -36,11 +36,12 @@ pub record AreValueLimits : Type 0 where
   pub counted : COUNT_LIMIT ≡ 1048576
   pub place : PLACE_LIMIT ≡ 4294967295
 
--- in the words of a command: digits of a number, the highest number of a flow, the most items of a
--- load and the highest number that they may be made from
+-- in the words of a command: digits of a number, the highest number of a flow, the most workers of a
+-- pool, the most items of a load and the highest number that they may be made from
 pub record AreWordLimits : Type 0 where
   pub digits : DIGIT_LIMIT ≡ 10
   pub flow : NUMBER_LIMIT ≡ 4095
+  pub workers : WORKER_LIMIT ≡ 16
   pub load : LOAD_LIMIT ≡ 4096
   pub first : FIRST_LIMIT ≡ 4294967295
 
