@@ -17,8 +17,8 @@ mod watching;
 
 use building::{Given, checked_of, core_of};
 use flow_core::Core;
+use flow_model::Journal;
 use flow_waits::drain;
-use flux_library::Library;
 use flux_values::{Bytes, List};
 use journals::{audit_again, entry_count, journal_of, print_again, read_again};
 use nodes_counter::Counter;
@@ -121,16 +121,16 @@ fn answer_journal(rt: &HostRuntime, flows: u32, prints: u32, reads: u32) -> Resu
     Ok(())
 }
 
-fn print_once<L: Library>(alloc: Global, core: &Core<L>) -> Result<Bytes, Trouble> {
+fn print_once(alloc: Global, journal: &Journal) -> Result<Bytes, Trouble> {
     let checked = checked_of(alloc, PROGRAM, &Counter)?;
-    Ok(print_again(alloc, &checked, journal_of(core), 1)?)
+    Ok(print_again(alloc, &checked, journal, 1)?)
 }
 
-/// Audits what a core prints of its flows: it is the journal of a true run, with as many events as the core has entries.
-fn audit_core<L: Library>(alloc: Global, core: &Core<L>, given: &[Given]) -> Result<(), Trouble> {
-    let text = print_once(alloc, core)?;
+/// Audits the text of a journal of so many flows: it is that of a true run, with as many events as the journal has entries.
+fn audit_text(alloc: Global, journal: &Journal, given: &[Given]) -> Result<(), Trouble> {
+    let text = print_once(alloc, journal)?;
     let events = audit_again(alloc, PROGRAM, given, Counter, text.as_bytes())?;
-    if events == entry_count(core) as u64 {
+    if events == journal.entries.len() as u64 {
         Ok(())
     } else {
         Err(Trouble::Journal)
@@ -139,7 +139,7 @@ fn audit_core<L: Library>(alloc: Global, core: &Core<L>, given: &[Given]) -> Res
 
 fn answer_text(rt: &HostRuntime, flows: u32) -> Result<(), Trouble> {
     let core = driven(rt.alloc(), flows)?;
-    let text = print_once(rt.alloc(), &core)?;
+    let text = print_once(rt.alloc(), journal_of(&core))?;
     rt.stdout().write_all(text.as_bytes())?;
     Ok(())
 }
@@ -160,7 +160,7 @@ fn watched_calls<Rt: Threads + Wait + Sync>(
     };
     let core = core_of(alloc, PROGRAM, given.as_slice(), library)?;
     let core = drive_by(threads, alloc, core, way, &calls)?;
-    audit_core(alloc, &core, given.as_slice())?;
+    audit_text(alloc, journal_of(&core), given.as_slice())?;
     calls.count().ok_or(Trouble::Calls)
 }
 
@@ -190,7 +190,7 @@ fn count_calls(alloc: Global, flows: u32) -> Result<u32, Trouble> {
     if core.live() != 0 || entry_count(&core) != events {
         return Err(Trouble::Calls);
     }
-    audit_core(alloc, &core, given.as_slice())?;
+    audit_text(alloc, journal_of(&core), given.as_slice())?;
     Ok(calls)
 }
 
@@ -202,7 +202,7 @@ fn answer_watch<Rt: Threads + Wait + Sync>(
     let core = driven(rt.alloc(), flows)?;
     println!(rt; "flows {flows} events {}", entry_count(&core))?;
     let given = given(rt.alloc(), flows)?;
-    audit_core(rt.alloc(), &core, given.as_slice())?;
+    audit_text(rt.alloc(), journal_of(&core), given.as_slice())?;
     let calls = count_calls(rt.alloc(), flows)?;
     for way in [Way::Drain, Way::Round, Way::Script] {
         if refuse_each(threads, rt.alloc(), flows, way)? != calls {
