@@ -1,0 +1,26 @@
+use Rattle.std.proofs.Common.{◌≡◌, ◌<◌, ◌-◌, ◌+◌, ◌≤◌, arith, get_or, length, drop, sym, subst, ap}
+use Rattle.bencoding.specs.steps.Keys.{run, Rises}
+use Rattle.bencoding.proofs.Rising.{bytes_of, end_rises, greater_rises, less_stops, same_stops, level_more, whole_rises, level_first}
+use Rattle.bencoding.proofs.keys.first_stop.Goals as goal
+
+pub returns-then-at-key : goal.returns-then-at-key
+returns-then-at-key c = end_rises c.args.key.now c.args.front.now c.args.long c.loop-at.at (bytes_of c.args.front.now c.type_inv.front) c.requires.limit c.requires.fits c.loop-at-test.true c.loop-at.invariant c.if-at-key.true
+
+pub returns-then-front-at : goal.returns-then-front-at
+returns-then-front-at c =
+    let there : c.loop-at.at < length c.args.key.now = omega (arith, c.if-at-key.false, c.loop-at.invariant.within) in
+    greater_rises c.args.key.now c.args.front.now c.args.long c.loop-at.at (bytes_of c.args.front.now c.type_inv.front) c.requires.limit c.requires.fits c.loop-at-test.true there c.loop-at.invariant c.if-front-at.true
+
+pub returns-then-front-at-2 : goal.returns-then-front-at-2
+returns-then-front-at-2 c =
+    let there : c.loop-at.at < length c.args.key.now = omega (arith, c.if-at-key.false, c.loop-at.invariant.within) in
+    less_stops c.args.key.now c.args.front.now c.args.long c.loop-at.at (bytes_of c.args.key.now c.type_inv.key) (bytes_of c.args.front.now c.type_inv.front) c.requires.limit c.loop-at-test.true there c.loop-at.invariant c.if-front-at-2.true
+
+pub returns-then-long-at : goal.returns-then-long-at
+returns-then-long-at c =
+    let there : c.loop-at.at < length c.args.key.now = omega (arith, c.if-at-key.false, c.loop-at.invariant.within) in
+    let same : get_or c.args.front.now c.loop-at.at 0 ≡ get_or c.args.key.now c.loop-at.at 0 = omega (arith, c.if-front-at.false, c.if-front-at-2.false) in
+    ?
+
+pub returns : goal.returns
+returns c = ?
