@@ -15,11 +15,14 @@ behind [] y (suc more) follows = follows
 behind (b ∷ rest) y zero follows = follows
 behind (b ∷ rest) y (suc more) follows = refl
 
+drop_none : (n : ℕ) → drop {A = ℕ} n [] ≡ []
+drop_none zero = refl
+drop_none (suc n) = refl
+
 drop_on : (at more : ℕ) (xs : List ℕ) → drop more (drop at xs) ≡ drop (at + more) xs
-drop_on zero more xs = ap (λ n. drop n xs) (omega arith)
-drop_on (suc at) zero [] = refl
-drop_on (suc at) (suc more) [] = refl
-drop_on (suc at) more (x ∷ xs) = drop_on at more xs ∙ ap (λ n. drop n (x ∷ xs)) (omega arith)
+drop_on zero more xs = let same : more ≡ 0 + more = omega arith in ap (λ n. drop n xs) same
+drop_on (suc at) more [] = drop_none more ∙ sym (drop_none (suc at + more))
+drop_on (suc at) more (x ∷ xs) = let same : suc (at + more) ≡ suc at + more = omega arith in drop_on at more xs ∙ ap (λ n. drop n (x ∷ xs)) same
 
 pub lift : (L M : List ℕ → Type 0) (bytes : List ℕ) (at more : ℕ) → at ≤ length bytes → IsStuck L (drop at bytes) more → (0 < at → CanGrow M (take at bytes))
     → ((s : List ℕ) → L s → CanGrow M (take at bytes ++ s))

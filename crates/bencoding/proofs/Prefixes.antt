@@ -40,7 +40,7 @@ cut_same (a ∷ xs) (b ∷ ys) x y long e =
     let first : a ≡ b = head_is e in
     record { value = cc (first, on.value); rest = on.rest }
 
-string_laid : (k x : List ℕ) → spelled_string k ++ x ≡ decimal (length k) ++ 58 ∷ (k ++ x)
+pub string_laid : (k x : List ℕ) → spelled_string k ++ x ≡ decimal (length k) ++ 58 ∷ (k ++ x)
 string_laid k x = append_assoc (decimal (length k) ++ 58 ∷ []) k x ∙ append_assoc (decimal (length k)) (58 ∷ []) (k ++ x)
 
 pub strings_same : (k l x y : List ℕ) → length k < 2 ^ 64 → length l < 2 ^ 64 → spelled_string k ++ x ≡ spelled_string l ++ y → Same k l x y
@@ -107,7 +107,7 @@ pub key_not_end : (before : Option (List ℕ)) (key x y : List ℕ) → IsKey be
 key_not_end before key x y is e = let r = string_first key x (key_short before key is) in omega (arith, head_is e, r.1)
 
 apart : (depth : ℕ) (t u : Tree) (x y : List ℕ) → IsTree depth t → IsTree depth u → ((b : ℕ) → IsFirst t b → IsFirst u b → ⊥) → spelling t ++ x ≡ spelling u ++ y → ⊥
-apart depth t u x y a b no e = no (get_or (spelling u ++ y) 0 0) (subst (IsFirst t) (head_is e) (tree_first depth t x a)) (tree_first depth u y b)
+apart depth t u x y a b never e = never (get_or (spelling u ++ y) 0 0) (subst (IsFirst t) (head_is e) (tree_first depth t x a)) (tree_first depth u y b)
 
 mutual
   pub tree_same : (depth : ℕ) (t u : Tree) (x y : List ℕ) → IsTree depth t → IsTree depth u → spelling t ++ x ≡ spelling u ++ y → Same t u x y

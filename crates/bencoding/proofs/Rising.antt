@@ -14,6 +14,11 @@ AreBytes bytes = AllByRecursion (λ (b : ℕ). b < 256) bytes
 pub bytes_of : (bytes : List ℕ) → All (λ (b : ℕ). b < 256) bytes → AreBytes bytes
 bytes_of bytes all = recursion_from_All (λ (b : ℕ). b < 256) bytes all
 
+-- bytes that are each below 256
+pub bytes_from : (xs : List ℕ) → ((k : ℕ) → get_or xs k 0 < 256) → AreBytes xs
+bytes_from [] small = tt
+bytes_from (x ∷ xs) small = (small 0, bytes_from xs (λ k. small (suc k)))
+
 pub all_of : (bytes : List ℕ) → AreBytes bytes → All (λ (b : ℕ). b < 256) bytes
 all_of bytes are = All-from_recursion (λ (b : ℕ). b < 256) bytes are
 

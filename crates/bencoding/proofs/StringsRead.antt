@@ -116,7 +116,7 @@ key_stuck before bytes n at long stop old are fits is = behind_length before byt
         first (x ∷ xs) zero lt f = f
         first (x ∷ xs) (suc m) lt f = first xs m (omega arith) f
 
-all_taken : (xs : List ℕ) (n : ℕ) → length xs ≤ n → take n xs ≡ xs
+pub all_taken : (xs : List ℕ) (n : ℕ) → length xs ≤ n → take n xs ≡ xs
 all_taken [] zero le = refl
 all_taken [] (suc n) le = refl
 all_taken (x ∷ xs) zero le = absurd (omega arith)

@@ -65,16 +65,16 @@ spelled_some depth (dictionary gs) y z is e = omega (arith, ap length e)
 -- ---- no value begins so
 
 pub nothing_stuck : (depth : ℕ) (bytes : List ℕ) → IsNoHead bytes depth → IsStuck (IsSpelled depth) bytes 0
-nothing_stuck depth bytes no = record { within = omega arith; grows = λ some. absurd (omega arith); stops = λ y z s is follows e. by is.value y z is.is_tree follows (e ∙ ap (λ l. l ++ z) is.spelled) }
+nothing_stuck depth bytes none = record { within = omega arith; grows = λ some. absurd (omega arith); stops = λ y z s is follows e. by is.value y z is.is_tree follows (e ∙ ap (λ l. l ++ z) is.spelled) }
   where
     by : (t : Tree) (y z : List ℕ) → IsTree depth t → Follows bytes y → y ≡ spelling t ++ z → ⊥
-    by (number w) y z is follows e = let f = follows_first bytes 0 y follows (spelled_some depth (number w) y z is e) in no.number (f.0, f.1 ∙ head_is e)
+    by (number w) y z is follows e = let f = follows_first bytes 0 y follows (spelled_some depth (number w) y z is e) in none.number (f.0, f.1 ∙ head_is e)
     by (string s) y z is follows e =
         let f = follows_first bytes 0 y follows (spelled_some depth (string s) y z is e) in
         let r = subst IsDigitByte (sym (f.1 ∙ head_is e)) (tree_first depth (string s) z is) in
-        no.string (f.0, r.0, r.1)
-    by (items us) y z is follows e = let f = follows_first bytes 0 y follows (spelled_some depth (items us) y z is e) in no.list (f.0, f.1 ∙ head_is e) is.0
-    by (dictionary gs) y z is follows e = let f = follows_first bytes 0 y follows (spelled_some depth (dictionary gs) y z is e) in no.dictionary (f.0, f.1 ∙ head_is e) is.0
+        none.string (f.0, r.0, r.1)
+    by (items us) y z is follows e = let f = follows_first bytes 0 y follows (spelled_some depth (items us) y z is e) in none.list (f.0, f.1 ∙ head_is e) is.0
+    by (dictionary gs) y z is follows e = let f = follows_first bytes 0 y follows (spelled_some depth (dictionary gs) y z is e) in none.dictionary (f.0, f.1 ∙ head_is e) is.0
 
 -- ---- strings
 
@@ -180,22 +180,19 @@ int_read depth bytes negative m n marked are = record {
 
 -- ---- lists
 
-add_item : Trees → Tree → Trees
+abbrev add_item : Trees → Tree → Trees
 add_item no_items t = item t no_items
 add_item (item u us) t = item u (add_item us t)
 
 items_spelled : (ts : Trees) (t : Tree) → spelled_items (add_item ts t) ≡ spelled_items ts ++ spelling t
-unfolding add_item
 items_spelled no_items t = append-nil (spelling t)
 items_spelled (item u us) t = ap (λ l. spelling u ++ l) (items_spelled us t) ∙ sym (append_assoc (spelling u) (spelled_items us) (spelling t))
 
 items_are : (depth : ℕ) (ts : Trees) (t : Tree) → AreItems depth ts → IsTree depth t → AreItems depth (add_item ts t)
-unfolding add_item
 items_are depth no_items t are is = (is, tt)
 items_are depth (item u us) t are is = (are.0, items_are depth us t are.1 is)
 
 items_seen : (xs : List Ben) (x : Ben) → items_view (xs ++ x ∷ []) ≡ add_item (items_view xs) (tree_of x)
-unfolding add_item
 items_seen [] x = refl
 items_seen (y ∷ ys) x = ap (item (tree_of y)) (items_seen ys x)
 
@@ -292,33 +289,29 @@ items_stuck depth bytes at more ts deep far other stuck = lift (IsSpelled (depth
 key_small : (before : Option (List ℕ)) (key : List ℕ) → IsKey before key → length key < 2 ^ 64
 key_small before key is = let most = key_most before key is in omega (arith, most)
 
-add_field : Fields → List ℕ → Tree → Fields
+abbrev add_field : Fields → List ℕ → Tree → Fields
 add_field no_fields k t = field k t no_fields
 add_field (field l u gs) k t = field l u (add_field gs k t)
 
-last_key : Option (List ℕ) → Fields → Option (List ℕ)
+abbrev last_key : Option (List ℕ) → Fields → Option (List ℕ)
 last_key before no_fields = before
 last_key before (field k t fs) = last_key (Some k) fs
 
 fields_spelled : (fs : Fields) (k : List ℕ) (t : Tree) → spelled_fields (add_field fs k t) ≡ spelled_fields fs ++ (spelled_string k ++ spelling t)
-unfolding add_field
 fields_spelled no_fields k t = ap (λ l. spelled_string k ++ l) (append-nil (spelling t))
 fields_spelled (field l u gs) k t =
     ap (λ s. spelled_string l ++ (spelling u ++ s)) (fields_spelled gs k t) ∙ ap (λ s. spelled_string l ++ s) (sym (append_assoc (spelling u) (spelled_fields gs) (spelled_string k ++ spelling t)))
     ∙ sym (append_assoc (spelled_string l) (spelling u ++ spelled_fields gs) (spelled_string k ++ spelling t))
 
 fields_are : (depth : ℕ) (before : Option (List ℕ)) (fs : Fields) (k : List ℕ) (t : Tree) → AreFields depth before fs → IsKey (last_key before fs) k → IsTree depth t → AreFields depth before (add_field fs k t)
-unfolding add_field, last_key
 fields_are depth before no_fields k t are key is = (key, is, tt)
 fields_are depth before (field l u gs) k t are key is = (are.0, are.1, fields_are depth (Some l) gs k t are.2 key is)
 
 last_added : (before : Option (List ℕ)) (fs : Fields) (k : List ℕ) (t : Tree) → last_key before (add_field fs k t) ≡ Some k
-unfolding add_field, last_key
 last_added before no_fields k t = refl
 last_added before (field l u gs) k t = last_added (Some l) gs k t
 
 fields_seen : (xs : List (Field Ben)) (x : Field Ben) → fields_view (xs ++ x ∷ []) ≡ add_field (fields_view xs) x.key (tree_of x.value)
-unfolding add_field
 fields_seen [] x = refl
 fields_seen (y ∷ ys) x = ap (field y.key (tree_of y.value)) (fields_seen ys x)
 
@@ -332,7 +325,6 @@ pub record FieldsSoFar (depth : ℕ) (bytes : List ℕ) (at : ℕ) (fs : Fields)
   pub bytes_ : AreKeyBytes before
 
 pub fields_first : (depth : ℕ) (bytes : List ℕ) → IsHead bytes 100 → FieldsSoFar depth bytes 1 no_fields None
-unfolding last_key
 fields_first depth bytes head = record { within = omega (arith, head.0); some = omega arith; laid = one_taken bytes 100 head; are = tt; last = refl; bytes_ = tt }
 
 key_bytes : (before : Option (List ℕ)) (key : List ℕ) → IsKey before key → All (λ b. b < 256) key
@@ -364,7 +356,6 @@ record FieldsLeft (depth : ℕ) (before : Option (List ℕ)) (x z : List ℕ) : 
   laid : x ≡ spelled_fields left ++ 101 ∷ z
 
 fields_past : (depth : ℕ) (before : Option (List ℕ)) (fs gs : Fields) (x z : List ℕ) → AreFields depth before fs → AreFields depth before gs → spelled_fields fs ++ x ≡ spelled_fields gs ++ 101 ∷ z → FieldsLeft depth (last_key before fs) x z
-unfolding last_key
 fields_past depth before no_fields gs x z a b e = record { left = gs; are = b; laid = e }
 fields_past depth before (field k t fs) no_fields x z a b e = absurd (key_not_end before k ((spelling t ++ spelled_fields fs) ++ x) z a.0 (sym (append_assoc (spelled_string k) (spelling t ++ spelled_fields fs) x) ∙ e))
 fields_past depth before (field k t fs) (field l u gs) x z a b e =

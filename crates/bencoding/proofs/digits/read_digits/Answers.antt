@@ -1,4 +1,4 @@
-use Rattle.std.proofs.Common.{◌≡◌, ◌<◌, ◌+◌, ◌*◌, ℕ, sym, ap, ◌∙◌, subst, arith, get_or, length, drop}
+use Rattle.std.proofs.Common.{◌≡◌, ◌⊎◌, inl, inr, ◌<◌, ◌+◌, ◌*◌, ℕ, sym, ap, ◌∙◌, subst, arith, get_or, length, drop}
 use Rattle.flux_values.specs.Reading.{NoDigitFirst}
 use Rattle.bencoding.specs.steps.Numbers.{Starts}
 use Rattle.bencoding.proofs.DigitsRead.{leading_stuck, outgrown_stuck, quiet_stuck, far_more, digit_of, no_first, at_end}
@@ -32,4 +32,5 @@ returns-then-number-low c =
       | then-loop-at-test+else-is_ascii_digit w ↦ no_first c.args.bytes.now c.loop-at.at w.loop-at-test.true (sym w.if-is_ascii_digit.ensures.value)
       | else-loop-at-test w ↦ at_end c.args.bytes.now c.loop-at.at (omega (arith, w.loop-at-test.false))
     ] in
-    quiet_stuck c.args.bytes.now c.args.low c.args.high c.loop-at.at c.loop-at.number c.ranges.high.fits c.loop-at.invariant none c.if-number-low.either
+    let few : (c.loop-at.at ≡ 0) ⊎ (c.loop-at.number < c.args.low) = elim c.if-number-low.either [ inl start ↦ inl start | inr less ↦ inr less.1 ] in
+    quiet_stuck c.args.bytes.now c.args.low c.args.high c.loop-at.at c.loop-at.number c.ranges.high.fits c.loop-at.invariant none few

@@ -25,4 +25,4 @@ append_fields-loop-field-preserved t c =
     let later = spelled_fields (fields_view (drop (l.field-index + 1) xs)) in
     let key = spelled_string x.key in
     let value = spelling (tree_of x.value) in
-    ap (λ s. s ++ later) c.in_ok-append_ben.ensures ∙ ap (λ s. (s ++ value) ++ later) c.in_ok-append_string.ensures ∙ append_assoc (l.out ++ key) value later ∙ append_assoc l.out key (value ++ later) ∙ ap (λ s. l.out ++ s) (sym left) ∙ l.invariant
+    ap (λ s. s ++ later) c.in_ok-append_ben.ensures ∙ ap (λ s. (s ++ value) ++ later) (c.in_ok-append_string.ensures ∙ ap (λ k. l.out ++ spelled_string k) c.as_bytes.ensures.same) ∙ append_assoc (l.out ++ key) value later ∙ append_assoc l.out key (value ++ later) ∙ ap (λ s. l.out ++ s) (sym left) ∙ l.invariant

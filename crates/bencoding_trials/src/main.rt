@@ -1,0 +1,100 @@
+//! The program `bencoding_trials`: what only calls show of bencoding.
+//!
+//! It reads all texts of at most four bytes over nine bytes, and holds each answer against a plain reader that goes
+//! byte by byte; what is read is printed again. Then it tells what comes of longer texts by name.
+#![tactic(auto)]
+
+mod plain;
+mod rows;
+mod troubles;
+
+use bencoding::{BenFault, print_ben, read_ben};
+use plain::{Plain, plain_answer};
+use rows::{ROWS, deep, long};
+use std::alloc::Global;
+use std::process::ExitCode;
+use troubles::Trouble;
+
+/// The bytes of the short texts.
+const LETTERS: &[u8; 9] = b"01-:ielda";
+
+/// What is read of bytes: so many of them, printed again as they were; or where none goes on.
+fn told(alloc: Global, bytes: &[u8]) -> Result<Plain, Trouble> {
+    match read_ben(alloc, bytes) {
+        Ok((value, length)) => {
+            let printed = print_ben(alloc, &value)?;
+            if length > bytes.len() || printed.as_bytes() != &bytes[..length] {
+                return Err(Trouble::Printed);
+            }
+            Ok(Plain::Read(length))
+        }
+        Err(BenFault::BadBen { at }) => Ok(Plain::Bad(at)),
+        Err(BenFault::Memory) => Err(Trouble::Memory),
+    }
+}
+
+/// How many texts of a length there are.
+fn count_of(length: usize) -> usize {
+    match length {
+        0 => 1,
+        1 => 9,
+        2 => 81,
+        3 => 729,
+        _ => 6_561,
+    }
+}
+
+/// The text of a number: its digits to the base 9 are letters.
+fn text_of(alloc: Global, length: usize, number: usize) -> Result<Vec<u8>, Trouble> {
+    let mut text = Vec::new(alloc);
+    let mut left = number;
+    for _ in 0..length {
+        text.push(LETTERS[left % 9])?;
+        left /= 9;
+    }
+    Ok(text)
+}
+
+/// How many texts of a length are told otherwise than by the plain reader.
+fn others(alloc: Global, length: usize) -> Result<usize, Trouble> {
+    let mut count: usize = 0;
+    for number in 0..count_of(length) {
+        let text = text_of(alloc, length, number)?;
+        if told(alloc, text.as_slice())? != plain_answer(alloc, text.as_slice())? {
+            count = count.saturating_add(1);
+        }
+    }
+    Ok(count)
+}
+
+fn tell<R: Print>(rt: &R, name: &str, answer: Plain) -> Result<(), Trouble> {
+    match answer {
+        Plain::Read(length) => println!(rt; "{name}: read {length}")?,
+        Plain::Bad(at) => println!(rt; "{name}: bad at {at}")?,
+    }
+    Ok(())
+}
+
+fn answer<R: Print>(rt: &R, alloc: Global) -> Result<(), Trouble> {
+    for length in 0..5 {
+        let texts = count_of(length);
+        let wrong = others(alloc, length)?;
+        println!(rt; "texts of {length} bytes: {texts}, told otherwise: {wrong}")?;
+    }
+    for (name, bytes) in ROWS {
+        tell(rt, name, told(alloc, bytes)?)?;
+    }
+    tell(rt, "8 lists", told(alloc, deep(alloc, b'l', 8)?.as_slice())?)?;
+    tell(rt, "9 lists", told(alloc, deep(alloc, b'l', 9)?.as_slice())?)?;
+    tell(rt, "65,536 bytes", told(alloc, long(alloc, b"65536:", 65_536)?.as_slice())?)?;
+    tell(rt, "65,537 bytes", told(alloc, long(alloc, b"65537:", 65_537)?.as_slice())?)?;
+    tell(rt, "one byte less", told(alloc, long(alloc, b"65536:", 65_535)?.as_slice())?)?;
+    Ok(())
+}
+
+fn main(rt: HostRuntime) -> ExitCode {
+    match answer(&rt, rt.alloc()) {
+        Ok(()) => ExitCode::SUCCESS,
+        Err(trouble) => ExitCode::from(trouble.code()),
+    }
+}
