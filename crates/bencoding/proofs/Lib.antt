@@ -5,4 +5,5 @@ mod Lifting
 mod Prefixes
 mod StringsRead
 mod ValuesRead
+mod SeenValues
 mod Causes

@@ -1,5 +1,5 @@
 -- A place where a part stops is one where the whole does.
-use Rattle.std.proofs.Common.{◌≡◌, ℕ, zero, suc, ◌+◌, ◌-◌, ◌<◌, ◌≤◌, List, [], ◌∷◌, ◌++◌, length, take, drop, get_or, refl, sym, ap, ◌∙◌, arith, subst, append_assoc, append-nil, take-add, drop-drop, length-drop, eq-zero-or-pos, inl, inr}
+use Rattle.std.proofs.Common.{◌≡◌, ℕ, zero, suc, ◌+◌, ◌<◌, ◌≤◌, List, [], ◌∷◌, ◌++◌, length, take, drop, refl, sym, ap, ◌∙◌, arith, subst, append_assoc, take-add, length-drop, eq-zero-or-pos, inl, inr}
 use Rattle.bencoding.specs.steps.Places.{CanGrow, Follows, IsStuck}
 
 -- a part of the set stands at the front
@@ -22,9 +22,11 @@ drop_none (suc n) = refl
 drop_on : (at more : ℕ) (xs : List ℕ) → drop more (drop at xs) ≡ drop (at + more) xs
 drop_on zero more xs = let same : more ≡ 0 + more = omega arith in ap (λ n. drop n xs) same
 drop_on (suc at) more [] = drop_none more ∙ sym (drop_none (suc at + more))
-drop_on (suc at) more (x ∷ xs) = let same : suc (at + more) ≡ suc at + more = omega arith in drop_on at more xs ∙ ap (λ n. drop n (x ∷ xs)) same
+drop_on (suc at) more (x ∷ xs) = let same : suc (at + more) ≡ suc at + more = omega arith in
+    drop_on at more xs ∙ ap (λ n. drop n (x ∷ xs)) same
 
-pub lift : (L M : List ℕ → Type 0) (bytes : List ℕ) (at more : ℕ) → at ≤ length bytes → IsStuck L (drop at bytes) more → (0 < at → CanGrow M (take at bytes))
+pub lift : (L M : List ℕ → Type 0) (bytes : List ℕ) (at more : ℕ) → at ≤ length bytes → IsStuck L (drop at bytes) more
+    → (0 < at → CanGrow M (take at bytes))
     → ((s : List ℕ) → L s → CanGrow M (take at bytes ++ s))
     → ((y z s : List ℕ) → M s → Follows (drop at bytes) y → take at bytes ++ y ≡ s ++ z → Cut L y)
     → IsStuck M bytes (at + more)
@@ -33,7 +35,8 @@ lift L M bytes at more within stuck start grow cut = record {
   grows = grows;
   stops = λ y z s m follows e.
       let rest = drop at bytes in
-      let front : take at bytes ++ (take more rest ++ y) ≡ s ++ z = sym (append_assoc (take at bytes) (take more rest) y) ∙ ap (λ l. l ++ y) (sym (take-add at more bytes)) ∙ e in
+      let front : take at bytes ++ (take more rest ++ y) ≡ s ++ z =
+      sym (append_assoc (take at bytes) (take more rest) y) ∙ ap (λ l. l ++ y) (sym (take-add at more bytes)) ∙ e in
       let follows_ : Follows (drop more rest) y = subst (λ l. Follows l y) (sym (drop_on at more bytes)) follows in
       let c = cut (take more rest ++ y) z s m (behind rest y more follows_) front in
       stuck.stops y c.left c.part c.is follows_ c.laid;
@@ -45,8 +48,9 @@ lift L M bytes at more within stuck start grow cut = record {
         record {
           more = part.more ++ g.more;
           grown = subst M
-              (ap (λ l. l ++ g.more) (sym (append_assoc (take at bytes) (take more (drop at bytes)) part.more)) ∙ append_assoc (take at bytes ++ take more (drop at bytes)) part.more g.more
-                  ∙ ap (λ l. l ++ (part.more ++ g.more)) (sym (take-add at more bytes)))
+              (ap (λ l. l ++ g.more) (sym (append_assoc (take at bytes) (take more (drop at bytes)) part.more))
+              ∙ append_assoc (take at bytes ++ take more (drop at bytes)) part.more g.more
+              ∙ ap (λ l. l ++ (part.more ++ g.more)) (sym (take-add at more bytes)))
               g.grown;
         }
 
@@ -59,4 +63,6 @@ lift L M bytes at more within stuck start grow cut = record {
 -- at the beginning
 pub widen : (L M : List ℕ → Type 0) (bytes : List ℕ) (at : ℕ) → IsStuck L bytes at → ((s : List ℕ) → L s → CanGrow M s)
     → ((y z s : List ℕ) → M s → Follows bytes y → y ≡ s ++ z → Cut L y) → IsStuck M bytes at
-widen L M bytes at stuck grow cut = subst (IsStuck M bytes) (omega arith) (lift L M bytes 0 at (omega arith) stuck (λ some. absurd (omega arith)) grow cut)
+widen L M bytes at stuck grow cut =
+    subst (IsStuck M bytes) (omega arith)
+    (lift L M bytes 0 at (omega arith) stuck (λ some. absurd (omega arith)) grow cut)

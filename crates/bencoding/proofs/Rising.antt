@@ -1,11 +1,11 @@
 -- Which keys stand above another, by their first bytes and their length.
-use Rattle.std.proofs.Common.{◌≡◌, ◌⊎◌, inl, inr, ℕ, zero, suc, ◌+◌, ◌-◌, ◌<◌, ◌≤◌, Bool, true, false, cond, eqb, List, [], ◌∷◌, ◌++◌, length, take, drop, get_or, replicate, All, Some, None, refl, sym, ap, ◌∙◌, arith, subst, take-append-drop, length-take-le, append_assoc, append-nil}
+use Rattle.std.proofs.Common.{◌≡◌, ◌⊎◌, inl, inr, ℕ, zero, suc, ◌+◌, ◌-◌, ◌<◌, ◌≤◌, Bool, true, false, eqb, List, [], ◌∷◌, ◌++◌, length, take, drop, get_or, replicate, All, Some, None, refl, sym, ap, ◌∙◌, arith, subst, length-take-le}
 use Rattle.std.specs.List.{AllByRecursion}
 use Rattle.std.proofs.lemmas.Bool.{cond_both, eqb-true}
 use Rattle.std.proofs.lemmas.Bool.Decides.{nat_tests}
 use Rattle.std.proofs.lemmas.List.{length-append, take_more}
 use Rattle.std.proofs.lemmas.List.Elements.{All-from_recursion, recursion_from_All}
-use Rattle.bencoding.specs.Trees.{IsAbove, IsKey, IsString}
+use Rattle.bencoding.specs.Trees.{IsAbove, IsKey}
 use Rattle.bencoding.specs.steps.Keys.{run, Rises, IsStop}
 
 abbrev pub AreBytes : List ℕ → Type 0
@@ -44,8 +44,11 @@ pub length_full : (n : ℕ) → length {A = ℕ} (replicate n 255) ≡ n
 length_full zero = refl
 length_full (suc n) = ap suc (length_full n)
 
-run_step : (b : ℕ) (bytes : List ℕ) (P : ℕ → Type 0) → (b ≡ 255 → P (run bytes + 1)) → ((b ≡ 255 → ⊥) → P 0) → P (run (b ∷ bytes))
-run_step b bytes P full other = cond_both (eqb b 255) (run bytes + 1) 0 P (λ e. full (eqb-true b 255 e)) (λ e. other (λ is. let f : true ≡ false = ap (λ n. eqb n 255) (sym is) ∙ e in absurd cc))
+run_step : (b : ℕ) (bytes : List ℕ) (P : ℕ → Type 0) → (b ≡ 255 → P (run bytes + 1)) → ((b ≡ 255 → ⊥) → P 0)
+    → P (run (b ∷ bytes))
+run_step b bytes P full other =
+    cond_both (eqb b 255) (run bytes + 1) 0 P (λ e. full (eqb-true b 255 e))
+    (λ e. other (λ is. let f : true ≡ false = ap (λ n. eqb n 255) (sym is) ∙ e in absurd cc))
 
 pub run_full : (b : ℕ) (bytes : List ℕ) → b ≡ 255 → run (b ∷ bytes) ≡ run bytes + 1
 run_full b bytes is = run_step b bytes (λ n. n ≡ run bytes + 1) (λ _. refl) (λ other. absurd (other is))
@@ -58,35 +61,45 @@ pub run_below : (before key : List ℕ) → AreBytes key → IsAbove before key 
 run_below [] [] all above = absurd above
 run_below [] (b ∷ key) all above = omega arith
 run_below (a ∷ before) [] all above = absurd above
-run_below (a ∷ before) (b ∷ key) all (inl lt) = run_step a before (λ n. n < length (b ∷ key)) (λ is. let small = all.0 in absurd (omega (arith, is, lt, small))) (λ _. omega arith)
-run_below (a ∷ before) (b ∷ key) all (inr same) = let on = run_below before key all.1 same.1 in run_step a before (λ n. n < length (b ∷ key)) (λ is. omega (arith, on)) (λ _. omega arith)
+run_below (a ∷ before) (b ∷ key) all (inl lt) =
+    run_step a before (λ n. n < length (b ∷ key)) (λ is. let small = all.0 in
+    absurd (omega (arith, is, lt, small))) (λ _. omega arith)
+run_below (a ∷ before) (b ∷ key) all (inr same) = let on = run_below before key all.1 same.1 in
+    run_step a before (λ n. n < length (b ∷ key)) (λ is. omega (arith, on)) (λ _. omega arith)
 
 -- as many bytes 255 and one more are above
 pub run_rises : (before : List ℕ) (n : ℕ) → AreBytes before → run before < n → IsAbove before (replicate n 255)
 run_rises [] zero all lt = absurd (omega arith)
 run_rises [] (suc n) all lt = tt
 run_rises (a ∷ before) zero all lt = absurd (omega arith)
-run_rises (a ∷ before) (suc n) all lt = by (eqb a 255) refl (λ is. run_rises before n all.1 (omega (arith, run_full a before is, lt)))
+run_rises (a ∷ before) (suc n) all lt =
+    by (eqb a 255) refl (λ is. run_rises before n all.1 (omega (arith, run_full a before is, lt)))
   where
-    by : (t : Bool) → eqb a 255 ≡ t → (a ≡ 255 → IsAbove before (replicate n 255)) → IsAbove (a ∷ before) (replicate (suc n) 255)
+    by : (t : Bool) → eqb a 255 ≡ t → (a ≡ 255 → IsAbove before (replicate n 255))
+        → IsAbove (a ∷ before) (replicate (suc n) 255)
     by true e on = let is : a ≡ 255 = eqb-true a 255 e in inr (is, on is)
     by false e on = let small = all.0 in inl (grind (arith, nat_tests))
 
 -- ---- keys that begin alike
 
 -- behind the same front the rests are compared
-pub above_less : (at : ℕ) (before key : List ℕ) → at ≤ length before → at ≤ length key → take at before ≡ take at key → IsAbove before key → IsAbove (drop at before) (drop at key)
+pub above_less : (at : ℕ) (before key : List ℕ) → at ≤ length before → at ≤ length key → take at before ≡ take at key
+    → IsAbove before key → IsAbove (drop at before) (drop at key)
 above_less zero before key le more same above = above
 above_less (suc at) [] key le more same above = absurd (omega arith)
 above_less (suc at) (a ∷ before) [] le more same above = absurd (omega arith)
-above_less (suc at) (a ∷ before) (b ∷ key) le more same (inl lt) = absurd (omega (arith, lt, ap (λ l. get_or l 0 0) same))
-above_less (suc at) (a ∷ before) (b ∷ key) le more same (inr is) = above_less at before key (omega arith) (omega arith) (ap (drop 1) same) is.1
+above_less (suc at) (a ∷ before) (b ∷ key) le more same (inl lt) =
+    absurd (omega (arith, lt, ap (λ l. get_or l 0 0) same))
+above_less (suc at) (a ∷ before) (b ∷ key) le more same (inr is) =
+    above_less at before key (omega arith) (omega arith) (ap (drop 1) same) is.1
 
-pub above_more : (at : ℕ) (before key : List ℕ) → at ≤ length before → at ≤ length key → take at before ≡ take at key → IsAbove (drop at before) (drop at key) → IsAbove before key
+pub above_more : (at : ℕ) (before key : List ℕ) → at ≤ length before → at ≤ length key → take at before ≡ take at key
+    → IsAbove (drop at before) (drop at key) → IsAbove before key
 above_more zero before key le more same above = above
 above_more (suc at) [] key le more same above = absurd (omega arith)
 above_more (suc at) (a ∷ before) [] le more same above = absurd (omega arith)
-above_more (suc at) (a ∷ before) (b ∷ key) le more same above = inr (ap (λ l. get_or l 0 0) same, above_more at before key (omega arith) (omega arith) (ap (drop 1) same) above)
+above_more (suc at) (a ∷ before) (b ∷ key) le more same above =
+    inr (ap (λ l. get_or l 0 0) same, above_more at before key (omega arith) (omega arith) (ap (drop 1) same) above)
 
 take_front : (at : ℕ) (xs ys : List ℕ) → at ≤ length xs → take at (xs ++ ys) ≡ take at xs
 take_front zero xs ys le = refl
@@ -113,26 +126,34 @@ pub record IsLevel (before front : List ℕ) (long at : ℕ) : Type 0 where
   pub room : at + run (drop at before) < long
 
 pub level_first : (before front : List ℕ) (long : ℕ) → run before < long → IsLevel before front long 0
-level_first before front long lt = record { within = omega arith; inside = omega arith; same = refl; room = omega (arith, lt) }
+level_first before front long lt =
+    record { within = omega arith; inside = omega arith; same = refl; room = omega (arith, lt) }
 
-key_of : (before key : List ℕ) (long : ℕ) → AreBytes key → length key ≡ long → long ≤ 65536 → IsAbove before key → IsKey (Some before) key
+key_of : (before key : List ℕ) (long : ℕ) → AreBytes key → length key ≡ long → long ≤ 65536 → IsAbove before key
+    → IsKey (Some before) key
 key_of before key long all whole limit above = ((all_of key all, omega (arith, whole)), above)
 
 -- at any time the front so far can rise
-pub level_rises : (before front : List ℕ) (long at : ℕ) → AreBytes before → AreBytes front → long ≤ 65536 → IsLevel before front long at → Rises (Some before) (take at front) long
+pub level_rises : (before front : List ℕ) (long at : ℕ) → AreBytes before → AreBytes front → long ≤ 65536
+    → IsLevel before front long at → Rises (Some before) (take at front) long
 level_rises before front long at old new limit level =
     let n = long - at in
     let more : List ℕ = replicate n 255 in
     let key = take at front ++ more in
     let short : length (take at front) ≡ at = length-take-le at front level.inside in
-    let whole : length key ≡ long = omega (arith, length-append (take at front) more, length_full n, short, level.room) in
-    let front_is : take at before ≡ take at key = level.same ∙ sym (take_front at (take at front) more (omega (arith, short)) ∙ take_self at (take at front) short) in
-    let rest : drop at key ≡ more = drop_front at (take at front) more (omega (arith, short)) ∙ ap (λ l. l ++ more) (drop_self at (take at front) short) in
-    let rises = subst (IsAbove (drop at before)) (sym rest) (run_rises (drop at before) n (bytes_drop at before old) (omega (arith, level.room))) in
+    let whole : length key ≡ long =
+    omega (arith, length-append (take at front) more, length_full n, short, level.room) in
+    let front_is : take at before ≡ take at key = level.same
+    ∙ sym (take_front at (take at front) more (omega (arith, short)) ∙ take_self at (take at front) short) in
+    let rest : drop at key ≡ more = drop_front at (take at front) more (omega (arith, short))
+    ∙ ap (λ l. l ++ more) (drop_self at (take at front) short) in
+    let rises = subst (IsAbove (drop at before)) (sym rest)
+    (run_rises (drop at before) n (bytes_drop at before old) (omega (arith, level.room))) in
     record {
       more = more;
       whole = whole;
-      is_key = key_of before key long (bytes_append (take at front) more (bytes_take at front new) (bytes_full n)) whole limit (above_more at before key level.within (omega (arith, whole, level.room)) front_is rises);
+      is_key = key_of before key long (bytes_append (take at front) more (bytes_take at front new) (bytes_full n))
+          whole limit (above_more at before key level.within (omega (arith, whole, level.room)) front_is rises);
     }
   where
     take_self : (n : ℕ) (xs : List ℕ) → length xs ≡ n → take n xs ≡ xs
@@ -148,24 +169,32 @@ level_rises before front long at old new limit level =
     drop_self (suc n) (x ∷ xs) e = drop_self n xs (omega (arith, e))
 
 -- a front that is above, however it goes on
-pub front_rises : (before front : List ℕ) (long at : ℕ) → AreBytes front → long ≤ 65536 → length front ≤ long → at < length front → IsLevel before front long at
-    → ((more : List ℕ) → IsAbove (drop at before) (get_or front at 0 ∷ drop (at + 1) front ++ more)) → Rises (Some before) front long
+pub front_rises : (before front : List ℕ) (long at : ℕ) → AreBytes front → long ≤ 65536 → length front ≤ long
+    → at < length front → IsLevel before front long at
+    → ((more : List ℕ) → IsAbove (drop at before) (get_or front at 0 ∷ drop (at + 1) front ++ more))
+    → Rises (Some before) front long
 front_rises before front long at new limit fits lt level above =
     let n = long - length front in
     let more : List ℕ = replicate n 255 in
     let key = front ++ more in
     let whole : length key ≡ long = omega (arith, length-append front more, length_full n, fits) in
-    let rest : drop at key ≡ get_or front at 0 ∷ drop (at + 1) front ++ more = drop_front at front more level.inside ∙ ap (λ l. l ++ more) (drop_step at front lt) in
+    let rest : drop at key ≡ get_or front at 0 ∷ drop (at + 1) front ++ more = drop_front at front more level.inside
+    ∙ ap (λ l. l ++ more) (drop_step at front lt) in
     record {
       more = more;
       whole = whole;
       is_key = key_of before key long (bytes_append front more new (bytes_full n)) whole limit
-          (above_more at before key level.within (omega (arith, whole, fits, lt)) (level.same ∙ sym (take_front at front more level.inside)) (subst (IsAbove (drop at before)) (sym rest) (above more)));
+          (above_more at before key level.within (omega (arith, whole, fits, lt)) (level.same
+          ∙ sym (take_front at front more level.inside))
+          (subst (IsAbove (drop at before)) (sym rest) (above more)));
     }
 
-pub end_rises : (before front : List ℕ) (long at : ℕ) → AreBytes front → long ≤ 65536 → length front ≤ long → at < length front → IsLevel before front long at → at ≡ length before → Rises (Some before) front long
+pub end_rises : (before front : List ℕ) (long at : ℕ) → AreBytes front → long ≤ 65536 → length front ≤ long
+    → at < length front → IsLevel before front long at → at ≡ length before → Rises (Some before) front long
 end_rises before front long at new limit fits lt level end =
-    front_rises before front long at new limit fits lt level (λ more. subst (λ l. IsAbove l (get_or front at 0 ∷ drop (at + 1) front ++ more)) (sym (none before at (omega (arith, end)))) tt)
+    front_rises before front long at new limit fits lt level
+    (λ more. subst (λ l. IsAbove l (get_or front at 0 ∷ drop (at + 1) front ++ more))
+    (sym (none before at (omega (arith, end)))) tt)
   where
     none : (xs : List ℕ) (n : ℕ) → length xs ≤ n → drop n xs ≡ []
     none [] zero le = refl
@@ -173,24 +202,35 @@ end_rises before front long at new limit fits lt level end =
     none (x ∷ xs) zero le = absurd (omega arith)
     none (x ∷ xs) (suc n) le = none xs n (omega arith)
 
-pub greater_rises : (before front : List ℕ) (long at : ℕ) → AreBytes front → long ≤ 65536 → length front ≤ long → at < length front → at < length before → IsLevel before front long at → get_or before at 0 < get_or front at 0 → Rises (Some before) front long
+pub greater_rises : (before front : List ℕ) (long at : ℕ) → AreBytes front → long ≤ 65536 → length front ≤ long
+    → at < length front → at < length before → IsLevel before front long at → get_or before at 0 < get_or front at 0
+    → Rises (Some before) front long
 greater_rises before front long at new limit fits lt there level gt =
-    front_rises before front long at new limit fits lt level (λ more. subst (λ l. IsAbove l (get_or front at 0 ∷ drop (at + 1) front ++ more)) (sym (drop_step at before there)) (inl gt))
+    front_rises before front long at new limit fits lt level
+    (λ more. subst (λ l. IsAbove l (get_or front at 0 ∷ drop (at + 1) front ++ more))
+    (sym (drop_step at before there)) (inl gt))
 
 -- what a key with this byte would be
-stop_with : (before front : List ℕ) (long at : ℕ) → at < length front → at < length before → IsLevel before front long at
-    → ((key : List ℕ) → AreBytes key → length key ≡ long - at - 1 → (get_or before at 0 < get_or front at 0) ⊎ ((get_or before at 0 ≡ get_or front at 0) × IsAbove (drop (at + 1) before) key) → ⊥)
+stop_with : (before front : List ℕ) (long at : ℕ) → at < length front → at < length before
+    → IsLevel before front long at
+    → ((key : List ℕ) → AreBytes key → length key ≡ long - at - 1
+    → (get_or before at 0 < get_or front at 0) ⊎
+    ((get_or before at 0 ≡ get_or front at 0) × IsAbove (drop (at + 1) before) key) → ⊥)
     → (key y : List ℕ) → IsKey (Some before) key → length key ≡ long → key ≡ take (at + 1) front ++ y → ⊥
 stop_with before front long at lt there level never key y is whole laid =
     let short : length (take (at + 1) front) ≡ at + 1 = length-take-le (at + 1) front (omega (arith, lt)) in
-    let cut : take at key ≡ take at front = ap (take at) laid ∙ take_front at (take (at + 1) front) y (omega (arith, short)) ∙ again at (at + 1) front (omega arith) in
+    let cut : take at key ≡ take at front = ap (take at) laid
+    ∙ take_front at (take (at + 1) front) y (omega (arith, short)) ∙ again at (at + 1) front (omega arith) in
     let long_ : at + 1 ≤ length key = omega (arith, ap length laid, length-append (take (at + 1) front) y, short) in
     let rest = above_less at before key level.within (omega (arith, long_)) (level.same ∙ sym cut) is.1 in
-    let head : get_or key at 0 ≡ get_or front at 0 = ap (λ l. get_or l at 0) laid ∙ kept at (take (at + 1) front) y (omega (arith, short)) ∙ got at (at + 1) front (omega arith) in
+    let head : get_or key at 0 ≡ get_or front at 0 = ap (λ l. get_or l at 0) laid
+    ∙ kept at (take (at + 1) front) y (omega (arith, short)) ∙ got at (at + 1) front (omega arith) in
     let opened : IsAbove (get_or before at 0 ∷ drop (at + 1) before) (get_or front at 0 ∷ drop (at + 1) key) =
-        subst (λ l. IsAbove (get_or before at 0 ∷ drop (at + 1) before) (l ∷ drop (at + 1) key)) head
-            (subst (λ l. IsAbove l (get_or key at 0 ∷ drop (at + 1) key)) (drop_step at before there) (subst (IsAbove (drop at before)) (drop_step at key (omega (arith, long_))) rest)) in
-    never (drop (at + 1) key) (bytes_drop (at + 1) key (bytes_of key (is.0).0)) (omega (arith, left (at + 1) key, whole)) opened
+    subst (λ l. IsAbove (get_or before at 0 ∷ drop (at + 1) before) (l ∷ drop (at + 1) key)) head
+    (subst (λ l. IsAbove l (get_or key at 0 ∷ drop (at + 1) key)) (drop_step at before there)
+    (subst (IsAbove (drop at before)) (drop_step at key (omega (arith, long_))) rest)) in
+    never (drop (at + 1) key) (bytes_drop (at + 1) key (bytes_of key (is.0).0))
+    (omega (arith, left (at + 1) key, whole)) opened
   where
     again : (n m : ℕ) (xs : List ℕ) → n ≤ m → take n (take m xs) ≡ take n xs
     again zero m xs le = refl
@@ -214,18 +254,23 @@ stop_with before front long at lt there level never key y is whole laid =
     left (suc n) [] = omega arith
     left (suc n) (x ∷ xs) = omega (arith, left n xs)
 
-pub less_stops : (before front : List ℕ) (long at : ℕ) → AreBytes before → AreBytes front → long ≤ 65536 → at < length front → at < length before → IsLevel before front long at → get_or front at 0 < get_or before at 0 → IsStop (Some before) front long at
+pub less_stops : (before front : List ℕ) (long at : ℕ) → AreBytes before → AreBytes front → long ≤ 65536
+    → at < length front → at < length before → IsLevel before front long at → get_or front at 0 < get_or before at 0
+    → IsStop (Some before) front long at
 less_stops before front long at old new limit lt there level less = record {
   within = lt;
   rises = level_rises before front long at old new limit level;
   stops = stop_with before front long at lt there level never;
 }
   where
-    never : (key : List ℕ) → AreBytes key → length key ≡ long - at - 1 → (get_or before at 0 < get_or front at 0) ⊎ ((get_or before at 0 ≡ get_or front at 0) × IsAbove (drop (at + 1) before) key) → ⊥
+    never : (key : List ℕ) → AreBytes key → length key ≡ long - at - 1
+        → (get_or before at 0 < get_or front at 0) ⊎
+        ((get_or before at 0 ≡ get_or front at 0) × IsAbove (drop (at + 1) before) key) → ⊥
     never key all whole (inl gt) = omega (arith, gt, less)
     never key all whole (inr is) = omega (arith, is.0, less)
 
-pub same_stops : (before front : List ℕ) (long at : ℕ) → AreBytes before → AreBytes front → long ≤ 65536 → at < length front → at < length before → IsLevel before front long at → get_or front at 0 ≡ get_or before at 0
+pub same_stops : (before front : List ℕ) (long at : ℕ) → AreBytes before → AreBytes front → long ≤ 65536
+    → at < length front → at < length before → IsLevel before front long at → get_or front at 0 ≡ get_or before at 0
     → long - at - 1 ≤ run (drop (at + 1) before) → IsStop (Some before) front long at
 same_stops before front long at old new limit lt there level same few = record {
   within = lt;
@@ -233,12 +278,16 @@ same_stops before front long at old new limit lt there level same few = record {
   stops = stop_with before front long at lt there level never;
 }
   where
-    never : (key : List ℕ) → AreBytes key → length key ≡ long - at - 1 → (get_or before at 0 < get_or front at 0) ⊎ ((get_or before at 0 ≡ get_or front at 0) × IsAbove (drop (at + 1) before) key) → ⊥
+    never : (key : List ℕ) → AreBytes key → length key ≡ long - at - 1
+        → (get_or before at 0 < get_or front at 0) ⊎
+        ((get_or before at 0 ≡ get_or front at 0) × IsAbove (drop (at + 1) before) key) → ⊥
     never key all whole (inl gt) = omega (arith, gt, same)
     never key all whole (inr is) = omega (arith, run_below (drop (at + 1) before) key all is.1, whole, few)
 
-pub level_more : (before front : List ℕ) (long at : ℕ) → at < length front → at < length before → IsLevel before front long at → get_or front at 0 ≡ get_or before at 0
-    → (get_or before at 0 < 255 → long - at - 1 ≤ run (drop (at + 1) before) → ⊥) → get_or before at 0 < 256 → IsLevel before front long (at + 1)
+pub level_more : (before front : List ℕ) (long at : ℕ) → at < length front → at < length before
+    → IsLevel before front long at → get_or front at 0 ≡ get_or before at 0
+    → (get_or before at 0 < 255 → long - at - 1 ≤ run (drop (at + 1) before) → ⊥) → get_or before at 0 < 256
+    → IsLevel before front long (at + 1)
 level_more before front long at lt there level same more small = record {
   within = omega (arith, there);
   inside = omega (arith, lt);
@@ -246,34 +295,44 @@ level_more before front long at lt there level same more small = record {
   room = room;
 }
   where
-
     by : (t : Bool) → eqb (get_or before at 0) 255 ≡ t → at + 1 + run (drop (at + 1) before) < long
     by true e =
         let full = run_full (get_or before at 0) (drop (at + 1) before) (eqb-true (get_or before at 0) 255 e) in
         omega (arith, level.room, ap run (drop_step at before there), full)
     by false e =
         let less : get_or before at 0 < 255 = grind (arith, nat_tests) in
-        elim (leq (long - at - 1) (run (drop (at + 1) before))) as (λ _. at + 1 + run (drop (at + 1) before) < long) [ inl le ↦ absurd (more less le) | inr gt ↦ omega (arith, gt) ]
+        elim (leq (long - at - 1) (run (drop (at + 1) before))) as (λ _. at + 1 + run (drop (at + 1) before) < long)
+        [ inl le ↦ absurd (more less le) | inr gt ↦ omega (arith, gt) ]
       where
         leq : (m n : ℕ) → (m ≤ n) ⊎ (n < m)
         leq zero n = inl (omega arith)
         leq (suc m) zero = inr (omega arith)
-        leq (suc m) (suc n) = elim (leq m n) as (λ _. (suc m ≤ suc n) ⊎ (suc n < suc m)) [ inl le ↦ inl (omega (arith, le)) | inr gt ↦ inr (omega (arith, gt)) ]
+        leq (suc m) (suc n) = elim (leq m n) as (λ _. (suc m ≤ suc n) ⊎ (suc n < suc m))
+            [ inl le ↦ inl (omega (arith, le)) | inr gt ↦ inr (omega (arith, gt)) ]
 
     room : at + 1 + run (drop (at + 1) before) < long
     room = by (eqb (get_or before at 0) 255) refl
 
-pub whole_rises : (before front : List ℕ) (long : ℕ) → AreBytes before → AreBytes front → long ≤ 65536 → IsLevel before front long (length front) → Rises (Some before) front long
-whole_rises before front long old new limit level = subst (λ l. Rises (Some before) l long) (all front) (level_rises before front long (length front) old new limit level)
+pub whole_rises : (before front : List ℕ) (long : ℕ) → AreBytes before → AreBytes front → long ≤ 65536
+    → IsLevel before front long (length front) → Rises (Some before) front long
+whole_rises before front long old new limit level =
+    subst (λ l. Rises (Some before) l long) (all front)
+    (level_rises before front long (length front) old new limit level)
   where
     all : (xs : List ℕ) → take (length xs) xs ≡ xs
     all [] = refl
     all (x ∷ xs) = ap (λ l. x ∷ l) (all xs)
 
 -- behind no key any front rises
-pub free_rises : (front : List ℕ) (long : ℕ) → AreBytes front → long ≤ 65536 → length front ≤ long → Rises None front long
+pub free_rises : (front : List ℕ) (long : ℕ) → AreBytes front → long ≤ 65536 → length front ≤ long
+    → Rises None front long
 free_rises front long new limit fits =
     let n = long - length front in
     let more : List ℕ = replicate n 255 in
     let whole : length (front ++ more) ≡ long = omega (arith, length-append front more, length_full n, fits) in
-    record { more = more; whole = whole; is_key = (all_of (front ++ more) (bytes_append front more new (bytes_full n)), omega (arith, whole, limit)) }
+    record {
+      more = more;
+      whole = whole;
+      is_key =
+          (all_of (front ++ more) (bytes_append front more new (bytes_full n)), omega (arith, whole, limit));
+    }

@@ -21,8 +21,8 @@ pub record CanGoOn (depth : ℕ) (bytes : List ℕ) : Type 0 where
   pub more : List ℕ
   pub spelled : bytes ++ more ≡ spelling value
 
--- no value's spelling begins the bytes; some begins with the bytes before this place, and none with those
--- up to and with it, unless the bytes end there
+-- no value's spelling begins the bytes; some begins with the bytes before this place, and none with
+-- those up to and with it, unless the bytes end there
 pub record IsBadBen (depth : ℕ) (bytes : List ℕ) (at : ℕ) : Type 0 where
   pub no_value : (t : Tree) (n : ℕ) → BeginsWith depth bytes t n → ⊥
   pub within : at ≤ length bytes

@@ -48,8 +48,8 @@ abbrev mutual
 abbrev pub IsString : List ℕ → Type 0
 IsString bytes = All (λ byte. byte < 256) bytes × (length bytes ≤ STRING_LIMIT)
 
--- the second of two keys stands above the first, bytewise: it goes on from it, or has a greater byte at
--- the first place where they differ
+-- the second of two keys stands above the first, bytewise: it goes on from it, or has a greater
+-- byte at the first place where they differ
 abbrev pub IsAbove : List ℕ → List ℕ → Type 0
 IsAbove [] [] = ⊥
 IsAbove [] (b ∷ key) = ⊤
@@ -61,8 +61,8 @@ abbrev pub IsKey : Option (List ℕ) → List ℕ → Type 0
 IsKey None key = IsString key
 IsKey (Some before) key = IsString key × IsAbove before key
 
--- values with at most so many lists and dictionaries in one another: a number has 64 bits, and keys rise
--- strictly
+-- values with at most so many lists and dictionaries in one another: a number has 64 bits, and keys
+-- rise strictly
 abbrev mutual
   pub IsTree : ℕ → Tree → Type 0
   IsTree depth (number z) = FitsSigned w64 z
@@ -76,4 +76,5 @@ abbrev mutual
 
   pub AreFields : ℕ → Option (List ℕ) → Fields → Type 0
   AreFields depth before no_fields = ⊤
-  AreFields depth before (field key t fs) = IsKey before key × IsTree depth t × AreFields depth (Some key) fs
+  AreFields depth before (field key t fs) =
+      IsKey before key × IsTree depth t × AreFields depth (Some key) fs

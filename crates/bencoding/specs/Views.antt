@@ -1,5 +1,5 @@
 -- The value that a `Ben` of the code is.
-use Rattle.std.specs.Prelude.{ℕ, List, [], ◌∷◌, map}
+use Rattle.std.specs.Prelude.{List, [], ◌∷◌}
 use Rattle.bencoding.specs.Trees.{Tree, number, string, items, dictionary, Trees, no_items, item, Fields, no_fields, field}
 use Rattle.bencoding.specs.declared.values.Field.{Field}
 use Rattle.bencoding.specs.declared.values.Ben.{Ben, fold-Ben}

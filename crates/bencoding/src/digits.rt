@@ -11,7 +11,11 @@ fn grown(number: u64, digit: u8, low: u64, high: u64) -> Option<u64>
     ensures { IsGrown (number * 10 + digit) low high result }
 {
     let next = number.checked_mul(10)?.checked_add(u64::from(digit))?;
-    if begins_some(next, low, high) { Some(next) } else { None }
+    if begins_some(next, low, high) {
+        Some(next)
+    } else {
+        None
+    }
 }
 
 /// The number within the bounds that the digits at the front spell, without a leading zero, and how
@@ -31,7 +35,11 @@ fn read_digits(bytes: &[u8], low: u64, high: u64) -> Result<(u64, usize), usize>
         }
         at += 1;
     }
-    if at == 0 || number < low { Err(at) } else { Ok((number, at)) }
+    if at == 0 || number < low {
+        Err(at)
+    } else {
+        Ok((number, at))
+    }
 }
 
 /// The same with a byte that ends it.

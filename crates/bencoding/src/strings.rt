@@ -33,8 +33,14 @@ pub fn read_string<'a>(bytes: &'a [u8], before: Option<&[u8]>) -> Result<(&'a [u
     };
     let long = length as usize;
     let front = front_of(&bytes[at..], long);
-    if let Some(stop) = stop_of(before, front, long) {
-        return Err(at + stop);
+    match stop_of(before, front, long) {
+        Some(stop) => Err(at + stop),
+        None => {
+            if front.len() < long {
+                Err(bytes.len())
+            } else {
+                Ok((front, at + long))
+            }
+        }
     }
-    if front.len() < long { Err(bytes.len()) } else { Ok((front, at + long)) }
 }

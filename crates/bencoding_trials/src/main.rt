@@ -84,11 +84,31 @@ fn answer<R: Print>(rt: &R, alloc: Global) -> Result<(), Trouble> {
     for (name, bytes) in ROWS {
         tell(rt, name, told(alloc, bytes)?)?;
     }
-    tell(rt, "8 lists", told(alloc, deep(alloc, b'l', 8)?.as_slice())?)?;
-    tell(rt, "9 lists", told(alloc, deep(alloc, b'l', 9)?.as_slice())?)?;
-    tell(rt, "65,536 bytes", told(alloc, long(alloc, b"65536:", 65_536)?.as_slice())?)?;
-    tell(rt, "65,537 bytes", told(alloc, long(alloc, b"65537:", 65_537)?.as_slice())?)?;
-    tell(rt, "one byte less", told(alloc, long(alloc, b"65536:", 65_535)?.as_slice())?)?;
+    tell(
+        rt,
+        "8 lists",
+        told(alloc, deep(alloc, b'l', 8)?.as_slice())?,
+    )?;
+    tell(
+        rt,
+        "9 lists",
+        told(alloc, deep(alloc, b'l', 9)?.as_slice())?,
+    )?;
+    tell(
+        rt,
+        "65,536 bytes",
+        told(alloc, long(alloc, b"65536:", 65_536)?.as_slice())?,
+    )?;
+    tell(
+        rt,
+        "65,537 bytes",
+        told(alloc, long(alloc, b"65537:", 65_537)?.as_slice())?,
+    )?;
+    tell(
+        rt,
+        "one byte less",
+        told(alloc, long(alloc, b"65536:", 65_535)?.as_slice())?,
+    )?;
     Ok(())
 }
 

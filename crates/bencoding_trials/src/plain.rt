@@ -13,7 +13,7 @@ pub enum Plain {
 }
 
 /// What is open round the next byte.
-#[derive(Clone, Copy, Debug, PartialEq, Eq, Drop)]
+#[derive(Clone, Copy, Debug, PartialEq, Eq)]
 enum Open {
     List,
     /// A dictionary that wants a key, or its end.
@@ -44,7 +44,7 @@ enum Step {
 }
 
 /// A value begins.
-fn begin(open: &mut Vec<Open>, byte: u8) -> Result<Step, Trouble> {
+fn begin(inside: &mut Vec<Open>, byte: u8) -> Result<Step, Trouble> {
     let begun = match byte {
         b'i' => Open::Number,
         b'l' => Open::List,
@@ -52,80 +52,80 @@ fn begin(open: &mut Vec<Open>, byte: u8) -> Result<Step, Trouble> {
         b'0'..=b'9' => Open::Length(usize::from(byte - b'0')),
         _ => return Ok(Step::Stops),
     };
-    open.push(begun)?;
+    inside.push(begun)?;
     Ok(Step::Goes)
 }
 
 /// A key begins, or its dictionary ends.
-fn begin_key(open: &mut Vec<Open>, byte: u8) -> Result<Step, Trouble> {
+fn begin_key(inside: &mut Vec<Open>, byte: u8) -> Result<Step, Trouble> {
     match byte {
         b'e' => {
-            let _ = open.pop();
+            let _ = inside.pop();
             Ok(Step::Ends)
         }
-        b'0'..=b'9' => begin(open, byte),
+        b'0'..=b'9' => begin(inside, byte),
         _ => Ok(Step::Stops),
     }
 }
 
 /// The innermost open thing is now another.
-fn turn(open: &mut Vec<Open>, other: Open) -> Result<Step, Trouble> {
-    let _ = open.pop();
-    open.push(other)?;
+fn turn(inside: &mut Vec<Open>, other: Open) -> Result<Step, Trouble> {
+    let _ = inside.pop();
+    inside.push(other)?;
     Ok(Step::Goes)
 }
 
-fn end(open: &mut Vec<Open>) -> Step {
-    let _ = open.pop();
+fn end(inside: &mut Vec<Open>) -> Step {
+    let _ = inside.pop();
     Step::Ends
 }
 
 /// One byte of a number.
-fn number(open: &mut Vec<Open>, inner: Open, byte: u8) -> Result<Step, Trouble> {
+fn number(inside: &mut Vec<Open>, inner: Open, byte: u8) -> Result<Step, Trouble> {
     match (inner, byte) {
-        (Open::Number, b'-') => turn(open, Open::Minus),
-        (Open::Number, b'0') => turn(open, Open::Zero),
-        (Open::Number | Open::Minus, b'1'..=b'9') => turn(open, Open::Digits),
+        (Open::Number, b'-') => turn(inside, Open::Minus),
+        (Open::Number, b'0') => turn(inside, Open::Zero),
+        (Open::Number | Open::Minus, b'1'..=b'9') => turn(inside, Open::Digits),
         (Open::Digits, b'0'..=b'9') => Ok(Step::Goes),
-        (Open::Zero | Open::Digits, b'e') => Ok(end(open)),
+        (Open::Zero | Open::Digits, b'e') => Ok(end(inside)),
         _ => Ok(Step::Stops),
     }
 }
 
 /// One byte of a length: none stands behind a zero.
-fn length(open: &mut Vec<Open>, so_far: usize, byte: u8) -> Result<Step, Trouble> {
+fn length(inside: &mut Vec<Open>, so_far: usize, byte: u8) -> Result<Step, Trouble> {
     match byte {
-        b':' if so_far == 0 => Ok(end(open)),
-        b':' => turn(open, Open::String(so_far)),
+        b':' if so_far == 0 => Ok(end(inside)),
+        b':' => turn(inside, Open::String(so_far)),
         b'0'..=b'9' if so_far > 0 && so_far < 1_000 => {
-            turn(open, Open::Length(so_far * 10 + usize::from(byte - b'0')))
+            turn(inside, Open::Length(so_far * 10 + usize::from(byte - b'0')))
         }
         _ => Ok(Step::Stops),
     }
 }
 
-fn take(open: &mut Vec<Open>, byte: u8) -> Result<Step, Trouble> {
-    match open.last().copied() {
-        None | Some(Open::Value) => begin(open, byte),
-        Some(Open::List) if byte == b'e' => Ok(end(open)),
-        Some(Open::List) => begin(open, byte),
-        Some(Open::Keys) => begin_key(open, byte),
-        Some(Open::Length(so_far)) => length(open, so_far, byte),
-        Some(Open::String(left)) if left > 1 => turn(open, Open::String(left - 1)),
-        Some(Open::String(_)) => Ok(end(open)),
-        Some(inner) => number(open, inner, byte),
+fn take(inside: &mut Vec<Open>, byte: u8) -> Result<Step, Trouble> {
+    match inside.last().copied() {
+        None | Some(Open::Value) => begin(inside, byte),
+        Some(Open::List) if byte == b'e' => Ok(end(inside)),
+        Some(Open::List) => begin(inside, byte),
+        Some(Open::Keys) => begin_key(inside, byte),
+        Some(Open::Length(so_far)) => length(inside, so_far, byte),
+        Some(Open::String(left)) if left > 1 => turn(inside, Open::String(left - 1)),
+        Some(Open::String(_)) => Ok(end(inside)),
+        Some(inner) => number(inside, inner, byte),
     }
 }
 
 /// What round an end wants now. It is over where nothing is open.
-fn settle(open: &mut Vec<Open>) -> Result<bool, Trouble> {
-    match open.last().copied() {
+fn settle(inside: &mut Vec<Open>) -> Result<bool, Trouble> {
+    match inside.last().copied() {
         None => return Ok(true),
         Some(Open::Keys) => {
-            let _ = turn(open, Open::Value)?;
+            let _ = turn(inside, Open::Value)?;
         }
         Some(Open::Value) => {
-            let _ = turn(open, Open::Keys)?;
+            let _ = turn(inside, Open::Keys)?;
         }
         Some(_) => {}
     }
@@ -134,13 +134,13 @@ fn settle(open: &mut Vec<Open>) -> Result<bool, Trouble> {
 
 /// What the plain reader says of a text.
 pub fn plain_answer(alloc: Global, bytes: &[u8]) -> Result<Plain, Trouble> {
-    let mut open = Vec::new(alloc);
+    let mut inside = Vec::new(alloc);
     for (at, byte) in bytes.iter().enumerate() {
-        match take(&mut open, *byte)? {
+        match take(&mut inside, *byte)? {
             Step::Stops => return Ok(Plain::Bad(at)),
             Step::Goes => {}
             Step::Ends => {
-                if settle(&mut open)? {
+                if settle(&mut inside)? {
                     return Ok(Plain::Read(at + 1));
                 }
             }

@@ -28,7 +28,8 @@ pub record Rises (before : Option (List ℕ)) (front : List ℕ) (long : ℕ) : 
 pub record IsStop (before : Option (List ℕ)) (front : List ℕ) (long at : ℕ) : Type 0 where
   pub within : at < length front
   pub rises : Rises before (take at front) long
-  pub stops : (key y : List ℕ) → IsKey before key → length key ≡ long → key ≡ take (at + 1) front ++ y → ⊥
+  pub stops : (key y : List ℕ) → IsKey before key → length key ≡ long
+      → key ≡ take (at + 1) front ++ y → ⊥
 
 abbrev pub IsStopFound : Option (List ℕ) → List ℕ → ℕ → Option ℕ → Type 0
 IsStopFound before front long (Some at) = IsStop before front long at

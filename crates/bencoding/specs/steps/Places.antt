@@ -11,8 +11,8 @@ abbrev pub Follows : List ℕ → List ℕ → Type 0
 Follows [] y = y ≡ []
 Follows (c ∷ q) y = y ≡ c ∷ drop 1 y
 
--- some text of the set begins with the bytes before this place, and none goes on with the byte at it; nothing is said of
--- no bytes
+-- some text of the set begins with the bytes before this place, and none goes on with the byte at
+-- it; of no bytes nothing is said
 pub record IsStuck (L : List ℕ → Type 0) (bytes : List ℕ) (at : ℕ) : Type 0 where
   pub within : at ≤ length bytes
   pub grows : 0 < at → CanGrow L (take at bytes)

@@ -1,7 +1,7 @@
 -- Steps of the reader: what it has read of values.
-use Rattle.std.specs.Prelude.{◌≡◌, ◌⊎◌, ℕ, ◌+◌, ◌-◌, ◌^◌, ◌<◌, ◌≤◌, Bool, true, false, List, [], ◌∷◌, ◌++◌, length, take, drop, slice_index, Option, Some, None, Result, Ok, Err, ⊤}
+use Rattle.std.specs.Prelude.{◌≡◌, ℕ, ◌-◌, ◌^◌, ◌<◌, ◌≤◌, Bool, true, false, List, [], ◌∷◌, ◌++◌, length, take, slice_index, Option, Result, Ok, Err, ⊤}
 use Rattle.std.specs.Borrow.{Bor}
-use Rattle.bencoding.specs.Trees.{Tree, Fields, no_fields, field, spelled_string, spelling, IsKey, IsTree}
+use Rattle.bencoding.specs.Trees.{Tree, spelled_string, spelling, IsKey, IsTree}
 use Rattle.bencoding.specs.Views.{tree_of}
 use Rattle.bencoding.specs.declared.values.Field.{Field}
 use Rattle.bencoding.specs.declared.values.Ben.{Ben}
@@ -73,17 +73,21 @@ pub record IsSpelledField (depth : ℕ) (before : Option (List ℕ)) (s : List �
   pub is_tree : IsTree depth value
   pub spelled : s ≡ spelled_string key ++ spelling value
 
-pub record FieldFirst (depth : ℕ) (before : Option (List ℕ)) (bytes key : List ℕ) (t : Tree) (n : ℕ) : Type 0 where
+pub record FieldFirst (depth : ℕ) (before : Option (List ℕ)) (bytes key : List ℕ) (t : Tree) (n : ℕ)
+    : Type 0 where
   pub within : n ≤ length bytes
   pub some : 0 < n
   pub is_key : IsKey before key
   pub is_tree : IsTree depth t
   pub spelled : take n bytes ≡ spelled_string key ++ spelling t
 
-abbrev pub IsFieldRead : ℕ → Option (List ℕ) → List ℕ → Result (Field Ben × Bor (List ℕ) × ℕ) BenFault → Type 0
+abbrev pub IsFieldRead : ℕ → Option (List ℕ) → List ℕ
+    → Result (Field Ben × Bor (List ℕ) × ℕ) BenFault → Type 0
 IsFieldRead depth before bytes (Ok read) =
-    (read.0.key ≡ read.1.now) × FieldFirst depth before bytes (read.1.now) (tree_of (read.0.value)) read.2
-IsFieldRead depth before bytes (Err (faults.BadBen at)) = IsStuck (IsSpelledField depth before) bytes at
+    (read.0.key ≡ read.1.now)
+    × FieldFirst depth before bytes (read.1.now) (tree_of (read.0.value)) read.2
+IsFieldRead depth before bytes (Err (faults.BadBen at)) =
+    IsStuck (IsSpelledField depth before) bytes at
 IsFieldRead depth before bytes (Err faults.Memory) = ⊤
 
 -- the greatest magnitude of a number of 64 bits

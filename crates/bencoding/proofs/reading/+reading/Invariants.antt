@@ -22,7 +22,8 @@ abbrev pub decreases-read_items-loop-at : goal.decreases-read_items-loop-at
 decreases-read_items-loop-at l = length l.bytes - l.at
 
 abbrev pub invariant-read_fields-loop-at : goal.invariant-read_fields-loop-at
-invariant-read_fields-loop-at l = FieldsSoFar (l.depth - 1) l.bytes l.at (fields_view l.fields.items) (option_map (λ key. key.now) l.before)
+invariant-read_fields-loop-at l =
+    FieldsSoFar (l.depth - 1) l.bytes l.at (fields_view l.fields.items) (option_map (λ key. key.now) l.before)
 
 abbrev pub decreases-read_fields-loop-at : goal.decreases-read_fields-loop-at
 decreases-read_fields-loop-at l = length l.bytes - l.at
