@@ -35,7 +35,7 @@ fn greatest_put(entry: &Entry) -> i64 {
 }
 
 /// Drives so many flows of a text's program.
-pub fn crowd<R: Threads + Wait + Sync>(
+pub fn drive_crowd<R: Threads + Wait + Sync>(
     rt: &R,
     alloc: Global,
     driver: Driver,

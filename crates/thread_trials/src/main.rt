@@ -15,7 +15,7 @@ mod refusals;
 mod runs;
 mod troubles;
 
-use crowds::crowd;
+use crowds::drive_crowd;
 use halls::two_tries;
 use heavy::heavy_ended;
 use programs::{COUNTING, READING, SESSIONS};
@@ -104,7 +104,7 @@ fn answer_crowds<R: Threads + Wait + Sync + Print>(
         (SESSIONS, "sessions"),
         (READING, "readers"),
     ] {
-        let crowd = crowd(rt, alloc, driver, text, 4_096)?;
+        let crowd = drive_crowd(rt, alloc, driver, text, 4_096)?;
         println!(rt;
             "{name}: {kind}: {} flows have ended, the greatest put is {}",
             crowd.ended, crowd.greatest
@@ -161,16 +161,24 @@ fn read_words(words: &[String]) -> Result<Words, Trouble> {
     }
 }
 
-fn answer(rt: &HostRuntime) -> Result<(), Trouble> {
+fn words_of(rt: &HostRuntime) -> Result<Words, Trouble> {
     let words: Vec<String> = env::args(rt)?.collect(rt.alloc())?;
-    match read_words(words.as_slice())? {
-        Words::Trials => answer_all(rt, rt.alloc()),
+    read_words(words.as_slice())
+}
+
+fn answer<R: Threads + Wait + Sync + Print>(
+    rt: &R,
+    alloc: Global,
+    words: Result<Words, Trouble>,
+) -> Result<(), Trouble> {
+    match words? {
+        Words::Trials => answer_all(rt, alloc),
         Words::Heavy {
             driver,
             flows,
             rounds,
         } => {
-            let ended = heavy_ended(rt, rt.alloc(), driver, flows, rounds)?;
+            let ended = heavy_ended(rt, alloc, driver, flows, rounds)?;
             println!(rt; "{ended} flows have ended")?;
             Ok(())
         }
@@ -178,7 +186,7 @@ fn answer(rt: &HostRuntime) -> Result<(), Trouble> {
 }
 
 fn main(rt: HostRuntime) -> ExitCode {
-    match answer(&rt) {
+    match answer(&rt, rt.alloc(), words_of(&rt)) {
         Ok(()) => ExitCode::SUCCESS,
         Err(trouble) => ExitCode::from(trouble.code()),
     }
