@@ -105,41 +105,64 @@ fn judge<Rt: Threads + Wait + Sync>(
     case: &Case,
 ) -> Result<Differences, Memory> {
     let mut differences = Differences::new(alloc);
-    let Some(words) = case.words else {
-        differences.tell(b"it has no words")?;
-        return Ok(differences);
-    };
+    match case.words {
+        Some(words) => judge_words(rt, alloc, case, words, &mut differences)?,
+        None => differences.tell(b"it has no words")?,
+    }
+    Ok(differences)
+}
+
+fn judge_words<Rt: Threads + Wait + Sync>(
+    rt: &Rt,
+    alloc: Global,
+    case: &Case,
+    words: &[Bytes],
+    differences: &mut Differences,
+) -> Result<(), Memory> {
     let mut world = world_of(alloc, case)?;
     let gate = CountingGate::new();
     let status = answer(rt, alloc, words, &mut world, &gate);
     differences.compare_status(status, case.status.unwrap_or(0))?;
-    differences.compare_gain(
-        b"out",
-        Stream::Out,
-        world.out.written(),
-        case.gains(Stream::Out),
-    )?;
-    differences.compare_gain(
-        b"err",
-        Stream::Err,
-        world.err.written(),
-        case.gains(Stream::Err),
-    )?;
+    compare_world(alloc, differences, case, &world)?;
+    let told = gate.calls(needs_threads(words));
+    compare_told(differences, case, status, words, told, world.out.written())?;
+    if status == 0 && is_command(words, b"run") {
+        audit(rt, alloc, case, words, world.out.written(), differences)?;
+    }
+    Ok(())
+}
+
+/// Compares what the streams gained, what was asked for and what the links were written.
+fn compare_world(
+    alloc: Global,
+    differences: &mut Differences,
+    case: &Case,
+    world: &Memories,
+) -> Result<(), Memory> {
+    let (out, err) = (world.out.written(), world.err.written());
+    differences.compare_gain(b"out", Stream::Out, out, case.gains(Stream::Out))?;
+    differences.compare_gain(b"err", Stream::Err, err, case.gains(Stream::Err))?;
     differences.compare_names(b"asked", world.store.names.all(), case.asked)?;
     differences.compare_names(b"opened", world.folder.names.all(), case.opened)?;
-    compare_links(alloc, &mut differences, case, &world)?;
-    let told = gate.calls(needs_threads(words));
+    compare_links(alloc, differences, case, world)
+}
+
+/// Compares the calls that the gate was told of with those that are wanted, and with those that were printed.
+fn compare_told(
+    differences: &mut Differences,
+    case: &Case,
+    status: u8,
+    words: &[Bytes],
+    told: Option<u64>,
+    printed: &[u8],
+) -> Result<(), Memory> {
     if let Some(calls) = case.calls {
         differences.compare_calls(told, calls as u64)?;
     }
-    let printed = world.out.written();
     if status == 0 && has_journal(words) {
         differences.compare_calls(told, calls_in(printed))?;
     }
-    if status == 0 && is_command(words, b"run") {
-        audit(rt, alloc, case, words, printed, &mut differences)?;
-    }
-    Ok(differences)
+    Ok(())
 }
 
 /// Audits the journal that a run printed, and tells where the answer isn't yes.
