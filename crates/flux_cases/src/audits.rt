@@ -3,9 +3,9 @@
 ghost use Rattle.std.specs.Prelude.{◌≡◌, IfOk};
 ghost use Rattle.flux_doors.specs.Memory.{door_out};
 
-use crate::cases::Case;
 use crate::watched::{Names, WatchedStore};
 use crate::worlds::{Memories, files_of, folder};
+use case_files::Case;
 use flux_doors::MemoryDoor;
 use flux_driver::World;
 use flux_outside::{FileBytes, MemorySink, MemoryStore};

@@ -5,13 +5,9 @@ ghost use Rattle.flux_doors.specs.Memory.{door_out};
 
 use crate::audits::{audit_words, audit_world};
 use crate::calls::{CountingGate, calls_in};
-use crate::cases::Case;
-use crate::differences::Differences;
-use crate::entries::{Entry, Line, Stream};
 use crate::links::clients_of;
-use crate::reports::Report;
-use crate::troubles::Trouble;
 use crate::worlds::{Memories, world_of};
+use case_files::{Case, Differences, Entry, Line, Report, Stream, Trouble};
 use flux_driver::{needs_threads, top};
 use flux_spelling::append_text;
 use flux_values::{Bytes, Memory};

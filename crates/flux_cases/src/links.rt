@@ -3,8 +3,7 @@
 ghost use Rattle.std.specs.Prelude.{◌≡◌, IfOk};
 ghost use Rattle.flux_doors.specs.Memory.{door_out};
 
-use crate::cases::Case;
-use crate::entries::{Entry, Line, Part, Stream};
+use case_files::{Case, Entry, Line, Part, Stream};
 use flux_doors::{MemoryDoor, MemoryLink};
 use flux_outside::MemorySink;
 use flux_values::{Bytes, List, Memory};
@@ -83,9 +82,20 @@ pub fn door(alloc: Global, case: &Case) -> Result<MemoryDoor, Memory>
 fn link(alloc: Global, case: &Case, client: &Client) -> Result<MemoryLink, Memory> {
     let shape = case.link_shape(client.lines);
     let piece = shape.piece.unwrap_or(ROOM).max(1);
-    let writes = case.link_fails(alloc, client.lines, Part::Stream(Stream::Link))?;
-    let written = MemorySink::new(alloc, shape.room.unwrap_or(ROOM), piece, writes)?;
+    let written = sink(alloc, case, client.lines, shape.room.unwrap_or(ROOM), piece)?;
     let reads = case.link_fails(alloc, client.lines, Part::Reads)?;
     let input = Bytes::copy(alloc, client.input)?;
     Ok(MemoryLink::new(input, piece, written, reads))
+}
+
+/// What a link's reply is written to.
+fn sink(
+    alloc: Global,
+    case: &Case,
+    lines: &[Line],
+    room: usize,
+    piece: usize,
+) -> Result<MemorySink, Memory> {
+    let writes = case.link_fails(alloc, lines, Part::Stream(Stream::Link))?;
+    MemorySink::new(alloc, room, piece, writes)
 }

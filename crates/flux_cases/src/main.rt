@@ -6,24 +6,14 @@
 #![tactic(auto)]
 
 mod audits;
-mod bodies;
 mod calls;
-mod cases;
-mod differences;
-mod entries;
 mod judging;
-mod lines;
 mod links;
-mod reports;
-mod settings;
-mod spellings;
-mod troubles;
 mod watched;
 mod worlds;
 
+use case_files::{Report, Trouble, read_lines};
 use judging::judge_file;
-use lines::read_lines;
-use reports::Report;
 use std::alloc::Global;
 use std::fs;
 use std::io::Write;
@@ -31,7 +21,6 @@ use std::marker::Sync;
 use std::process::ExitCode;
 use std::sync::Wait;
 use std::thread::Threads;
-use troubles::Trouble;
 
 /// The names of the case files of the folder that the program runs in, in order.
 fn file_names(rt: &HostRuntime) -> Result<Vec<String>, Trouble> {

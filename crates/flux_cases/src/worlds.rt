@@ -3,10 +3,9 @@
 ghost use Rattle.std.specs.Prelude.{◌≡◌, ◌<◌, IfOk};
 ghost use Rattle.flux_doors.specs.Memory.{door_out};
 
-use crate::cases::{Case, Shape};
-use crate::entries::{Entry, Part, Stream};
 use crate::links::door;
 use crate::watched::{Names, WatchedFolder, WatchedStore};
+use case_files::{Case, Entry, Part, Shape, Stream};
 use flux_doors::MemoryDoor;
 use flux_driver::World;
 use flux_outside::{FileBytes, MemoryFolder, MemorySink, MemoryStore};
