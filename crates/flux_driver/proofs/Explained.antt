@@ -1,6 +1,8 @@
 -- Why each status comes, from what a call of the program has done.
 use Rattle.std.proofs.Common.{◌≡◌, ◌⊎◌, inl, inr, ℕ, List, refl}
-use Rattle.flux_words.specs.Commands.{Command, Spells, SpellsNone}
+use Rattle.flux_words.specs.Commands.{
+  Command, Spells, SpellsNone, IsServe, check, plan, format, run, audit, load, serve, help
+}
 use Rattle.flux_driver.specs.declared.statuses.Status.{Status}
 use Rattle.flux_driver.specs.declared.statuses.Status.TheVariants as statuses
 use Rattle.flux_driver.specs.Worlds.{Seen}
@@ -8,9 +10,23 @@ use Rattle.flux_serve.specs.declared.batches.ServeEnd.{ServeEnd}
 use Rattle.flux_serve.specs.declared.batches.ServeEnd.TheVariants as ends
 use Rattle.flux_driver.specs.Answers.{Libraries, Decided, Happened, IsAnswer, OrMemory}
 use Rattle.flux_driver.specs.Serving.{end_status, HasServedWords}
-use Rattle.flux_driver.specs.Top.{HasAnswered, HasDone, Decides}
+use Rattle.flux_driver.specs.Top.{HasAnswered, HasDone, Decides, SpellNoServe}
 use Rattle.flux_driver.proofs.Answering.{of_command, not_read, not_write}
-use Rattle.flux_driver.specs.Explained.{IsCause, HasCause, StatusesHaveCauses, CausesAreAnswered, UsageIsForNoCommand}
+use Rattle.flux_driver.specs.Explained.{
+  IsCause, IsExplained, StatusesHaveCauses, CausesAreAnswered, NoCommandIsUsage, UsageIsForNoCommand
+}
+
+-- words that spell no `serve` spell a command that is none
+no_serve : (words : List (List ℕ)) (command : Command) → Spells words command → SpellNoServe words
+    → IsServe command → ⊥
+no_serve words (check file) spelled none is = is
+no_serve words (plan file) spelled none is = is
+no_serve words (format file) spelled none is = is
+no_serve words (run file items manner) spelled none is = is
+no_serve words (audit file items journal docs) spelled none is = is
+no_serve words (load count first runtime) spelled none is = is
+no_serve words (serve file serving) spelled none is = none file serving spelled
+no_serve words help spelled none is = is
 
 module _ (library : Libraries) (words : List (List ℕ)) (before after : Seen) (command : Command) where
   abbrev Is : Status → List ℕ → List ℕ → Type 0
@@ -57,7 +73,7 @@ module _ (library : Libraries) (words : List (List ℕ)) (before after : Seen) (
   short other text line answer memory spelled = absurd cc
 
   cause_of : (status : Status) → Spells words command → HasDone library words before status after
-      → HasAnswered library words before status after → HasCause library command before after status
+      → HasAnswered library words before status after → IsExplained library command before after status
   cause_of status spelled done answered =
       let text = answered.text in
       let line = answered.line in
@@ -72,13 +88,14 @@ module _ (library : Libraries) (words : List (List ℕ)) (before after : Seen) (
         out = answered.out;
         err = answered.err;
         door = answered.door;
+        other = λ e. no_serve words command spelled (answered.other e);
       }
 
 pub statuses_have_causes : StatusesHaveCauses
 statuses_have_causes library words before after status command spelled done = either done.answered
   where
     either : HasAnswered library words before status after ⊎ HasServedWords library words before status after
-        → HasCause library command before after status ⊎ HasServedWords library words before status after
+        → IsExplained library command before after status ⊎ HasServedWords library words before status after
     either (inl answered) = inl (cause_of library words before after command status spelled done answered)
     either (inr served) = inr served
 
@@ -92,6 +109,9 @@ causes_are_answered library words before after status due text line command spel
     settled (inl (inr (inr (inl write, due)))) = absurd (not_write library words before after status rose done write)
     settled (inl (inr (inr (inr door, due)))) = absurd (shut (done.entrance door))
     settled (inr memory) = inr memory
+
+pub no_command_is_usage : NoCommandIsUsage
+no_command_is_usage library words before after status none done = done.usage none
 
 pub usage_is_for_no_command : UsageIsForNoCommand
 usage_is_for_no_command library words before after done = either done.answered

@@ -1,8 +1,9 @@
--- Every status has its cause, and every cause its status: the headline's other half.
+-- Every status has its cause, and what files and folder decide has its status: the headline's other
+-- half. That a count of failures rises with no status but its own is in `Top`.
 use Rattle.std.specs.Prelude.{◌≡◌, ◌⊎◌, List, [], ℕ}
 use Rattle.flux_outside.specs.Causes.{Rose}
 use Rattle.flux_outside.specs.Streams.{Wrote, Broke, WroteOrBroke}
-use Rattle.flux_words.specs.Commands.{Command, Spells, SpellsNone}
+use Rattle.flux_words.specs.Commands.{Command, Spells, SpellsNone, IsServe}
 use Rattle.flux_driver.specs.declared.statuses.Status.{Status}
 use Rattle.flux_driver.specs.declared.statuses.Status.TheVariants as statuses
 use Rattle.flux_driver.specs.Worlds.{Seen}
@@ -41,8 +42,8 @@ IsCause library command before after other text line =
     Decided library command before.told other text line
 
 -- a status with its cause; the text is on `out` and the line on `err`, or a front of it where
--- writing there failed; the door is as it was
-pub record HasCause (library : Libraries) (command : Command) (before after : Seen)
+-- writing there failed; the door is as it was, so that no `serve` ends with 0
+pub record IsExplained (library : Libraries) (command : Command) (before after : Seen)
     (status : Status) : Type 0 where
   pub text : List ℕ
   pub line : List ℕ
@@ -51,6 +52,7 @@ pub record HasCause (library : Libraries) (command : Command) (before after : Se
       ⊎ (MayBreak status × Broke before.out after.out text)
   pub err : WroteOrBroke before.err after.err line
   pub door : after.door ≡ before.door
+  pub other : status ≡ statuses.Done → IsServe command → ⊥
 
 -- where the words spell a command, each status that the program answers has its cause, or `serve`
 -- has served, and its end has this status
@@ -58,7 +60,7 @@ abbrev pub StatusesHaveCauses : Type 0
 StatusesHaveCauses = (library : Libraries) (words : List (List ℕ)) (before after : Seen)
     (status : Status) (command : Command) → Spells words command
     → HasDone library words before status after
-    → HasCause library command before after status
+    → IsExplained library command before after status
     ⊎ HasServedWords library words before status after
 
 -- what the files and the folder decide is answered, where all that the command reads is told and no
@@ -70,7 +72,13 @@ CausesAreAnswered = (library : Libraries) (words : List (List ℕ)) (before afte
     → NoneRose before after → (DoorFailed before after → ⊥)
     → HasDone library words before status after → OrMemory status (status ≡ due)
 
--- status 2 comes for words that are no command, and for no others
+-- status 2 comes for words that are no command, unless memory was short
+abbrev pub NoCommandIsUsage : Type 0
+NoCommandIsUsage = (library : Libraries) (words : List (List ℕ)) (before after : Seen)
+    (status : Status) → SpellsNone words → HasDone library words before status after
+    → OrMemory status (status ≡ statuses.Usage)
+
+-- and for no others
 abbrev pub UsageIsForNoCommand : Type 0
 UsageIsForNoCommand = (library : Libraries) (words : List (List ℕ)) (before after : Seen)
     → HasDone library words before statuses.Usage after → SpellsNone words

@@ -6,7 +6,8 @@
 -- hold, the texts below are those; of a real one, which doesn't tell, they are some texts within
 -- the limits. A manner is what the options say: the runtime, the folder of documents, the format.
 -- `Libraries` gives what the library's nodes mean, by its documents. `Holds` are the locks of each
--- node. `OrMemory` allows one status more: 12, where memory was short.
+-- node. `OrMemory` allows one status more: 12, where memory was short. The laws hold for every
+-- library; the one of `top` is `built_in`, of the file `BuiltIn`.
 --
 -- That a journal is legal says that its locks are the program's, and that
 --   each flow follows the walk of its source text;
@@ -20,6 +21,7 @@ use Rattle.flux_library.specs.Documents.{DocMap}
 use Rattle.flux_model.specs.declared.items.Item.{Item}
 use Rattle.flux_model.specs.Locks.{Holds}
 use Rattle.flow_model.specs.declared.journals.Journal.{Journal}
+use Rattle.flow_model.specs.Setup.{Setup}
 use Rattle.flow_model.specs.Legal.{IsLegal, IsWhole}
 use Rattle.flux_items.specs.declared.rules.ItemFault.{ItemFault}
 use Rattle.flux_items.specs.Items.{AreItemsOf}
@@ -61,11 +63,19 @@ pub record IsThere (library : Libraries) (told : Told) (file items : List ℕ) (
   pub items_text : List ℕ
   pub in_items : Gives told.files items ITEMS_FILE_LIMIT (Found items_text)
 
+-- what a journal of these items is judged by: the program of the text, with these locks, empty cells
+-- at the start, and the library
+abbrev pub setup_there : {library : Libraries} {told : Told} {file items : List ℕ} {manner : Manner}
+    → IsThere library told file items manner → Holds → List Item → Setup
+setup_there {library} there locks its =
+    setup_of (program_of there.decls) locks its (library there.docs)
+
 -- what `run` has done:
 --   its, are_items   the items of the items' text;
---   legal, whole     a journal of their flows through the program of the text, with its locks, empty cells
---                    and the library, is legal, and each flow in it is one whole path;
---   order            the flows went on in the order of the runtime that the words name;
+--   journal, locks   a journal of their flows through the program of the text, and the program's locks;
+--   legal, whole     that journal is legal, and each flow in it is one whole path;
+--   order            from an empty journal on the flows went on in the order of the runtime that the
+--                    words name; by threads in any;
 --   printed          `out` has gained this journal's printed text in the format that they name, and no more;
 --   silent           `err` has gained nothing.
 pub record HasRun (library : Libraries) (before after : Seen) (file items : List ℕ) (manner : Manner)
@@ -76,13 +86,9 @@ pub record HasRun (library : Libraries) (before after : Seen) (file items : List
       AreItemsOf (rules_in (library own.docs) own.decls own.sound) its own.items_text
   pub journal : Journal
   pub locks : Holds
-  pub legal : let own = there in
-      IsLegal (setup_of (program_of own.decls) locks its (library own.docs)) journal.entries
-  pub whole : let own = there in
-      IsWhole (setup_of (program_of own.decls) locks its (library own.docs)) journal.entries
-  pub order : let own = there in
-      IsOrderOf manner.runtime (setup_of (program_of own.decls) locks its (library own.docs)) []
-      journal.entries
+  pub legal : IsLegal (setup_there there locks its) journal.entries
+  pub whole : IsWhole (setup_there there locks its) journal.entries
+  pub order : IsOrderOf manner.runtime (setup_there there locks its) [] journal.entries
   pub printed : let own = there in Gains before.out after.out
       (printed_in manner.journal (program_of own.decls) (length its) journal)
   pub silent : Gains before.err after.err []
@@ -94,7 +100,7 @@ RunsAreTrue = (library : Libraries) (words : List (List ℕ)) (before after : Se
     → Spells words (run file items manner) → HasDone library words before statuses.Done after
     → HasRun library before after file items manner
 
--- no count of failures rose, but perhaps that of `err`
+-- no count of the store, of the folder or of `out` rose
 pub record NoneRose (before after : Seen) : Type 0 where
   pub store : let own = before.store in let later = after.store in Rose own.faults later.faults → ⊥
   pub folder : let own = before.folder in let later = after.folder in Rose own.faults later.faults → ⊥

@@ -4,7 +4,7 @@ ghost use Rattle.flux_driver.specs.Headline.{RunsAreTrue, RunsAreAnswered};
 ghost use Rattle.flux_driver.specs.Audits.{YesIsTrue, NoIsTrue, AuditsAreAnswered};
 ghost use Rattle.flux_driver.specs.Loads.{LoadsAreTrue, LoadsAreAnswered};
 ghost use Rattle.flux_driver.specs.ServedHeadline.{ServingIsTrue, ServingIsAnswered};
-ghost use Rattle.flux_driver.specs.Explained.{StatusesHaveCauses, CausesAreAnswered, UsageIsForNoCommand};
+ghost use Rattle.flux_driver.specs.Explained.{StatusesHaveCauses, CausesAreAnswered, NoCommandIsUsage, UsageIsForNoCommand};
 
 /// Where the words spell `run` and `top` has answered 0, it has printed the journal of a true run of the items of the
 /// one file through the program of the other.
@@ -56,9 +56,10 @@ pub fn serving_is_answered()
 
 /// Each status that `top` answers has its cause, and what the files and the folder of a command decide is what `top`
 /// answers, where all of it is told, no reading or writing fails, nor the door, and memory isn't short. Status 2 is for
-/// words that are no command.
+/// words that are no command, and for no others.
 pub fn statuses_are_explained()
     ensures causes { StatusesHaveCauses }
     ensures answered { CausesAreAnswered }
+    ensures none { NoCommandIsUsage }
     ensures usage { UsageIsForNoCommand }
 {}
