@@ -34,7 +34,9 @@ pub fn gather<D: Door>(alloc: Global, door: &mut D) -> Result<VecDeque<D::Link>,
     ensures out { IfOk result (λ links. D.out door.new ≡ deque_len links) }
     ensures none_out { OnErr result (D.out door.new ≡ 0) }
     ensures back { D.taken_back door.new ≡ D.taken_back door.old }
+    ensures open { D.open_at door.new ≡ D.open_at door.old }
     ensures steady { OnOk result (D.faults door.new ≡ D.faults door.old) }
+    ensures unless { (result ≡ Err NoBatch.Door → ⊥) → D.faults door.new ≡ D.faults door.old }
     ensures closed { result ≡ Err NoBatch.Closed → IfSome (D.to_come door.old) (λ batches. first_link (waiting batches) ≡ None) }
     ensures failed { result ≡ Err NoBatch.Door → Rose (D.faults door.old) (D.faults door.new) }
     ensures later { (D.faults door.old ≤ D.faults door.new) × (D.late door.old ≤ D.late door.new) }
@@ -61,6 +63,7 @@ pub fn give_back<D: Door>(door: &mut D, links: VecDeque<D::Link>)
     ensures out { D.out door.new ≡ 0 }
     ensures back { TakesBack (D.taken_back door.old) (D.taken_back door.new) links.items }
     ensures kept { D.to_come door.new ≡ D.to_come door.old }
+    ensures open { D.open_at door.new ≡ D.open_at door.old }
     ensures counts { (D.faults door.new ≡ D.faults door.old) × (D.late door.new ≡ D.late door.old) }
 {
     let mut links = links;
@@ -75,6 +78,7 @@ pub fn give_back_held<D: Door>(door: &mut D, links: VecDeque<Held<D::Link>>)
     ensures out { D.out door.new ≡ 0 }
     ensures back { TakesBack (D.taken_back door.old) (D.taken_back door.new) (map (λ held. held.link) links.items) }
     ensures kept { D.to_come door.new ≡ D.to_come door.old }
+    ensures open { D.open_at door.new ≡ D.open_at door.old }
     ensures counts { (D.faults door.new ≡ D.faults door.old) × (D.late door.new ≡ D.late door.old) }
 {
     let mut links = links;

@@ -88,6 +88,7 @@ pub fn answer_links<D: Door>(door: &mut D, links: VecDeque<Held<D::Link>>, entri
         (λ link. record { left = D.Link.left link; written = D.Link.written link; faults = D.Link.faults link })
         entries.now links.items (D.taken_back door.old) (D.taken_back door.new) }
     ensures kept { D.to_come door.new ≡ D.to_come door.old }
+    ensures open { D.open_at door.new ≡ D.open_at door.old }
     ensures counts { (D.faults door.new ≡ D.faults door.old) × (D.late door.new ≡ D.late door.old) }
 {
     let mut links = links;

@@ -3,6 +3,11 @@ use Rattle.std.specs.Prelude.{◌≡◌, ℕ, ◌+◌, Bool, true, false, List, 
 use Rattle.flux_outside.specs.Causes.{HasCause}
 use Rattle.flux_outside.specs.declared.faults.Failed.{Failed}
 
+-- the port that a door is open at behind an opening: one that failed leaves it as it was
+abbrev pub opened_at : {T : Type 0} → ℕ → Option ℕ → Result T Failed → Option ℕ
+opened_at port before (Ok answer) = Some port
+opened_at port before (Err failed) = before
+
 -- the batches that are left, from the first that has links; where none has, one without links
 abbrev pub waiting : {L : Type 0} → List (List L) → List (List L)
 waiting [] = [] ∷ []

@@ -1,5 +1,5 @@
 -- What links and doors in memory hold, and when their calls fail.
-use Rattle.std.specs.Prelude.{◌≡◌, ℕ, ◌+◌, ◌-◌, ◌<◌, min, List, [], ◌∷◌, map, drop, length}
+use Rattle.std.specs.Prelude.{◌≡◌, ℕ, ◌+◌, ◌-◌, ◌<◌, min, List, [], ◌∷◌, map, drop, length, Option, None}
 use Rattle.std.specs.VecDeque.{deque_items}
 use Rattle.flux_outside.specs.Calls.{no_calls, one_more, IsToFail}
 use Rattle.flux_outside.specs.Memory.{sink_bytes, SinkTakes, SinkWasCalled}
@@ -53,9 +53,12 @@ LinkWasWritten before after =
 abbrev pub door_links : MemoryDoor → List (List MemoryLink)
 door_links door = door.begun.items ∷ map deque_items door.later.items
 
--- the links taken back, how many are out, and the counts of faults
+-- the links taken back, the port that it is open at, how many links are out, and the counts of faults
 abbrev pub door_back : MemoryDoor → List MemoryLink
 door_back door = door.back.items
+
+abbrev pub door_port : MemoryDoor → Option ℕ
+door_port door = door.port
 
 abbrev pub door_out : MemoryDoor → ℕ
 door_out door = door.out
@@ -66,10 +69,11 @@ door_faults door = door.faults
 abbrev pub door_late : MemoryDoor → ℕ
 door_late door = door.late
 
--- a new door has none taken back and none out, has these failing calls, and wasn't called yet
+-- a new door has none taken back and none out, isn't open, has these failing calls, and wasn't called yet
 abbrev pub IsNewDoor : MemoryDoor → List ℕ → Type 0
 IsNewDoor door fails =
-    (door_back door ≡ []) × (door_out door ≡ 0) × (door_faults door ≡ 0) × (door_late door ≡ 0)
+    (door_back door ≡ []) × (door_port door ≡ None) × (door_out door ≡ 0)
+    × (door_faults door ≡ 0) × (door_late door ≡ 0)
     × (door.calls ≡ no_calls fails)
 
 -- its next call is to fail

@@ -3,7 +3,7 @@
 ghost use Rattle.std.specs.Prelude.{◌≡◌, ℕ, ◌+◌, ◌<◌, [], ◌∷◌, ◌++◌, List, Option, IfOk, IfSome};
 ghost use Rattle.std.specs.Option.{option_map};
 ghost use Rattle.flux_outside.specs.Causes.{HasCause};
-ghost use Rattle.flux_doors.specs.Doors.{looked_at, first_link, left_behind, HasAcceptCause, out_after};
+ghost use Rattle.flux_doors.specs.Doors.{opened_at, looked_at, first_link, left_behind, HasAcceptCause, out_after};
 
 use crate::links::Link;
 use flux_outside::Failed;
@@ -21,6 +21,9 @@ pub trait Door {
     /// The links taken back, where they are told.
     ghost taken_back: { Self → Option (List Self.Link) };
 
+    /// The port that it is open at; None where it isn't open.
+    ghost open_at: { Self → Option ℕ };
+
     /// How many links are out: given, and not taken back.
     ghost out: { Self → ℕ };
 
@@ -32,6 +35,7 @@ pub trait Door {
 
     /// Opens the door at a port.
     fn open(&mut self, port: u16) -> Result<(), Failed>
+        ensures opened { open_at self.new ≡ opened_at port (open_at self.old) result }
         ensures kept { (to_come self.new ≡ to_come self.old) × (taken_back self.new ≡ taken_back self.old) }
         ensures out { out self.new ≡ out self.old }
         ensures late { late self.new ≡ late self.old }
@@ -44,6 +48,7 @@ pub trait Door {
         ensures given { IfSome (to_come self.old) (λ links. IfOk result (λ link. link ≡ first_link (looked_at first links))) }
         ensures left { to_come self.new ≡ option_map (left_behind first result) (to_come self.old) }
         ensures kept { taken_back self.new ≡ taken_back self.old }
+        ensures stays { open_at self.new ≡ open_at self.old }
         ensures out { out self.new ≡ out_after (out self.old) result }
         ensures cause { HasAcceptCause first
             (record { faults = faults self.old; late = late self.old })
@@ -55,5 +60,6 @@ pub trait Door {
         ensures back { taken_back self.new ≡ option_map (λ links. links ++ link ∷ []) (taken_back self.old) }
         ensures out { out self.new + 1 ≡ out self.old }
         ensures kept { to_come self.new ≡ to_come self.old }
+        ensures stays { open_at self.new ≡ open_at self.old }
         ensures counts { (faults self.new ≡ faults self.old) × (late self.new ≡ late self.old) };
 }

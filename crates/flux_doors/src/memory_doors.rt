@@ -19,6 +19,7 @@ pub struct MemoryDoor {
     later: VecDeque<VecDeque<MemoryLink>>,
     /// The links taken back, with room for all.
     back: Vec<MemoryLink>,
+    port: Option<u16>,
     out: usize,
     calls: Calls,
     faults: u64,
@@ -74,6 +75,7 @@ impl MemoryDoor {
             begun: VecDeque::new(alloc),
             later,
             back,
+            port: None,
             out: 0,
             calls: Calls::new(fails),
             faults: 0,
@@ -92,6 +94,7 @@ impl MemoryDoor {
     fn begin(&mut self)
         ensures links { door_links self.new ≡ waiting (door_links self.old) }
         ensures back { (self.new.back ≡ self.old.back) × (self.new.out ≡ self.old.out) }
+        ensures port { self.new.port ≡ self.old.port }
         ensures calls { self.new.calls ≡ self.old.calls }
         ensures counts { (self.new.faults ≡ self.old.faults) × (self.new.late ≡ self.old.late) }
     {
@@ -108,8 +111,8 @@ impl Door for MemoryDoor {
     ghost use Rattle.std.specs.Prelude.{◌≡◌, ◌<◌, ◌+◌, ◌↔◌, ◌++◌, ◌∷◌, [], Some, IfOk, IfSome, IsErr};
     ghost use Rattle.std.specs.Option.{option_map};
     ghost use Rattle.flux_outside.specs.Causes.{HasCause};
-    ghost use Rattle.flux_doors.specs.Doors.{looked_at, first_link, left_behind, HasAcceptCause, out_after};
-    ghost use Rattle.flux_doors.specs.Memory.{door_links, door_back, door_out, door_faults, door_late, DoorIsToFail, DoorWasCalled};
+    ghost use Rattle.flux_doors.specs.Doors.{opened_at, looked_at, first_link, left_behind, HasAcceptCause, out_after};
+    ghost use Rattle.flux_doors.specs.Memory.{door_links, door_back, door_port, door_out, door_faults, door_late, DoorIsToFail, DoorWasCalled};
 
     type Link = MemoryLink;
 
@@ -117,13 +120,16 @@ impl Door for MemoryDoor {
 
     ghost taken_back = { λ door. Some (door_back door) };
 
+    ghost open_at = { λ door. door_port door };
+
     ghost out = { λ door. door_out door };
 
     ghost faults = { λ door. door_faults door };
 
     ghost late = { λ door. door_late door };
 
-    fn open(&mut self, _port: u16) -> Result<(), Failed>
+    fn open(&mut self, port: u16) -> Result<(), Failed>
+        ensures opened { door_port self.new ≡ opened_at port (door_port self.old) result }
         ensures kept { (Some (door_links self.new) ≡ Some (door_links self.old)) × (Some (door_back self.new) ≡ Some (door_back self.old)) }
         ensures out { door_out self.new ≡ door_out self.old }
         ensures late { door_late self.new ≡ door_late self.old }
@@ -135,6 +141,7 @@ impl Door for MemoryDoor {
         if self.calls.count() {
             return Err(count_failure(&mut self.faults));
         }
+        self.port = Some(port);
         Ok(())
     }
 
@@ -143,6 +150,7 @@ impl Door for MemoryDoor {
         ensures given { IfSome (Some (door_links self.old)) (λ links. IfOk result (λ link. link ≡ first_link (looked_at first links))) }
         ensures left { Some (door_links self.new) ≡ option_map (left_behind first result) (Some (door_links self.old)) }
         ensures kept { Some (door_back self.new) ≡ Some (door_back self.old) }
+        ensures stays { door_port self.new ≡ door_port self.old }
         ensures out { door_out self.new ≡ out_after (door_out self.old) result }
         ensures cause { HasAcceptCause first
             (record { faults = door_faults self.old; late = door_late self.old })
@@ -172,6 +180,7 @@ impl Door for MemoryDoor {
         ensures back { Some (door_back self.new) ≡ option_map (λ links. links ++ link ∷ []) (Some (door_back self.old)) }
         ensures out { door_out self.new + 1 ≡ door_out self.old }
         ensures kept { Some (door_links self.new) ≡ Some (door_links self.old) }
+        ensures stays { door_port self.new ≡ door_port self.old }
         ensures counts { (door_faults self.new ≡ door_faults self.old) × (door_late self.new ≡ door_late self.old) }
         // No call is counted.
         ensures called { self.new.calls ≡ self.old.calls }

@@ -18,6 +18,7 @@ const TRIES: u32 = 1_000_000;
 pub struct RealDoor<R: Net + Clock + Copy> {
     runtime: R,
     listener: Option<R::Listener>,
+    port: Option<u16>,
     out: usize,
     faults: u64,
     late: u64,
@@ -34,6 +35,7 @@ impl<R: Net + Clock + Copy> RealDoor<R> {
         RealDoor {
             runtime,
             listener: None,
+            port: None,
             out: 0,
             faults: 0,
             late: 0,
@@ -74,6 +76,8 @@ impl<R: Net + Clock + Copy> Door for RealDoor<R> {
 
     ghost taken_back = { λ _. None };
 
+    ghost open_at = { λ door. door.port };
+
     ghost out = { λ door. door.out };
 
     ghost faults = { λ door. door.faults };
@@ -87,6 +91,7 @@ impl<R: Net + Clock + Copy> Door for RealDoor<R> {
         {
             Ok(listener) => {
                 self.listener = Some(listener);
+                self.port = Some(port);
                 Ok(())
             }
             Err(_) => Err(count_failure(&mut self.faults)),

@@ -173,7 +173,7 @@ module _ (library : Libraries) (words : List (List ℕ)) (told after : Told) (fo
       reading = record { failed = λ h. let no = sym put.0 ∙ h in absurd cc; steady = λ other. (same.store_, same.folder_) };
       writing = record { failed = λ h. let no = sym put.0 ∙ h in absurd cc; steady = λ other. let wrote = put.1 in wrote.steady };
       usage = λ none. absurd (none prints.0 prints.1);
-      entrance = λ h. let no = sym put.0 ∙ h in absurd cc;
+      entrance = record { failed = λ h. let no = sym put.0 ∙ h in absurd cc; steady = λ other. refl };
       complete = complete_put status (inl put.0);
     }
     text_done status out out_after err err_after door out_later err_later (inr put) = record {
@@ -192,7 +192,7 @@ module _ (library : Libraries) (words : List (List ℕ)) (told after : Told) (fo
       reading = record { failed = λ h. let no = sym put.0 ∙ h in absurd cc; steady = λ other. (same.store_, same.folder_) };
       writing = record { failed = λ h. let broke = put.1 in broke.rose; steady = λ other. absurd (other (subst MayBreak (sym put.0) tt)) };
       usage = λ none. absurd (none prints.0 prints.1);
-      entrance = λ h. let no = sym put.0 ∙ h in absurd cc;
+      entrance = record { failed = λ h. let no = sym put.0 ∙ h in absurd cc; steady = λ other. refl };
       complete = complete_put status (inr put.0);
     }
 
@@ -228,7 +228,7 @@ module _ (library : Libraries) (words : List (List ℕ)) (told after : Told) (fo
       reading = record { failed = λ h. let no = sym put.0 ∙ h in absurd cc; steady = λ other. (same.store_, same.folder_) };
       writing = record { failed = λ h. let no = sym put.0 ∙ h in absurd cc; steady = λ other. absurd (other (subst MayBreak (sym put.0) tt)) };
       usage = λ none. absurd (none prints.0 prints.1);
-      entrance = λ h. let no = sym put.0 ∙ h in absurd cc;
+      entrance = record { failed = λ h. let no = sym put.0 ∙ h in absurd cc; steady = λ other. refl };
       complete = complete_no status put.0;
     }
 
@@ -284,7 +284,7 @@ module _ (library : Libraries) (words : List (List ℕ)) (told after : Told) (fo
           answered = inl answered;
           reading = counted refusal status s t f g counts told_.read own;
           writing = record { failed = λ h. absurd (not_writing own h); steady = λ other. refl };
-          entrance = λ h. absurd (not_door refusal (refused_as own statuses.Door (λ e. absurd cc) h));
+          entrance = record { failed = λ h. absurd (not_door refusal (refused_as own statuses.Door (λ e. absurd cc) h)); steady = λ other. refl };
           usage = usage_told status own;
           complete = complete_told status own;
         }

@@ -107,7 +107,7 @@ causes_are_answered library words before after status due text line command spel
     settled (inl (inl same)) = inl same
     settled (inl (inr (inl read))) = absurd (not_read library words before after status rose done read)
     settled (inl (inr (inr (inl write, due)))) = absurd (not_write library words before after status rose done write)
-    settled (inl (inr (inr (inr door, due)))) = absurd (shut (done.entrance door))
+    settled (inl (inr (inr (inr door, due)))) = let entrance = done.entrance in absurd (shut (entrance.failed door))
     settled (inr memory) = inr memory
 
 pub no_command_is_usage : NoCommandIsUsage

@@ -12,7 +12,7 @@ use Rattle.flux_serve.specs.declared.batches.ServeEnd.{ServeEnd}
 use Rattle.flux_serve.specs.declared.batches.ServeEnd.TheVariants.{Closed, Counted, Door, Log, Memory}
 use Rattle.flux_serve.specs.Batches.{Service}
 use Rattle.flux_serve.specs.Ends.{HasServed}
-use Rattle.flux_serve.proofs.Counted.{door_rose, log_rose, log_same}
+use Rattle.flux_serve.proofs.Counted.{door_rose, door_same, log_rose, log_same}
 use Rattle.flux_words.specs.Behind.{Serving}
 use Rattle.flux_words.specs.Commands.{Command, serve, Spells}
 use Rattle.flux_driver.specs.declared.statuses.Status.{Status}
@@ -23,7 +23,7 @@ use Rattle.flux_driver.specs.Worlds.{Link, Seen}
 use Rattle.flux_driver.specs.Inputs.{HasServable}
 use Rattle.flux_driver.specs.Documents.{AreDocs}
 use Rattle.flux_driver.specs.Answers.{Libraries, OrMemory}
-use Rattle.flux_driver.specs.Serving.{end_status, end_line, sight_of, HasServedFile}
+use Rattle.flux_driver.specs.Serving.{end_status, end_line, sight_of, IsOpened, HasServedFile}
 use Rattle.flux_driver.specs.Top.{HasAsked, MayBreak, AreLater, Decides, IsComplete, HasDone}
 use Rattle.flux_driver.specs.steps.Preparing.{AreSteady, AnswersWords}
 use Rattle.flux_driver.specs.steps.Serving.{command_of, IsReady}
@@ -79,6 +79,9 @@ module _ (library : Libraries) (words : List (List ℕ)) (before after : Seen) (
   door_counted : end_status own_end ≡ statuses.Door → (let own = before.door in let later = after.door in Rose own.faults later.faults)
   door_counted h = door_rose (λ (link : Link). link) own_service serving.batches (sight_of before) (sight_of after) (subst (λ (end : ServeEnd). HasServed (λ (link : Link). link) own_service serving.batches (sight_of before) (sight_of after) end) (is_door own_end h) has.served)
 
+  door_stands : (end_status own_end ≡ statuses.Door → ⊥) → (let own = before.door in let later = after.door in later.faults ≡ own.faults)
+  door_stands other = door_same (λ (link : Link). link) own_service serving.batches (sight_of before) (sight_of after) own_end (λ e. other (ap end_status e)) has.served
+
   abbrev Asked : Status → Type 0
   Asked status = let folder = before.folder in let folder_after = after.folder in let store = before.store in let store_after = after.store in
       HasAsked library words before.told status folder.asked folder_after.asked store.asked store_after.asked
@@ -103,7 +106,7 @@ module _ (library : Libraries) (words : List (List ℕ)) (before after : Seen) (
     answered = inr (record { file = file; serving = serving; spelled = spelled; has = has; is = refl });
     reading = record { failed = λ h. absurd (no_read own_end h); steady = λ other. (same.store_, same.folder_) };
     writing = record { failed = log_counted; steady = log_stands };
-    entrance = door_counted;
+    entrance = record { failed = door_counted; steady = door_stands };
     usage = λ none. absurd (none (serve file serving) spelled);
     complete = complete_end due;
   }
@@ -119,25 +122,28 @@ module _ (library : Libraries) (words : List (List ℕ)) (before after : Seen) (
   own_program = ready.is
 
   served_file : (end : ServeEnd) → (let told = before.told in AreDocs told.folders (option_copied service.docs) docs)
-      → HasServed (λ (link : Link). link) (record { program = checked.program; framing = framing; meaning = library docs }) service.batches (sight_of before) (sight_of after) end → WroteOrBroke before.err after.err (end_line end)
+      → HasServed (λ (link : Link). link) (record { program = checked.program; framing = framing; meaning = library docs }) service.batches (sight_of before) (sight_of after) end
+      → (let own = before.door in let later = after.door in IsOpened end service.port own.open_at later.open_at) → WroteOrBroke before.err after.err (end_line end)
       → HasServedFile library service.file.now (record { port = service.port; batches = service.batches; docs = option_copied service.docs; runtime = service.runtime }) before after
   unfolding has_servable
-  served_file end are served said = record {
+  served_file end are served opened said = record {
     docs = docs;
     are_docs = are;
     there = there_;
     end = end;
+    opened = opened;
     served = subst (λ (p : Program). HasServed (λ (link : Link). link) (record { program = p; framing = framing; meaning = library docs }) service.batches (sight_of before) (sight_of after) end) own_program served;
     said = said;
   }
 
   pub ready_done : (end : ServeEnd) (status : Status) → Spells words (command_of service) → (let told = before.told in AreDocs told.folders (option_copied service.docs) docs)
       → HasServed (λ (link : Link). link) (record { program = checked.program; framing = framing; meaning = library docs }) service.batches (sight_of before) (sight_of after) end
+      → (let own = before.door in let later = after.door in IsOpened end service.port own.open_at later.open_at)
       → WroteOrBroke before.err after.err (end_line end) → after.told ≡ before.told → AreLater before after
       → (let folder = before.folder in let folder_after = after.folder in let store = before.store in let store_after = after.store in HasAsked library words before.told statuses.Done folder.asked folder_after.asked store.asked store_after.asked)
       → (let folder = before.folder in let folder_after = after.folder in let store = before.store in let store_after = after.store in AreSteady store.faults store_after.faults folder.faults folder_after.faults)
       → AnswersWords library words before.told statuses.Done → status ≡ end_status end → HasDone library words before status after
   unfolding served_file
-  ready_done end status spelled are served said kept later asked same due is =
+  ready_done end status spelled are served opened said kept later asked same due is =
       subst (λ (s : Status). HasDone library words before s after) (sym is)
-      (served_done library words before after service.file.now (record { port = service.port; batches = service.batches; docs = option_copied service.docs; runtime = service.runtime }) spelled (served_file end are served said) kept later asked same due)
+      (served_done library words before after service.file.now (record { port = service.port; batches = service.batches; docs = option_copied service.docs; runtime = service.runtime }) spelled (served_file end are served opened said) kept later asked same due)

@@ -53,4 +53,4 @@ serving_answered library words before after status file serving spelled tells th
     decide (inl (inl is)) = inl is
     decide (inl (inr (inl read))) = absurd (no_reading read)
     decide (inl (inr (inr (inl write, is)))) = let writing = done.writing in absurd (none.out (writing.failed write))
-    decide (inl (inr (inr (inr door, is)))) = absurd (still (done.entrance door))
+    decide (inl (inr (inr (inr door, is)))) = let entrance = done.entrance in absurd (still (entrance.failed door))

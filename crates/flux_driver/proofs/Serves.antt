@@ -31,7 +31,7 @@ module _ {L : Type 0} (see : L → Seen) (wanted : ℕ) (some : 0 < wanted) wher
     batches = [];
     mid = sight;
     served = refl;
-    ended = (some, inl (record { came = []; backs = []; formed = inr refl; back = back_none sight.taken_back; unwritten = tt; log_ = refl }));
+    ended = (some, inl (record { came = []; backs = []; formed = inr refl; back = back_none sight.taken_back; unwritten = tt; steady = refl; log_ = refl }));
   }
 
   -- the door failed to open

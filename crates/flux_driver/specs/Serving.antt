@@ -1,5 +1,5 @@
 -- Serving: how it ends, and what it has done.
-use Rattle.std.specs.Prelude.{◌≡◌, ℕ, List, []}
+use Rattle.std.specs.Prelude.{◌≡◌, ◌⊎◌, ⊤, ℕ, List, [], Option, Some}
 use Rattle.flux_library.specs.Documents.{DocMap}
 use Rattle.flux_syntax.specs.ProgramOfText.{program_of}
 use Rattle.flux_outside.specs.Streams.{WroteOrBroke}
@@ -33,6 +33,18 @@ end_line Door = door_line
 end_line Log = write_line
 end_line Memory = []
 
+-- an end before which the door may not have been opened
+abbrev pub MayBeShut : ServeEnd → Type 0
+MayBeShut Closed = ⊥
+MayBeShut Counted = ⊥
+MayBeShut Door = ⊤
+MayBeShut Log = ⊥
+MayBeShut Memory = ⊤
+
+-- the door is open at the port, or stands as it was
+abbrev pub IsOpened : ServeEnd → ℕ → Option ℕ → Option ℕ → Type 0
+IsOpened end port before after = (after ≡ Some port) ⊎ (MayBeShut end × (after ≡ before))
+
 -- what is seen of the door, and of `out`, where the log stands
 abbrev pub sight_of : Seen → Sight Link
 sight_of seen = let door = seen.door in record {
@@ -46,7 +58,8 @@ sight_of seen = let door = seen.door in record {
 -- a file's program was served:
 --   docs, are_docs   with the documents of the folder that the words name;
 --   there            the file has a sound program that can be served;
---   end, served      so many batches were served, or fewer, and serving ended so;
+--   end, opened      serving ended so, and the door is open at the port that the words name, unless it never was;
+--   served           so many batches were served, or fewer;
 --   said             the end's line is on `err`, or a front of it where `err` failed.
 pub record HasServedFile (library : Libraries) (file : List ℕ) (serving : Serving) (before after : Seen)
     : Type 0 where
@@ -54,6 +67,8 @@ pub record HasServedFile (library : Libraries) (file : List ℕ) (serving : Serv
   pub are_docs : let told = before.told in AreDocs told.folders serving.docs docs
   pub there : let told = before.told in HasServable (library docs) told.files (named file)
   pub end : ServeEnd
+  pub opened : let own = before.door in let later = after.door in
+      IsOpened end serving.port own.open_at later.open_at
   pub served : let own = there in HasServed (λ link. link)
       (record { program = program_of own.decls; framing = own.framing; meaning = library docs })
       serving.batches (sight_of before) (sight_of after) end

@@ -104,9 +104,10 @@ pub record RoseForWriting (status : Status) (out out_after : ℕ) : Type 0 where
   pub failed : status ≡ statuses.Write → Rose out out_after
   pub steady : (MayBreak status → ⊥) → out_after ≡ out
 
--- status 7 comes only where the door's count rose
-abbrev pub RoseForDoor : Status → ℕ → ℕ → Type 0
-RoseForDoor status door door_after = status ≡ statuses.Door → Rose door door_after
+-- status 7 comes only where the door's count rose; with any other it stands as before
+pub record RoseForDoor (status : Status) (door door_after : ℕ) : Type 0 where
+  pub failed : status ≡ statuses.Door → Rose door door_after
+  pub steady : status ≢ statuses.Door → door_after ≡ door
 
 -- none of these counts fell
 pub record AreLater (before after : Seen) : Type 0 where
@@ -138,8 +139,8 @@ IsComplete library words told status = (command : Command) → Spells words comm
 --   the status has its cause, and `out` and `err` have gained what belongs to it, and the door stays as it was; or `serve`
 --   has served;
 --   with status 5 the count of the store or of the folder rose, and with any other both stand as
---   before; the same of status 6 and the count of `out`, which may rise with status 8 too; with status 7 that of the
---   door rose;
+--   before; the same of status 6 and the count of `out`, which may rise with status 8 too, and of status 7
+--   and the count of the door;
 --   words that are no command are refused, and what is due is answered, unless memory was short.
 pub record HasDone (library : Libraries) (words : List (List ℕ)) (before : Seen)
     (status : Status) (after : Seen) : Type 0 where

@@ -31,11 +31,12 @@ pub record Giver : Type 0 where
 abbrev pub Link : Type 0
 Link = links.Seen
 
--- a door: the links to come, by their batches, and those taken back, where they are told; how often opening or a first
--- accept has failed, and how often a later accept
+-- a door: the links to come, by their batches, and those taken back, where they are told; the port that it is open at; how
+-- often opening or a first accept has failed, and how often a later accept
 pub record Doorway : Type 0 where
   pub to_come : Option (List (List Link))
   pub taken_back : Option (List Link)
+  pub open_at : Option ℕ
   pub faults : ℕ
   pub late : ℕ
 
@@ -52,11 +53,12 @@ pub record Seen : Type 0 where
 abbrev pub link_by : {K : Type 0} → (K → Option (List ℕ)) → (K → Option (List ℕ)) → (K → ℕ) → K → Link
 link_by left written faults link = record { left = left link; written = written link; faults = faults link }
 
-abbrev pub door_by : {D K : Type 0} → (K → Link) → (D → Option (List (List K))) → (D → Option (List K)) → (D → ℕ)
-    → (D → ℕ) → D → Doorway
-door_by see to_come taken_back faults late door = record {
+abbrev pub door_by : {D K : Type 0} → (K → Link) → (D → Option (List (List K))) → (D → Option (List K))
+    → (D → Option ℕ) → (D → ℕ) → (D → ℕ) → D → Doorway
+door_by see to_come taken_back open_at faults late door = record {
   to_come = option_map (map (map see)) (to_come door);
   taken_back = option_map (map see) (taken_back door);
+  open_at = open_at door;
   faults = faults door;
   late = late door;
 }

@@ -48,7 +48,7 @@ fn act<
     requires printed { (command : Command) → Spells words.now command → IsServe command → ⊥ }
     ensures door { world.new.door ≡ world.old.door }
     ensures done { let seen = seen_by S.files S.asked S.faults F.folders F.asked F.faults O.written O.faults
-        E.written E.faults (door_by (link_by D.Link.left D.Link.written D.Link.faults) D.to_come D.taken_back D.faults D.late) in
+        E.written E.faults (door_by (link_by D.Link.left D.Link.written D.Link.faults) D.to_come D.taken_back D.open_at D.faults D.late) in
         HasDone built_in words.now (seen world.old) result (seen world.new) }
 {
     match prepare_words(alloc, &mut world.store, &mut world.folder, driver, words) {
@@ -69,7 +69,7 @@ pub fn top_alone<S: Store, F: Folder, O: Sink, E: Sink, D: Door, G: Gate>(
     requires { (command : Command) → Spells words.now command → NeedsThreads command → ⊥ }
     ensures door { world.new.door ≡ world.old.door }
     ensures done { let seen = seen_by S.files S.asked S.faults F.folders F.asked F.faults O.written O.faults
-        E.written E.faults (door_by (link_by D.Link.left D.Link.written D.Link.faults) D.to_come D.taken_back D.faults D.late) in
+        E.written E.faults (door_by (link_by D.Link.left D.Link.written D.Link.faults) D.to_come D.taken_back D.open_at D.faults D.late) in
         HasDone built_in words.now (seen world.old) result (seen world.new) }
 {
     act(
@@ -96,7 +96,7 @@ fn serve_words<S: Store, F: Folder, O: Sink, E: Sink, D: Door, G: Gate, Rt: Thre
     // Each accepted link has gone back to the door.
     ensures out { D.out world.new.door ≡ 0 }
     ensures done { let seen = seen_by S.files S.asked S.faults F.folders F.asked F.faults O.written O.faults
-        E.written E.faults (door_by (link_by D.Link.left D.Link.written D.Link.faults) D.to_come D.taken_back D.faults D.late) in
+        E.written E.faults (door_by (link_by D.Link.left D.Link.written D.Link.faults) D.to_come D.taken_back D.open_at D.faults D.late) in
         HasDone built_in words.now (seen world.old) result (seen world.new) }
 {
     match ready_words(alloc, &mut world.store, &mut world.folder, words) {
@@ -138,7 +138,7 @@ pub fn top<
     // Each accepted link has gone back to the door.
     ensures out { D.out world.new.door ≡ 0 }
     ensures done { let seen = seen_by S.files S.asked S.faults F.folders F.asked F.faults O.written O.faults
-        E.written E.faults (door_by (link_by D.Link.left D.Link.written D.Link.faults) D.to_come D.taken_back D.faults D.late) in
+        E.written E.faults (door_by (link_by D.Link.left D.Link.written D.Link.faults) D.to_come D.taken_back D.open_at D.faults D.late) in
         HasDone built_in words.now (seen world.old) result (seen world.new) }
 {
     if !needs_threads(words) {
@@ -179,7 +179,7 @@ pub fn answer<
     ensures words { IsErr words → result ≡ Status.Memory }
     ensures world { IsErr world → result ≡ Status.Memory }
     ensures done { let seen = seen_by S.files S.asked S.faults F.folders F.asked F.faults O.written O.faults
-        E.written E.faults (door_by (link_by D.Link.left D.Link.written D.Link.faults) D.to_come D.taken_back D.faults D.late) in
+        E.written E.faults (door_by (link_by D.Link.left D.Link.written D.Link.faults) D.to_come D.taken_back D.open_at D.faults D.late) in
         IfOk words (λ given. IfOk world (λ before. (after : Seen)
         × HasDone built_in given (seen before) result after)) }
 {

@@ -7,6 +7,7 @@ ghost use Rattle.flux_model.specs.Soundness.{IsSound};
 ghost use Rattle.flux_serve.specs.Served.{IsServed, CanServe};
 ghost use Rattle.flux_serve.specs.Batches as batches;
 ghost use Rattle.flux_serve.specs.Ends.{HasServed};
+ghost use Rattle.flux_driver.specs.Serving.{IsOpened};
 
 use crate::services::{Ready, Service};
 use flow_core::Gate;
@@ -64,6 +65,7 @@ pub fn serve_ready<L: Library, D: Door, O: Sink, G: Gate, Rt: Threads + Wait + S
     requires out { D.out door.old ≡ 0 }
     // Each accepted link has gone back to the door.
     ensures out { D.out door.new ≡ 0 }
+    ensures opened { IsOpened result service.entry.port (D.open_at door.old) (D.open_at door.new) }
     ensures later { (D.faults door.old ≤ D.faults door.new) × (D.late door.old ≤ D.late door.new) }
     ensures later_log { O.faults log.old ≤ O.faults log.new }
     ensures served { let own : batches.Service = (record { program = ready.checked.program; framing = ready.framing; meaning = L.meaning (arc_value ready.library) }) in
@@ -100,8 +102,8 @@ pub fn serve_ready<L: Library, D: Door, O: Sink, G: Gate, Rt: Threads + Wait + S
     }
     let mut runtime = Chosen::by(service.runtime);
     serve(
-        alloc,
         rt,
+        alloc,
         &served,
         door,
         log,

@@ -165,12 +165,13 @@ module _ {L : Type 0} (see : L → Seen) where
     formed = formed_seen before after u.came u.formed;
     back = taken_seen before.taken_back after.taken_back u.backs u.back;
     unwritten = unwritten_seen u.came u.backs u.unwritten;
+    steady = u.steady;
     log_ = u.log_;
   }
 
   stopped_seen : (service : Service) (opening : Cells) (count number : ℕ) (before after : Sight L) (end : ServeEnd) → HasStopped see service opening count number before after end
       → HasStopped itself service opening count number (as_seen see before) (as_seen see after) end
-  stopped_seen service opening count number before after Closed s = (none_waits before.to_come s.0, ap (option_map (map see)) s.1, s.2)
+  stopped_seen service opening count number before after Closed s = (none_waits before.to_come s.0, ap (option_map (map see)) s.1, s.2, s.3)
   stopped_seen service opening count number before after Counted s = absurd s
   stopped_seen service opening count number before after Door s = (s.0, ap (option_map (map see)) s.1, s.2)
   stopped_seen service opening count number before after Log s = (batch_seen s.0, has_driven service opening count number s.0 before after Broke s.1)

@@ -36,6 +36,21 @@ module _ {L : Type 0} (see : L → Seen) (service : Service) where
       let mid = s.mid in
       subst (λ (n : ℕ). Rose n after.faults) (door_steady empty_cells 0 0 before mid s.batches s.served) s.ended.1.0
 
+  -- and else it didn't
+  pub door_same : (wanted : ℕ) (before after : Sight L) (end : ServeEnd) → (end ≡ Door → ⊥) → Served wanted before after end → after.faults ≡ before.faults
+  door_same wanted before after end other s = one end other s.ended ∙ door_steady empty_cells 0 0 before s.mid s.batches s.served
+    where
+      one : (end : ServeEnd) → (end ≡ Door → ⊥) → HasEnded see service wanted s.batches s.mid after end → (let mid = s.mid in after.faults ≡ mid.faults)
+      one Closed other e = e.1.3
+      one Counted other e = ap (λ (sight : Sight L). sight.faults) e.1
+      one Door other e = absurd (other refl)
+      one Log other e = let driven = e.1.1 in driven.steady
+      one Memory other e = memory e.1
+        where
+          memory : IsUndriven see s.mid after ⊎ ((batch : Batch L) × HasDriven see service (cells_at_end service empty_cells 0 s.batches) (length s.batches) (number_at_end 0 s.batches) batch s.mid after Stands) → (let mid = s.mid in after.faults ≡ mid.faults)
+          memory (inl undriven) = undriven.steady
+          memory (inr (batch, driven)) = driven.steady
+
   -- where it ended with the log, its count rose
   pub log_rose : (wanted : ℕ) (before after : Sight L) → Served wanted before after Log → Rose (log_faults before) (log_faults after)
   log_rose wanted before after s =

@@ -69,13 +69,15 @@ AreUnwritten see (link ∷ links) (back ∷ backs) =
 AreUnwritten see [] (back ∷ backs) = ⊥
 AreUnwritten see (link ∷ links) [] = ⊥
 
--- a batch that wasn't driven: the first links of the door's next batch, or none; the log stands, too
+-- a batch that wasn't driven: the first links of the door's next batch, or none; the log and the door's
+-- count stand
 pub record IsUndriven {L : Type 0} (see : L → Seen) (before after : Sight L) : Type 0 where
   pub came : List L
   pub backs : List L
   pub formed : AreGathered before.to_come after.to_come before.late after.late came ⊎ (came ≡ [])
   pub back : TakesBack before.taken_back after.taken_back backs
   pub unwritten : AreUnwritten see came backs
+  pub steady : after.faults ≡ before.faults
   pub log_ : after.log ≡ before.log
 
 -- the log stands
@@ -86,7 +88,7 @@ Stands before after text = after ≡ before
 abbrev pub HasStopped : {L : Type 0} → (L → Seen) → Service → Cells → ℕ → ℕ → Sight L → Sight L → ServeEnd → Type 0
 HasStopped see service opening count number before after Closed =
     IfSome before.to_come (λ batches. first_link (waiting batches) ≡ None)
-    × (after.taken_back ≡ before.taken_back) × (after.log ≡ before.log)
+    × (after.taken_back ≡ before.taken_back) × (after.log ≡ before.log) × (after.faults ≡ before.faults)
 HasStopped see service opening count number before after Counted = ⊥
 HasStopped see service opening count number before after Door =
     Rose before.faults after.faults × (after.taken_back ≡ before.taken_back) × (after.log ≡ before.log)

@@ -67,6 +67,7 @@ fn take<D: Door>(
         framing (D.to_come door.old) (D.to_come door.new) (D.late door.old) (D.late door.new) held.items) }
     ensures out { IfOk result (λ held. (D.out door.new ≡ deque_len held) × (deque_len held ≤ 64)) }
     ensures back { OnOk result (D.taken_back door.new ≡ D.taken_back door.old) }
+    ensures open { D.open_at door.new ≡ D.open_at door.old }
     ensures steady { OnOk result (D.faults door.new ≡ D.faults door.old) }
     ensures none_out { OnErr result (D.out door.new ≡ 0) }
     ensures later { (D.faults door.old ≤ D.faults door.new) × (D.late door.old ≤ D.late door.new) }
@@ -104,8 +105,8 @@ fn take<D: Door>(
 
 /// Drives the items of links from the cells that the batch before left.
 fn run_links<K, L: Library, R: Runtime, G: Gate, Rt: Threads + Wait + Sync>(
-    alloc: Global,
     rt: &Rt,
+    alloc: Global,
     served: &Served<L>,
     runtime: &mut R,
     gate: &G,
@@ -130,7 +131,7 @@ fn run_links<K, L: Library, R: Runtime, G: Gate, Rt: Threads + Wait + Sync>(
 {
     let items = items_of(alloc, links, number)?;
     let kept = items_of(alloc, links, number)?;
-    let (journal, cells) = run(alloc, rt, served, runtime, gate, items, opening)?;
+    let (journal, cells) = run(rt, alloc, served, runtime, gate, items, opening)?;
     Ok(Run {
         items: kept,
         journal,
@@ -167,8 +168,8 @@ fn write_batch<O: Sink>(
 
 /// Serves the next batch: gives the cells at its end, and the number of the link behind its links.
 pub fn serve_batch<L: Library, D: Door, O: Sink, R: Runtime, G: Gate, Rt: Threads + Wait + Sync>(
-    alloc: Global,
     rt: &Rt,
+    alloc: Global,
     served: &Served<L>,
     door: &mut D,
     log: &mut O,
@@ -185,6 +186,7 @@ pub fn serve_batch<L: Library, D: Door, O: Sink, R: Runtime, G: Gate, Rt: Thread
     requires numbers { number + 64 < 2 ^ 63 }
     ensures again { R.ready runtime.new }
     ensures out { D.out door.new ≡ 0 }
+    ensures open { D.open_at door.new ≡ D.open_at door.old }
     ensures later { (D.faults door.old ≤ D.faults door.new) × (D.late door.old ≤ D.late door.new) }
     ensures later_log { O.faults log.old ≤ O.faults log.new }
     ensures bound { IfOk result (λ next. next.1 ≤ number + 64) }
@@ -230,7 +232,7 @@ pub fn serve_batch<L: Library, D: Door, O: Sink, R: Runtime, G: Gate, Rt: Thread
         Ok(links) => links,
         Err(end) => return Err(end),
     };
-    let run = match run_links(alloc, rt, served, runtime, gate, &links, number, opening) {
+    let run = match run_links(rt, alloc, served, runtime, gate, &links, number, opening) {
         Ok(run) => run,
         Err(_) => {
             give_back_held(door, links);

@@ -59,8 +59,8 @@ fn open<L: Library>(
 
 /// Drives a batch's items to their end, from the cells that the batch before left.
 pub fn run<L: Library, R: Runtime, G: Gate, Rt: Threads + Wait + Sync>(
-    alloc: Global,
     rt: &Rt,
+    alloc: Global,
     served: &Served<L>,
     runtime: &mut R,
     gate: &G,

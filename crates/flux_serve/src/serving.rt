@@ -21,8 +21,8 @@ use std::thread::Threads;
 /// Serves so many batches of a door's links, until the door is closed or something fails. Each batch is driven from the cells
 /// that the one before left, answered, and then written on the log.
 pub fn serve<L: Library, D: Door, O: Sink, R: Runtime, G: Gate, Rt: Threads + Wait + Sync>(
-    alloc: Global,
     rt: &Rt,
+    alloc: Global,
     served: &Served<L>,
     door: &mut D,
     log: &mut O,
@@ -37,6 +37,7 @@ pub fn serve<L: Library, D: Door, O: Sink, R: Runtime, G: Gate, Rt: Threads + Wa
     ensures again { R.ready runtime.new }
     // Each accepted link has gone back to the door.
     ensures out { D.out door.new ≡ 0 }
+    ensures open { D.open_at door.new ≡ D.open_at door.old }
     ensures later { (D.faults door.old ≤ D.faults door.new) × (D.late door.old ≤ D.late door.new) }
     ensures later_log { O.faults log.old ≤ O.faults log.new }
     ensures served { let service : Service = (record { program = arc_value served.now.program; framing = served.now.framing; meaning = L.meaning (arc_value served.now.library) }) in
@@ -62,7 +63,7 @@ pub fn serve<L: Library, D: Door, O: Sink, R: Runtime, G: Gate, Rt: Threads + Wa
     let mut number = 0u64;
     'batches: for count in 0..batches {
         match serve_batch(
-            alloc, rt, served, door, log, runtime, gate, opening, count, number,
+            rt, alloc, served, door, log, runtime, gate, opening, count, number,
         ) {
             Ok((cells, next)) => {
                 opening = cells;

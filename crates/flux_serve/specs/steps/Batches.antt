@@ -25,7 +25,7 @@ pub record IsTaken {L : Type 0} (see : L → Seen) (framing : Framing) (before a
 abbrev pub IsNone : {L : Type 0} → (L → Seen) → Sight L → Sight L → ServeEnd → Type 0
 IsNone see before after Closed =
     IfSome before.to_come (λ batches. first_link (waiting batches) ≡ None)
-    × (after.taken_back ≡ before.taken_back) × (after.log ≡ before.log)
+    × (after.taken_back ≡ before.taken_back) × (after.log ≡ before.log) × (after.faults ≡ before.faults)
 IsNone see before after Counted = ⊥
 IsNone see before after Door = Rose before.faults after.faults × (after.taken_back ≡ before.taken_back) × (after.log ≡ before.log)
 IsNone see before after Log = ⊥

@@ -12,4 +12,5 @@ links-preserved g c =
       c.done.ensures.kept ∙ before.2,
       c.done.ensures.counts.0 ∙ before.3,
       c.done.ensures.counts.1 ∙ before.4,
+      c.done.ensures.stays ∙ before.5,
     )

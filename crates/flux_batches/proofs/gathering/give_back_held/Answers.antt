@@ -3,7 +3,7 @@ use Rattle.flux_batches.proofs.Giving.{Given, given_none, given_more}
 use Rattle.flux_batches.proofs.gathering.give_back_held.Goals as goal
 
 pub links-init : goal.links-init
-links-init g c = (given_none (g.D.Door.taken_back c.args.door.now) (map (λ held. held.link) c.args.links.items), c.requires, refl, refl, refl)
+links-init g c = (given_none (g.D.Door.taken_back c.args.door.now) (map (λ held. held.link) c.args.links.items), c.requires, refl, refl, refl, refl)
 
 pub links-preserved-in-Some : goal.links-preserved-in-Some
 links-preserved-in-Some g c =
@@ -16,6 +16,7 @@ links-preserved-in-Some g c =
       c.done.ensures.kept ∙ before.2,
       c.done.ensures.counts.0 ∙ before.3,
       c.done.ensures.counts.1 ∙ before.4,
+      c.done.ensures.stays ∙ before.5,
     )
 
 pub links-preserved : goal.links-preserved
@@ -29,4 +30,5 @@ links-preserved g c =
       c.done.ensures.kept ∙ before.2,
       c.done.ensures.counts.0 ∙ before.3,
       c.done.ensures.counts.1 ∙ before.4,
+      c.done.ensures.stays ∙ before.5,
     )

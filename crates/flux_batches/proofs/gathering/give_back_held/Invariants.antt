@@ -7,6 +7,7 @@ abbrev pub invariant-links : goal.invariant-links
 invariant-links g l =
     Given (g.D.Door.taken_back l.fn.door) (g.D.Door.taken_back l.door) (map (λ held. held.link) l.fn.links.items) (map (λ held. held.link) l.links.items) × (g.D.Door.out l.door ≡ deque_len l.links)
     × (g.D.Door.to_come l.door ≡ g.D.Door.to_come l.fn.door) × (g.D.Door.faults l.door ≡ g.D.Door.faults l.fn.door) × (g.D.Door.late l.door ≡ g.D.Door.late l.fn.door)
+    × (g.D.Door.open_at l.door ≡ g.D.Door.open_at l.fn.door)
 
 abbrev pub decreases-links : goal.decreases-links
 decreases-links g l = deque_len l.links

@@ -7,7 +7,7 @@ use Rattle.flux_batches.proofs.replying.answer_links.Goals as goal
 pub links-init : goal.links-init
 links-init g c =
     let see : g.row.D-Link.Denot → Seen = λ link. record { left = g.D.Link.Link.left link; written = g.D.Link.Link.written link; faults = g.D.Link.Link.faults link } in
-    (answered_none see c.args.entries.now c.args.links.items (g.D.Door.taken_back c.args.door.now), c.requires.out, omega arith, refl, refl, refl)
+    (answered_none see c.args.entries.now c.args.links.items (g.D.Door.taken_back c.args.door.now), c.requires.out, omega arith, refl, refl, refl, refl)
 
 pub links-preserved : goal.links-preserved
 links-preserved g c =
@@ -23,4 +23,5 @@ links-preserved g c =
       c.done.ensures.kept ∙ before.3,
       c.done.ensures.counts.0 ∙ before.4,
       c.done.ensures.counts.1 ∙ before.5,
+      c.done.ensures.stays ∙ before.6,
     )

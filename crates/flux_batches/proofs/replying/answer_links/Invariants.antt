@@ -9,6 +9,7 @@ invariant-links g l =
     (g.D.Door.taken_back l.fn.door) (g.D.Door.taken_back l.door) l.links.items l.flow
     × (g.D.Door.out l.door ≡ deque_len l.links) × (l.flow + deque_len l.links ≤ deque_len l.fn.links)
     × (g.D.Door.to_come l.door ≡ g.D.Door.to_come l.fn.door) × (g.D.Door.faults l.door ≡ g.D.Door.faults l.fn.door) × (g.D.Door.late l.door ≡ g.D.Door.late l.fn.door)
+    × (g.D.Door.open_at l.door ≡ g.D.Door.open_at l.fn.door)
 
 abbrev pub decreases-links : goal.decreases-links
 decreases-links g l = deque_len l.links

@@ -1,5 +1,5 @@
 use Rattle.std.specs.Arc.{arc_value}
-use Rattle.std.proofs.Common.{ap, refl, subst}
+use Rattle.std.proofs.Common.{ap, refl, ◌∙◌, subst, inl, inr}
 use Rattle.flux_batches.specs.Links.{Seen}
 use Rattle.flux_serve.specs.Batches.{Service}
 use Rattle.flux_serve.specs.Ends.{Sight, HasServed}
@@ -11,6 +11,15 @@ returns-in-Err-clause-served g c = unplanned _ _ c.requires.some _ _
 
 pub returns-in-Err-open-clause-served : goal.returns-in-Err-open-clause-served
 returns-in-Err-open-clause-served g c = unopened _ _ c.requires.some _ _ _ (let cause = c.in-Err-open.ensures.cause in cause.failed) c.open.ensures.kept.1 refl
+
+pub returns-in-Err-clause-opened : goal.returns-in-Err-clause-opened
+returns-in-Err-clause-opened g c = inr (tt, refl)
+
+pub returns-in-Err-open-clause-opened : goal.returns-in-Err-open-clause-opened
+returns-in-Err-open-clause-opened g c = inr (tt, c.in-Err-open.ensures.opened)
+
+pub returns-clause-opened : goal.returns-clause-opened
+returns-clause-opened g c = inl (c.serve.ensures.open ∙ c.in-Ok-open.ensures.opened)
 
 pub returns-clause-served : goal.returns-clause-served
 returns-clause-served g c =

@@ -59,6 +59,7 @@ returns-in-Err-run_links-clause-stopped g c =
       formed = inl (subst N (sym c.give_back_held.ensures.counts.1) (subst C (sym c.give_back_held.ensures.kept) taken.formed));
       back = subst T c.in-Ok.ensures.back c.give_back_held.ensures.back;
       unwritten = unwritten_held see c.args.served.now.framing taken.came c.in-Ok.links.items taken.read;
+      steady = c.give_back_held.ensures.counts.0 ∙ c.in-Ok.ensures.steady;
       log_ = refl;
     })
 

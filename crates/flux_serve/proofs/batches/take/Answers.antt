@@ -13,6 +13,7 @@ returns-in-Err-Memory-clause-none g c log = record {
   formed = inr refl;
   back = c.gather.ensures.back ∙ back_none (g.D.Door.taken_back c.args.door.now);
   unwritten = tt;
+  steady = c.gather.ensures.unless (λ e. absurd cc);
   log_ = refl;
 }
 
@@ -30,5 +31,6 @@ returns-in-Err-clause-none g c log =
       formed = inl (subst N (sym c.give_back.ensures.counts.1) (subst C (sym c.give_back.ensures.kept) (subst G (sym c.in-Err.ensures.unread.0) c.in-Ok.ensures.links)));
       back = subst P c.gather.ensures.back c.give_back.ensures.back;
       unwritten = unwritten_same see c.in-Err.links.items;
+      steady = c.give_back.ensures.counts.0 ∙ c.in-Ok.ensures.steady;
       log_ = refl;
     }

@@ -1,4 +1,4 @@
-use Rattle.std.proofs.Common.{sym, subst, arith}
+use Rattle.std.proofs.Common.{refl, sym, ◌∙◌, subst, arith}
 use Rattle.std.specs.Arc.{arc_value}
 use Rattle.flux_cells.specs.Kept.{Kept, cells_of}
 use Rattle.flux_batches.specs.Links.{Seen}
@@ -19,7 +19,7 @@ batches-init g c =
       log = record { written = g.O.Sink.written c.args.log.now; faults = g.O.Sink.faults c.args.log.now };
     } in
     let P : Kept → Type 0 = λ k. SoFar see service before before 0 0 (cells_of k) in
-    (subst P (sym c.new-opening.ensures) (so_far_none see service before), c.requires.ready, c.requires.out, omega arith, omega arith, omega arith, omega arith)
+    (subst P (sym c.new-opening.ensures) (so_far_none see service before), c.requires.ready, c.requires.out, omega arith, omega arith, omega arith, omega arith, refl)
 
 pub returns-in-Err-clause-served : goal.returns-in-Err-clause-served
 returns-in-Err-clause-served g c =
@@ -80,4 +80,5 @@ batches-preserved g c =
       omega (arith, c.batches.invariant.4, c.in-Ok.ensures.later.0),
       omega (arith, c.batches.invariant.5, c.in-Ok.ensures.later.1),
       omega (arith, c.batches.invariant.6, c.in-Ok.ensures.later_log),
+      c.serve_batch.ensures.open ∙ c.batches.invariant.7,
     )

@@ -26,4 +26,4 @@ invariant-batches g l =
     l.count l.number (cells_of l.opening)
     × g.R.Runtime.ready l.runtime × (g.D.Door.out l.door ≡ 0) × (l.number ≤ 64 * l.count)
     × (g.D.Door.faults l.fn.door ≤ g.D.Door.faults l.door) × (g.D.Door.late l.fn.door ≤ g.D.Door.late l.door)
-    × (g.O.Sink.faults l.fn.log ≤ g.O.Sink.faults l.log)
+    × (g.O.Sink.faults l.fn.log ≤ g.O.Sink.faults l.log) × (g.D.Door.open_at l.door ≡ g.D.Door.open_at l.fn.door)
