@@ -1,6 +1,6 @@
 //! The links that a case's door gives, and what they are written.
 
-ghost use Rattle.std.specs.Prelude.{◌≡◌, IfOk};
+ghost use Rattle.std.specs.Prelude.{◌≡◌, ◌<◌, IfOk};
 ghost use Rattle.flux_doors.specs.Memory.{door_out};
 
 use case_files::{Case, Entry, Line, Part, Stream};
@@ -95,7 +95,9 @@ fn sink(
     lines: &[Line],
     room: usize,
     piece: usize,
-) -> Result<MemorySink, Memory> {
+) -> Result<MemorySink, Memory>
+    requires { 0 < piece }
+{
     let writes = case.link_fails(alloc, lines, Part::Stream(Stream::Link))?;
     MemorySink::new(alloc, room, piece, writes)
 }
