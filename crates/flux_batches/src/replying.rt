@@ -4,7 +4,7 @@ ghost use Rattle.std.specs.Prelude.{◌≡◌, ◌+◌, ◌<◌, ◌≤◌, [], 
 ghost use Rattle.std.specs.VecDeque.{deque_len};
 ghost use Rattle.flux_outside.specs.Streams.{Wrote, Broke, WroteOrBroke};
 ghost use Rattle.flux_batches.specs.Replies.{emitted, reply_of, IsAnswered, flow_behind, HasAnswered};
-ghost use Rattle.flux_batches.specs.steps.Spans.{AreSpans};
+ghost use Rattle.flux_batches.specs.steps.Spans.{IsSpan, AreSpans};
 
 use crate::gathering::LINK_LIMIT;
 use crate::reading::{Held, Sent};
@@ -58,6 +58,17 @@ fn reply<K: Link>(link: &mut K, entries: &[Entry], flow: FlowNo)
     }
 }
 
+/// The same, where it is known in which span the flow emits.
+fn reply_within<K: Link>(link: &mut K, entries: &[Entry], span: Span, flow: FlowNo)
+    requires { IsSpan flow.0 entries.now span }
+    ensures { WroteOrBroke
+        (record { written = K.written link.old; faults = K.faults link.old })
+        (record { written = K.written link.new; faults = K.faults link.new })
+        (reply_of flow.0 entries.now) }
+{
+    reply(link, &entries[..span.behind][span.first..], flow);
+}
+
 /// Answers a link, if it has an item; and the flow of the next link that has one.
 fn answer<K: Link + Drop>(
     held: Held<K>,
@@ -76,12 +87,7 @@ fn answer<K: Link + Drop>(
     let Held { mut link, sent } = held;
     match sent {
         Sent::Text(_) => {
-            let span = spans[flow as usize];
-            reply(
-                &mut link,
-                &entries[..span.behind][span.first..],
-                FlowNo(flow),
-            );
+            reply_within(&mut link, entries, spans[flow as usize], FlowNo(flow));
             (link, flow + 1)
         }
         Sent::Failed => (link, flow),

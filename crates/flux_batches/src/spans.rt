@@ -1,6 +1,7 @@
 //! Where the emissions of a flow stand among the entries of a batch, so that no reply looks at all entries.
 
-ghost use Rattle.std.specs.Prelude.{◌≡◌, ◌<◌, ◌^◌, length};
+ghost use Rattle.std.specs.Prelude.{◌≡◌, ◌<◌, ◌^◌, List, [], ◌∷◌, ◌++◌, length};
+ghost use Rattle.flow_model.specs.declared.journals.Entry.{Entry};
 ghost use Rattle.flux_batches.specs.Replies.{emitted};
 ghost use Rattle.flux_batches.specs.steps.Spans.{stretched, AreSpans};
 
@@ -38,6 +39,18 @@ impl Span {
     }
 }
 
+/// Notes the entry behind those before a place.
+fn note(spans: &mut [Span; LINK_LIMIT], place: usize, entry: &Entry)
+    requires { place < 2 ^ 63 }
+    ensures { (entries : List Entry) → length entries ≡ place → AreSpans entries spans.old
+        → AreSpans (entries ++ entry.now ∷ []) spans.new }
+{
+    let flow = entry.flow.0 as usize;
+    if flow < LINK_LIMIT && !emission_of(entry).is_empty() {
+        spans[flow] = spans[flow].up_to(place);
+    }
+}
+
 /// The spans of the flows of a batch. What a flow emits stands in its span.
 pub fn spans_of(entries: &[Entry]) -> [Span; LINK_LIMIT]
     ensures { AreSpans entries.now result }
@@ -47,11 +60,7 @@ pub fn spans_of(entries: &[Entry]) -> [Span; LINK_LIMIT]
         behind: 0,
     }; LINK_LIMIT];
     for place in 0..entries.len() {
-        let entry = &entries[place];
-        let flow = entry.flow.0 as usize;
-        if flow < LINK_LIMIT && !emission_of(entry).is_empty() {
-            spans[flow] = spans[flow].up_to(place);
-        }
+        note(&mut spans, place, &entries[place]);
     }
     spans
 }

@@ -9,11 +9,16 @@ use crate::endings::Endings;
 use crate::real_links::RealLink;
 use flux_outside::{Failed, count_failure};
 use std::alloc::Global;
+use std::collections::VecDeque;
 use std::net::{Ipv4Addr, Net, OpenListener, SocketAddr};
 use std::time::Clock;
 
 /// How many clients that went away are passed over in one accept.
 const TRIES: u32 = 1_000_000;
+
+/// So many clients at least that a batch has no room for wait in the door, where there is memory for them: the system's own
+/// queue holds 128, and makes others try again after a second.
+const READY_LIMIT: usize = 256;
 
 /// A port of this machine alone, 127.0.0.1. The links of a batch are told at once that nothing more comes, each as it is taken
 /// back, and their clients' ends are waited for together: before the next batch is accepted, and where the door is let go.
@@ -23,6 +28,8 @@ pub struct RealDoor<R: Net + Clock + Copy> {
     listener: Option<R::Listener>,
     /// Whether an accept waits for a client.
     waits: bool,
+    /// Links that were accepted, for this batch or a later one.
+    ready: VecDeque<RealLink<R>>,
     endings: Endings<R>,
     out: usize,
     faults: u64,
@@ -30,7 +37,16 @@ pub struct RealDoor<R: Net + Clock + Copy> {
 }
 
 /// Why an accept gave no answer.
+#[derive(Clone, Copy)]
 struct Refused;
+
+/// Room for the links that are ready; none where there is no memory.
+fn room<R: Net + Clock + Copy>(alloc: Global) -> VecDeque<RealLink<R>> {
+    match VecDeque::with_capacity(alloc, READY_LIMIT) {
+        Ok(room) => room,
+        Err(_) => VecDeque::new(alloc),
+    }
+}
 
 impl<R: Net + Clock + Copy> RealDoor<R> {
     /// A door that isn't open yet.
@@ -41,6 +57,7 @@ impl<R: Net + Clock + Copy> RealDoor<R> {
             runtime,
             listener: None,
             waits: true,
+            ready: room(alloc),
             endings: Endings::new(alloc),
             out: 0,
             faults: 0,
@@ -81,6 +98,37 @@ impl<R: Net + Clock + Copy> RealDoor<R> {
         }
         Err(Refused)
     }
+
+    /// Takes in the clients that stand ready, as far as there is room.
+    fn take_in(&mut self) -> Result<(), Refused> {
+        for _ in self.ready.len()..self.ready.capacity() {
+            match self.next_link(false)? {
+                Some(link) => {
+                    let _ = self.ready.push_back(link);
+                }
+                None => return Ok(()),
+            }
+        }
+        Ok(())
+    }
+
+    /// The next link of a batch: a client that was taken in. Only the first one is waited for.
+    fn next_ready(&mut self, first: bool) -> Result<Option<RealLink<R>>, Refused> {
+        if first && self.ready.is_empty() {
+            return self.next_link(true);
+        }
+        let mut taken = Ok(());
+        if first || self.ready.is_empty() {
+            taken = self.take_in();
+        }
+        match self.ready.pop_front() {
+            Some(link) => Ok(Some(link)),
+            None => {
+                taken?;
+                Ok(None)
+            }
+        }
+    }
 }
 
 impl<R: Net + Clock + Copy> Door for RealDoor<R> {
@@ -116,7 +164,7 @@ impl<R: Net + Clock + Copy> Door for RealDoor<R> {
         if first {
             self.endings.close_all();
         }
-        match self.next_link(first) {
+        match self.next_ready(first) {
             Ok(Some(link)) => {
                 self.out += 1;
                 Ok(Some(link))

@@ -1,5 +1,6 @@
 -- Where the emissions of a flow stand among some entries.
-use Rattle.std.specs.Prelude.{◌≡◌, ℕ, ◌+◌, ◌<◌, ◌≤◌, nat_eq, if◌then◌else◌, List, [], length, take, drop, get_or}
+use Rattle.std.specs.Prelude.{◌≡◌, ℕ, ◌+◌, ◌<◌, ◌≤◌, nat_eq, if◌then◌else◌}
+use Rattle.std.specs.Prelude.{List, [], length, take, drop, get_or}
 use Rattle.flow_model.specs.declared.journals.Entry.{Entry}
 use Rattle.flux_batches.specs.Replies.{reply_of}
 use Rattle.flux_batches.specs.declared.spans.Span.{Span}
