@@ -12,7 +12,8 @@ use Rattle.flux_batches.specs.declared.reading.Sent.TheVariants.{Text, Failed, M
 use Rattle.flux_batches.specs.declared.reading.Held.{Held}
 use Rattle.flux_batches.specs.Texts.{text_of}
 
--- what is seen of a link: the bytes left to read and all bytes written, where they are told, and its count of faults
+-- what is seen of a link: the bytes left to read and all bytes written, where they are told, and
+-- its count of faults
 pub record Seen : Type 0 where
   pub left : Option (List ℕ)
   pub written : Option (List ℕ)
@@ -25,8 +26,10 @@ stream_of link = record { written = link.written; faults = link.faults }
 -- a link was read: its text is that of what it had, or its count rose; nothing was written
 abbrev pub IsSent : Framing → Seen → Seen → Sent → Type 0
 IsSent framing before after (Text text) =
-    IfSome before.left (λ left. text ≡ text_of framing left) × (after.faults ≡ before.faults) × (after.written ≡ before.written)
-IsSent framing before after Failed = Rose before.faults after.faults × (after.written ≡ before.written)
+    IfSome before.left (λ left. text ≡ text_of framing left) × (after.faults ≡ before.faults)
+    × (after.written ≡ before.written)
+IsSent framing before after Failed =
+    Rose before.faults after.faults × (after.written ≡ before.written)
 IsSent framing before after Memory = after.written ≡ before.written
 
 -- links were read in order, and these are left to read
@@ -47,7 +50,8 @@ link_item number text = record {
 
 -- an item of the first source, of a number and a text
 abbrev pub IsLinkItem : Item → Type 0
-IsLinkItem item = (item.source ≡ record { 0 = 0 }) × AreValues (kinds.Int ∷ kinds.Text ∷ []) item.values
+IsLinkItem item =
+    (item.source ≡ record { 0 = 0 }) × AreValues (kinds.Int ∷ kinds.Text ∷ []) item.values
 
 -- a link whose reading failed has none
 abbrev pub item_sent : ℕ → Sent → List Item

@@ -2,7 +2,8 @@
 use Rattle.std.specs.Prelude.{◌≡◌, ℕ, ◌+◌, nat_eq, if◌then◌else◌, List, [], ◌∷◌, ◌++◌, Option}
 use Rattle.std.specs.Option.{option_map}
 use Rattle.flow_model.specs.declared.journals.Event.{Event}
-use Rattle.flow_model.specs.declared.journals.Event.TheVariants.{Take, Wait, Enter, Choose, Call, Exit, Drop, End}
+use Rattle.flow_model.specs.declared.journals.Event.TheVariants.{Take, Wait, Enter, Choose, Call}
+use Rattle.flow_model.specs.declared.journals.Event.TheVariants.{Exit, Drop, End}
 use Rattle.flow_model.specs.declared.journals.Entry.{Entry}
 use Rattle.flux_outside.specs.Streams.{WroteOrBroke}
 use Rattle.flux_batches.specs.declared.reading.Sent.{Sent}
@@ -27,9 +28,11 @@ reply_of flow [] = []
 reply_of flow (entry ∷ entries) =
     (if nat_eq entry.flow.0 flow then emitted entry.event else []) ++ reply_of flow entries
 
--- a link with an item is written its flow's reply, or a front of it where its count rose; every other is written nothing
+-- a link with an item is written its flow's reply, or a front of it where its count rose; every
+-- other is written nothing
 abbrev pub IsAnswered : List Entry → ℕ → Seen → Seen → Sent → Type 0
-IsAnswered entries flow before after (Text text) = WroteOrBroke (stream_of before) (stream_of after) (reply_of flow entries)
+IsAnswered entries flow before after (Text text) =
+    WroteOrBroke (stream_of before) (stream_of after) (reply_of flow entries)
 IsAnswered entries flow before after Failed = stream_of after ≡ stream_of before
 IsAnswered entries flow before after Memory = stream_of after ≡ stream_of before
 
@@ -40,11 +43,13 @@ flow_behind flow Failed = flow
 flow_behind flow Memory = flow
 
 -- links were answered in order, from a flow on, and given back as these; those are left
-abbrev pub AreAnswered : {K : Type 0} → (K → Seen) → List Entry → ℕ → List (Held K) → List K → List (Held K) → Type 0
+abbrev pub AreAnswered : {K : Type 0} → (K → Seen) → List Entry → ℕ → List (Held K) → List K
+    → List (Held K) → Type 0
 AreAnswered see entries flow helds [] left = helds ≡ left
 AreAnswered see entries flow [] (back ∷ backs) left = ⊥
 AreAnswered see entries flow (held ∷ rest) (back ∷ backs) left =
-    IsAnswered entries flow (see held.link) (see back) held.sent × AreAnswered see entries (flow_behind flow held.sent) rest backs left
+    IsAnswered entries flow (see held.link) (see back) held.sent
+    × AreAnswered see entries (flow_behind flow held.sent) rest backs left
 
 -- a door has taken back these links beside those before, where it tells them
 abbrev pub TakesBack : {L : Type 0} → Option (List L) → Option (List L) → List L → Type 0

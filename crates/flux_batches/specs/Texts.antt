@@ -1,5 +1,6 @@
 -- The text of a link: a request's head, or a line.
-use Rattle.std.specs.Prelude.{ℕ, ◌-◌, ◌+◌, Bool, true, false, ◌||◌, nat_eq, if◌then◌else◌, List, [], ◌∷◌, ◌++◌, take, length}
+use Rattle.std.specs.Prelude.{ℕ, ◌-◌, ◌+◌, Bool, true, false, ◌||◌, nat_eq, if◌then◌else◌}
+use Rattle.std.specs.Prelude.{List, [], ◌∷◌, ◌++◌, take, length}
 use Rattle.std.specs.List.{ends_with}
 use Rattle.flux_batches.specs.declared.framing.Framing.{Framing}
 use Rattle.flux_batches.specs.declared.framing.Framing.TheVariants.{Head, Line}
@@ -24,7 +25,8 @@ abbrev pub ends : Framing → List ℕ → Bool
 ends Head front = ends_with nat_eq front empty_line || ends_with nat_eq front empty_line_cr
 ends Line front = ends_with nat_eq front line_end
 
--- the least front of some bytes that passes a test, and all of them where none does; `seen` are those before
+-- the least front of some bytes that passes a test, and all of them where none does; `seen` are
+-- those before
 abbrev pub grown : (List ℕ → Bool) → List ℕ → List ℕ → List ℕ
 grown test seen [] = seen
 grown test seen (b ∷ bytes) = if test seen then seen else grown test (seen ++ b ∷ []) bytes

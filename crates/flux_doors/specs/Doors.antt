@@ -1,5 +1,6 @@
 -- What a door gives, and when its counts rise.
-use Rattle.std.specs.Prelude.{◌≡◌, ℕ, ◌+◌, Bool, true, false, List, [], ◌∷◌, Option, Some, None, Result, Ok, Err}
+use Rattle.std.specs.Prelude.{◌≡◌, ℕ, ◌+◌, Bool, true, false, List, [], ◌∷◌}
+use Rattle.std.specs.Prelude.{Option, Some, None, Result, Ok, Err}
 use Rattle.flux_outside.specs.Causes.{HasCause}
 use Rattle.flux_outside.specs.declared.faults.Failed.{Failed}
 
@@ -47,7 +48,10 @@ pub record Counts : Type 0 where
   pub faults : ℕ
   pub late : ℕ
 
--- where a first accept failed the one count rose, where a later one did the other, and else both stand
+-- where a first accept failed the one count rose, where a later one did the other, and else both
+-- stand
 abbrev pub HasAcceptCause : {T : Type 0} → Bool → Counts → Counts → Result T Failed → Type 0
-HasAcceptCause true before after result = HasCause before.faults after.faults result × (after.late ≡ before.late)
-HasAcceptCause false before after result = HasCause before.late after.late result × (after.faults ≡ before.faults)
+HasAcceptCause true before after result =
+    HasCause before.faults after.faults result × (after.late ≡ before.late)
+HasAcceptCause false before after result =
+    HasCause before.late after.late result × (after.faults ≡ before.faults)

@@ -35,7 +35,8 @@ LinkReads link = IsToFail link.calls → ⊥
 -- one read on, with the same pieces and sink
 abbrev pub LinkWasRead : MemoryLink → MemoryLink → Type 0
 LinkWasRead before after =
-    (after.piece ≡ before.piece) × (after.written ≡ before.written) × (after.calls ≡ one_more before.calls)
+    (after.piece ≡ before.piece) × (after.written ≡ before.written)
+    × (after.calls ≡ one_more before.calls)
 
 -- its sink takes a piece of so many bytes
 abbrev pub LinkWrites : MemoryLink → ℕ → Type 0

@@ -8,6 +8,7 @@
 
 mod arrivals;
 mod doors;
+mod endings;
 mod links;
 mod memory_doors;
 mod memory_links;

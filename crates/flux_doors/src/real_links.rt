@@ -2,10 +2,10 @@
 
 ghost use Rattle.std.specs.Prelude.{◌≡◌, ◌<◌, ◌≤◌, IfSome, length};
 
+use crate::endings::Ending;
 use crate::links::Link;
 use flux_outside::{Failed, count_failure, read_on, write_on};
-use std::io::Read;
-use std::net::{Net, OpenStream, Shutdown};
+use std::net::{Net, OpenStream};
 use std::time::{Clock, Duration};
 
 /// So many seconds after a link was accepted, what it has to read has to be there.
@@ -16,18 +16,6 @@ pub const REPLY_SECONDS: u64 = 30;
 
 /// What is there already is read behind that, too: a read waits so many milliseconds at least.
 const READ_MILLIS: u64 = 1;
-
-/// So many seconds at most, what a client still sends is read behind the reply, so that it gets the reply.
-const CLOSING_SECONDS: u64 = 1;
-
-/// So many milliseconds at most, a client is waited for then that sends nothing.
-const CLOSING_MILLIS: u64 = 20;
-
-/// So many blocks at most are read then.
-const CLOSING_BLOCKS: usize = 256;
-
-/// How many bytes a block has.
-const BLOCK: usize = 4_096;
 
 /// A client over a socket. What it has to send has to be there within `READ_SECONDS` of its accept, also where it is read
 /// later, and a reply has to be taken within `REPLY_SECONDS`: other reads and writes fail.
@@ -94,30 +82,17 @@ impl<R: Net + Clock + Copy> RealLink<R> {
         write_on(&mut self.stream, bytes).ok()
     }
 
-    /// Closes both directions in order: the client is told that nothing more comes, and what it still sends is read up to a
-    /// bound. A socket that is closed with bytes unread would take back what the client hasn't read yet; where nothing was
-    /// written, there is nothing to take back.
-    pub(crate) fn close(mut self) {
-        if self.replied.is_none() {
-            return;
-        }
-        let Ok(since) = self.clock.monotonic() else {
-            return;
-        };
-        if self.stream.shutdown(Shutdown::Write).is_err() {
-            return;
-        }
-        let pause = Duration::from_millis(CLOSING_MILLIS);
-        let mut block = [0u8; BLOCK];
-        for _ in 0..CLOSING_BLOCKS {
-            let Some(left) = self.time_left(since, CLOSING_SECONDS) else {
-                return;
-            };
-            match self.read_within(left.min(pause), &mut block) {
-                Some(count) if count > 0 => {}
-                _ => return,
-            }
-        }
+    /// Tells the client that nothing more comes. Where nothing was written there is nothing to take back, and the socket is
+    /// closed.
+    pub(crate) fn end(self) -> Option<Ending<R>> {
+        let RealLink {
+            stream,
+            clock,
+            replied,
+            ..
+        } = self;
+        replied?;
+        Ending::new(clock, stream)
     }
 }
 

@@ -32,7 +32,7 @@ fn outside(rt: &HostRuntime) -> Result<Outside, Memory>
         folder: RealFolder::new(rt.alloc(), rt)?,
         out: RealSink::new(rt.stdout()),
         err: RealSink::new(rt.stderr()),
-        door: RealDoor::new(rt),
+        door: RealDoor::new(rt.alloc(), rt),
     })
 }
 

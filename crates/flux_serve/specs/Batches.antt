@@ -22,8 +22,8 @@ pub record Service : Type 0 where
   pub framing : Framing
   pub meaning : LibraryMeaning
 
--- what a batch's journal is judged by: the program with its locks, the batch's items, the cells at its start and the
--- library
+-- what a batch's journal is judged by: the program with its locks, the batch's items, the cells at
+-- its start and the library
 abbrev pub batch_setup : Service → Cells → List Item → Setup
 batch_setup service opening items = record {
   program = service.program;
@@ -33,7 +33,8 @@ batch_setup service opening items = record {
   meaning = service.meaning;
 }
 
--- a batch that was driven: its links as they came, as they were read and as they went back, and its journal
+-- a batch that was driven: its links as they came, as they were read and as they went back, and its
+-- journal
 pub record Batch (L : Type 0) : Type 0 where
   pub came : List L
   pub held : List (Held L)
@@ -44,17 +45,18 @@ pub record Batch (L : Type 0) : Type 0 where
 abbrev pub batch_items : {L : Type 0} → ℕ → Batch L → List Item
 batch_items number batch = items_from number batch.held
 
--- its links were read, its journal is legal and whole for its items from these cells, and each link was written the
--- reply of its flow
-pub record IsDriven {L : Type 0} (see : L → Seen) (service : Service) (opening : Cells) (number : ℕ) (batch : Batch L)
-    : Type 0 where
+-- its links were read, its journal is legal and whole for its items from these cells, and each link
+-- was written the reply of its flow
+pub record IsDriven {L : Type 0} (see : L → Seen) (service : Service) (opening : Cells) (number : ℕ)
+    (batch : Batch L) : Type 0 where
   pub read : AreHeld see service.framing batch.came batch.held []
   pub each : AreRead batch.held
   pub legal : let journal = batch.journal in
       IsLegal (batch_setup service opening (batch_items number batch)) journal.entries
   pub whole : let journal = batch.journal in
       IsWhole (batch_setup service opening (batch_items number batch)) journal.entries
-  pub replies : let journal = batch.journal in AreAnswered see journal.entries 0 batch.held batch.back []
+  pub replies : let journal = batch.journal in
+      AreAnswered see journal.entries 0 batch.held batch.back []
 
 -- ---- behind a batch
 
@@ -68,7 +70,8 @@ number_behind number batch = number + length batch.held
 
 -- its text in the log
 abbrev pub batch_text : {L : Type 0} → Service → ℕ → ℕ → Batch L → List ℕ
-batch_text service count number batch = printed_batch service.program count (batch_items number batch) batch.journal
+batch_text service count number batch =
+    printed_batch service.program count (batch_items number batch) batch.journal
 
 -- the first batch opens with empty cells
 abbrev pub empty_cells : Cells

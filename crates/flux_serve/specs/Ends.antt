@@ -1,5 +1,6 @@
 -- What serving has done, batch after batch, and how it ended.
-use Rattle.std.specs.Prelude.{◌≡◌, ℕ, ◌+◌, ◌<◌, ◌≤◌, ◌⊎◌, List, [], ◌∷◌, length, map, Option, None, IfSome}
+use Rattle.std.specs.Prelude.{◌≡◌, ℕ, ◌+◌, ◌<◌, ◌≤◌, ◌⊎◌, List, [], ◌∷◌, length, map}
+use Rattle.std.specs.Prelude.{Option, None, IfSome}
 use Rattle.std.specs.Option.{option_map}
 use Rattle.flow_model.specs.Keys.{Cells}
 use Rattle.flux_outside.specs.Causes.{Rose}
@@ -9,10 +10,13 @@ use Rattle.flux_batches.specs.Links.{Seen}
 use Rattle.flux_batches.specs.Replies.{TakesBack}
 use Rattle.flux_batches.specs.Gathered.{AreGathered}
 use Rattle.flux_serve.specs.declared.batches.ServeEnd.{ServeEnd}
-use Rattle.flux_serve.specs.declared.batches.ServeEnd.TheVariants.{Closed, Counted, Door, Log, Memory}
-use Rattle.flux_serve.specs.Batches.{Service, Batch, IsDriven, batch_text, cells_behind, number_behind, empty_cells}
+use Rattle.flux_serve.specs.declared.batches.ServeEnd.TheVariants.{Closed, Counted, Door}
+use Rattle.flux_serve.specs.declared.batches.ServeEnd.TheVariants.{Log, Memory}
+use Rattle.flux_serve.specs.Batches.{Service, Batch, IsDriven, batch_text}
+use Rattle.flux_serve.specs.Batches.{cells_behind, number_behind, empty_cells}
 
--- a door and a log: the links to come and those taken back, where they are told, the door's counts, and the log
+-- a door and a log: the links to come and those taken back, where they are told, the door's counts,
+-- and the log
 pub record Sight (L : Type 0) : Type 0 where
   pub to_come : Option (List (List L))
   pub taken_back : Option (List L)
@@ -30,10 +34,11 @@ as_seen see sight = record {
   log = sight.log;
 }
 
--- a batch was driven: its links are the first of the door's next batch, one to 64, and went back; the log gained its text,
--- or what is said of it
-pub record HasDriven {L : Type 0} (see : L → Seen) (service : Service) (opening : Cells) (count number : ℕ)
-    (batch : Batch L) (before after : Sight L) (Gained : Stream → Stream → List ℕ → Type 0) : Type 0 where
+-- a batch was driven: its links are the first of the door's next batch, one to 64, and went back;
+-- the log gained its text, or what is said of it
+pub record HasDriven {L : Type 0} (see : L → Seen) (service : Service) (opening : Cells)
+    (count number : ℕ) (batch : Batch L) (before after : Sight L)
+    (Gained : Stream → Stream → List ℕ → Type 0) : Type 0 where
   pub formed : AreGathered before.to_come after.to_come before.late after.late batch.came
   pub size : (0 < length batch.came) × (length batch.came ≤ 64)
   pub driven : IsDriven see service opening number batch
@@ -41,19 +46,22 @@ pub record HasDriven {L : Type 0} (see : L → Seen) (service : Service) (openin
   pub steady : after.faults ≡ before.faults
   pub gained : Gained before.log after.log (batch_text service count number batch)
 
--- batches were served one after another: each was driven from the cells that the one before left, and its text was written
-abbrev pub AreServed : {L : Type 0} → (L → Seen) → Service → Cells → ℕ → ℕ → Sight L → Sight L → List (Batch L) → Type 0
+-- batches were served one after another: each was driven from the cells that the one before left,
+-- and its text was written
+abbrev pub AreServed : {L : Type 0} → (L → Seen) → Service → Cells → ℕ → ℕ → Sight L → Sight L
+    → List (Batch L) → Type 0
 AreServed see service opening count number before after [] = after ≡ before
 AreServed {L} see service opening count number before after (batch ∷ batches) =
     (mid : Sight L) × HasDriven see service opening count number batch before mid Wrote
-    × AreServed see service (cells_behind service opening number batch) (count + 1) (number_behind number batch)
-    mid after batches
+    × AreServed see service (cells_behind service opening number batch) (count + 1)
+    (number_behind number batch) mid after batches
 
 -- the cells and the number of the next link behind batches
 abbrev pub cells_at_end : {L : Type 0} → Service → Cells → ℕ → List (Batch L) → Cells
 cells_at_end service opening number [] = opening
 cells_at_end service opening number (batch ∷ batches) =
-    cells_at_end service (cells_behind service opening number batch) (number_behind number batch) batches
+    cells_at_end service (cells_behind service opening number batch) (number_behind number batch)
+    batches
 
 abbrev pub number_at_end : {L : Type 0} → ℕ → List (Batch L) → ℕ
 number_at_end number [] = number
@@ -65,12 +73,13 @@ number_at_end number (batch ∷ batches) = number_at_end (number_behind number b
 abbrev pub AreUnwritten : {L : Type 0} → (L → Seen) → List L → List L → Type 0
 AreUnwritten see [] [] = Unit {0}
 AreUnwritten see (link ∷ links) (back ∷ backs) =
-    let old = see link in let new = see back in (new.written ≡ old.written) × AreUnwritten see links backs
+    let old = see link in let new = see back in
+    (new.written ≡ old.written) × AreUnwritten see links backs
 AreUnwritten see [] (back ∷ backs) = ⊥
 AreUnwritten see (link ∷ links) [] = ⊥
 
--- a batch that wasn't driven: the first links of the door's next batch, or none; the log and the door's
--- count stand
+-- a batch that wasn't driven: the first links of the door's next batch, or none; the log and the
+-- door's count stand
 pub record IsUndriven {L : Type 0} (see : L → Seen) (before after : Sight L) : Type 0 where
   pub came : List L
   pub backs : List L
@@ -85,13 +94,16 @@ abbrev pub Stands : Stream → Stream → List ℕ → Type 0
 Stands before after text = after ≡ before
 
 -- how the batch behind those that were served ended
-abbrev pub HasStopped : {L : Type 0} → (L → Seen) → Service → Cells → ℕ → ℕ → Sight L → Sight L → ServeEnd → Type 0
+abbrev pub HasStopped : {L : Type 0} → (L → Seen) → Service → Cells → ℕ → ℕ → Sight L → Sight L
+    → ServeEnd → Type 0
 HasStopped see service opening count number before after Closed =
     IfSome before.to_come (λ batches. first_link (waiting batches) ≡ None)
-    × (after.taken_back ≡ before.taken_back) × (after.log ≡ before.log) × (after.faults ≡ before.faults)
+    × (after.taken_back ≡ before.taken_back) × (after.log ≡ before.log)
+    × (after.faults ≡ before.faults)
 HasStopped see service opening count number before after Counted = ⊥
 HasStopped see service opening count number before after Door =
-    Rose before.faults after.faults × (after.taken_back ≡ before.taken_back) × (after.log ≡ before.log)
+    Rose before.faults after.faults × (after.taken_back ≡ before.taken_back)
+    × (after.log ≡ before.log)
 HasStopped {L} see service opening count number before after Log =
     (batch : Batch L) × HasDriven see service opening count number batch before after Broke
 HasStopped {L} see service opening count number before after Memory =
@@ -99,20 +111,26 @@ HasStopped {L} see service opening count number before after Memory =
     ⊎ ((batch : Batch L) × HasDriven see service opening count number batch before after Stands)
 
 -- as many batches as were wanted, or fewer
-abbrev pub HasEnded : {L : Type 0} → (L → Seen) → Service → ℕ → List (Batch L) → Sight L → Sight L → ServeEnd → Type 0
-HasEnded see service wanted batches before after Counted = (length batches ≡ wanted) × (after ≡ before)
+abbrev pub HasEnded : {L : Type 0} → (L → Seen) → Service → ℕ → List (Batch L) → Sight L → Sight L
+    → ServeEnd → Type 0
+HasEnded see service wanted batches before after Counted =
+    (length batches ≡ wanted) × (after ≡ before)
 HasEnded see service wanted batches before after Closed = (length batches < wanted)
-    × HasStopped see service (cells_at_end service empty_cells 0 batches) (length batches) (number_at_end 0 batches) before after Closed
+    × HasStopped see service (cells_at_end service empty_cells 0 batches) (length batches)
+    (number_at_end 0 batches) before after Closed
 HasEnded see service wanted batches before after Door = (length batches < wanted)
-    × HasStopped see service (cells_at_end service empty_cells 0 batches) (length batches) (number_at_end 0 batches) before after Door
+    × HasStopped see service (cells_at_end service empty_cells 0 batches) (length batches)
+    (number_at_end 0 batches) before after Door
 HasEnded see service wanted batches before after Log = (length batches < wanted)
-    × HasStopped see service (cells_at_end service empty_cells 0 batches) (length batches) (number_at_end 0 batches) before after Log
+    × HasStopped see service (cells_at_end service empty_cells 0 batches) (length batches)
+    (number_at_end 0 batches) before after Log
 HasEnded see service wanted batches before after Memory = (length batches < wanted)
-    × HasStopped see service (cells_at_end service empty_cells 0 batches) (length batches) (number_at_end 0 batches) before after Memory
+    × HasStopped see service (cells_at_end service empty_cells 0 batches) (length batches)
+    (number_at_end 0 batches) before after Memory
 
 -- serving: batches that were served, and how it ended behind them
-pub record HasServed {L : Type 0} (see : L → Seen) (service : Service) (wanted : ℕ) (before after : Sight L) (end : ServeEnd)
-    : Type 0 where
+pub record HasServed {L : Type 0} (see : L → Seen) (service : Service) (wanted : ℕ)
+    (before after : Sight L) (end : ServeEnd) : Type 0 where
   pub batches : List (Batch L)
   pub mid : Sight L
   pub served : AreServed see service empty_cells 0 0 before mid batches

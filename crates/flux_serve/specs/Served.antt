@@ -34,7 +34,8 @@ abbrev pub IsNotServed : LibraryMeaning → Program → Type 0
 IsNotServed meaning p = (framing : Framing) → IsServed meaning p framing → ⊥
 
 -- a sound program with its plans, and with one source by whose role links are read
-pub record CanServe (meaning : LibraryMeaning) (p : Program) (plans : List Plan) (framing : Framing) : Type 0 where
+pub record CanServe (meaning : LibraryMeaning) (p : Program) (plans : List Plan) (framing : Framing)
+    : Type 0 where
   pub kinds : ℕ → NodeKinds
   pub sound : IsSound meaning p kinds
   pub plans_ : ArePlansOf p plans

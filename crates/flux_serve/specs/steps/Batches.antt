@@ -11,11 +11,12 @@ use Rattle.flow_model.specs.Keys.{Cells}
 use Rattle.flux_serve.specs.Batches.{Service, Batch, cells_behind, number_behind}
 use Rattle.flux_serve.specs.Ends.{Sight, IsUndriven, HasDriven}
 use Rattle.flux_serve.specs.declared.batches.ServeEnd.{ServeEnd}
-use Rattle.flux_serve.specs.declared.batches.ServeEnd.TheVariants.{Closed, Counted, Door, Log, Memory}
+use Rattle.flux_serve.specs.declared.batches.ServeEnd.TheVariants.{Closed, Counted, Door}
+use Rattle.flux_serve.specs.declared.batches.ServeEnd.TheVariants.{Log, Memory}
 
 -- links came and were read
-pub record IsTaken {L : Type 0} (see : L → Seen) (framing : Framing) (before after : Option (List (List L)))
-    (late late' : ℕ) (held : List (Held L)) : Type 0 where
+pub record IsTaken {L : Type 0} (see : L → Seen) (framing : Framing)
+    (before after : Option (List (List L))) (late late' : ℕ) (held : List (Held L)) : Type 0 where
   pub came : List L
   pub formed : AreGathered before after late late' came
   pub size : (0 < length came) × (length came ≤ 64)
@@ -27,7 +28,9 @@ IsNone see before after Closed =
     IfSome before.to_come (λ batches. first_link (waiting batches) ≡ None)
     × (after.taken_back ≡ before.taken_back) × (after.log ≡ before.log) × (after.faults ≡ before.faults)
 IsNone see before after Counted = ⊥
-IsNone see before after Door = Rose before.faults after.faults × (after.taken_back ≡ before.taken_back) × (after.log ≡ before.log)
+IsNone see before after Door =
+    Rose before.faults after.faults × (after.taken_back ≡ before.taken_back)
+    × (after.log ≡ before.log)
 IsNone see before after Log = ⊥
 IsNone see before after Memory = IsUndriven see before after
 
@@ -40,8 +43,8 @@ HasFinished Log before after text = Broke before after text
 HasFinished Memory before after text = after ≡ before
 
 -- a batch was served, and left these cells and the number of the next link
-pub record HasPassed {L : Type 0} (see : L → Seen) (service : Service) (opening : Cells) (count number : ℕ)
-    (before after : Sight L) (cells : Cells) (next : ℕ) : Type 0 where
+pub record HasPassed {L : Type 0} (see : L → Seen) (service : Service) (opening : Cells)
+    (count number : ℕ) (before after : Sight L) (cells : Cells) (next : ℕ) : Type 0 where
   pub batch : Batch L
   pub driven : HasDriven see service opening count number batch before after Wrote
   pub cells_ : cells ≡ cells_behind service opening number batch

@@ -81,7 +81,8 @@ fn open_somewhere<D: Door>(door: &mut D) -> Option<u16>
 /// Asks at a port, and gives what came back.
 #[test]
 fn over_a_socket(rt: HostRuntime) -> Result<(), Fail> {
-    let mut door = RealDoor::new(&rt);
+    let alloc = rt.alloc();
+    let mut door = RealDoor::new(alloc, &rt);
     let port = open_somewhere(&mut door).ok_or("no port")?;
     let there = SocketAddr::from((Ipv4Addr::LOCALHOST, port));
     let mut client = rt.connect(there)?;
