@@ -46,9 +46,13 @@ fn note(spans: &mut [Span; LINK_LIMIT], place: usize, entry: &Entry)
         → AreSpans (entries ++ entry.now ∷ []) spans.new }
 {
     let flow = entry.flow.0 as usize;
-    if flow < LINK_LIMIT && !emission_of(entry).is_empty() {
-        spans[flow] = spans[flow].up_to(place);
+    if flow >= LINK_LIMIT {
+        return;
     }
+    if emission_of(entry).is_empty() {
+        return;
+    }
+    spans[flow] = spans[flow].up_to(place);
 }
 
 /// The spans of the flows of a batch. What a flow emits stands in its span.
