@@ -4,12 +4,10 @@ ghost use Rattle.std.specs.Prelude.{◌≡◌, ◌+◌, ◌<◌, ◌≤◌, [], 
 ghost use Rattle.std.specs.VecDeque.{deque_len};
 ghost use Rattle.flux_outside.specs.Streams.{Wrote, Broke, WroteOrBroke};
 ghost use Rattle.flux_batches.specs.Replies.{emitted, reply_of, IsAnswered, flow_behind, HasAnswered};
-ghost use Rattle.flux_batches.specs.steps.Spans.{IsSpan, AreSpans};
 
 use crate::gathering::LINK_LIMIT;
 use crate::reading::{Held, Sent};
-use crate::spans::{Span, emission_of, spans_of};
-use flow_model::Entry;
+use flow_model::{Entry, Event};
 use flux_doors::{Door, Link};
 use flux_model::FlowNo;
 use flux_outside::Failed;
@@ -33,13 +31,16 @@ fn send<K: Link>(link: &mut K, bytes: &[u8]) -> Result<(), Failed>
 }
 
 /// What an entry emits, if it is of a flow.
-fn emission_by(entry: &Entry, flow: FlowNo) -> &[u8]
+fn emission_of(entry: &Entry, flow: FlowNo) -> &[u8]
     ensures { result.now ≡ (if nat_eq entry.now.flow.0 flow.0 then emitted entry.now.event else []) }
 {
-    if entry.flow.0 == flow.0 {
-        emission_of(entry)
-    } else {
-        &[]
+    if entry.flow.0 != flow.0 {
+        return &[];
+    }
+    match &entry.event {
+        Event::Call(made) => made.answer.emits.as_bytes(),
+        Event::Take(_, _) | Event::Wait(_, _) | Event::Enter(_) | Event::Choose(_) => &[],
+        Event::Exit(_, _) | Event::Drop(_) | Event::End(_) => &[],
     }
 }
 
@@ -51,33 +52,16 @@ fn reply<K: Link>(link: &mut K, entries: &[Entry], flow: FlowNo)
         (reply_of flow.0 entries.now) }
 {
     for entry in entries {
-        match send(link, emission_by(entry, flow)) {
+        match send(link, emission_of(entry, flow)) {
             Ok(()) => {}
             Err(_) => return,
         }
     }
 }
 
-/// The same, where it is known in which span the flow emits.
-fn reply_within<K: Link>(link: &mut K, entries: &[Entry], span: Span, flow: FlowNo)
-    requires { IsSpan flow.0 entries.now span }
-    ensures { WroteOrBroke
-        (record { written = K.written link.old; faults = K.faults link.old })
-        (record { written = K.written link.new; faults = K.faults link.new })
-        (reply_of flow.0 entries.now) }
-{
-    reply(link, &entries[..span.behind][span.first..], flow);
-}
-
 /// Answers a link, if it has an item; and the flow of the next link that has one.
-fn answer<K: Link + Drop>(
-    held: Held<K>,
-    entries: &[Entry],
-    spans: &[Span; LINK_LIMIT],
-    flow: u32,
-) -> (K, u32)
-    requires few { flow < LINK_LIMIT }
-    requires spans { AreSpans entries.now spans.now }
+fn answer<K: Link + Drop>(held: Held<K>, entries: &[Entry], flow: u32) -> (K, u32)
+    requires { flow < LINK_LIMIT }
     ensures answered { IsAnswered entries.now flow
         (record { left = K.left held.link; written = K.written held.link; faults = K.faults held.link })
         (record { left = K.left result.0; written = K.written result.0; faults = K.faults result.0 }) held.sent }
@@ -87,7 +71,7 @@ fn answer<K: Link + Drop>(
     let Held { mut link, sent } = held;
     match sent {
         Sent::Text(_) => {
-            reply_within(&mut link, entries, spans[flow as usize], FlowNo(flow));
+            reply(&mut link, entries, FlowNo(flow));
             (link, flow + 1)
         }
         Sent::Failed => (link, flow),
@@ -107,11 +91,10 @@ pub fn answer_links<D: Door>(door: &mut D, links: VecDeque<Held<D::Link>>, entri
     ensures open { D.open_at door.new ≡ D.open_at door.old }
     ensures counts { (D.faults door.new ≡ D.faults door.old) × (D.late door.new ≡ D.late door.old) }
 {
-    let spans = spans_of(entries);
     let mut links = links;
     let mut flow = 0u32;
     'links: while let Some(held) = links.pop_front() {
-        let (link, next) = answer(held, entries, &spans, flow);
+        let (link, next) = answer(held, entries, flow);
         door.done(link);
         flow = next;
     }

@@ -9,6 +9,7 @@
 mod arrivals;
 mod doors;
 mod endings;
+mod entrances;
 mod links;
 mod memory_doors;
 mod memory_links;

@@ -14,8 +14,8 @@ loop-entry-preserved g c =
     let rest = reply_of c.args.flow.0 (drop (c.loop-entry.entry-index + 1) c.args.entries.now) in
     let below : c.loop-entry.entry-index < length c.args.entries.now = omega arith in
     let P : List ℕ → Type 0 = SoFar before mid bytes in
-    so_far_piece before mid after bytes c.emission_by.result.now rest
-    (subst P (reply-next c.args.flow.0 c.args.entries.now c.loop-entry.entry-index c.entry-item.result c.emission_by.result.now below c.entry-item.is c.emission_by.ensures) c.loop-entry.invariant)
+    so_far_piece before mid after bytes c.emission_of.result.now rest
+    (subst P (reply-next c.args.flow.0 c.args.entries.now c.loop-entry.entry-index c.entry-item.result c.emission_of.result.now below c.entry-item.is c.emission_of.ensures) c.loop-entry.invariant)
     c.in-Ok.ensures.wrote
 
 pub returns-in-Err : goal.returns-in-Err
@@ -27,6 +27,6 @@ returns-in-Err g c =
     let rest = reply_of c.args.flow.0 (drop (c.loop-entry.entry-index + 1) c.args.entries.now) in
     let below : c.loop-entry.entry-index < length c.args.entries.now = omega arith in
     let P : List ℕ → Type 0 = SoFar before mid bytes in
-    inr (so_far_piece_broke before mid after bytes c.emission_by.result.now rest
-    (subst P (reply-next c.args.flow.0 c.args.entries.now c.loop-entry.entry-index c.entry-item.result c.emission_by.result.now below c.entry-item.is c.emission_by.ensures) c.loop-entry.invariant)
+    inr (so_far_piece_broke before mid after bytes c.emission_of.result.now rest
+    (subst P (reply-next c.args.flow.0 c.args.entries.now c.loop-entry.entry-index c.entry-item.result c.emission_of.result.now below c.entry-item.is c.emission_of.ensures) c.loop-entry.invariant)
     c.in-Err.ensures.broke)
