@@ -49,10 +49,23 @@ spells number lt = record {
   spellings = decimal number ∷ [];
   each = (printed_spells (Int (pos number)) (record { sfits = small }), tt);
   laid = (
-    [], codes " (" ++ decimal number ++ codes ")", refl, refl,
-    (codes " ", decimal number ++ codes ")", refl, refl,
-    ([], codes ")", refl, refl,
-    ([], [], refl, refl, refl))),
+    [],
+    codes " (" ++ decimal number ++ codes ")",
+    refl,
+    refl,
+    (
+      codes " ",
+      decimal number ++ codes ")",
+      refl,
+      refl,
+      (
+        [],
+        codes ")",
+        refl,
+        refl,
+        ([], [], refl, refl, refl),
+      ),
+    ),
   );
 }
   where

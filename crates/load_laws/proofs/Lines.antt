@@ -3,7 +3,7 @@ use Rattle.std.proofs.Common.{◌≡◌, ◌<◌, ◌+◌, ◌*◌, ◌%◌, ℕ
 use Rattle.std.specs.List.{AllByRecursion}
 use Rattle.std.proofs.lemmas.Bool.Decides.{nat_tests}
 use Rattle.std.proofs.lemmas.Fmt.{decimal_digit}
-use Rattle.std.proofs.lemmas.List.Elements.{recursion_from_All}
+use Rattle.std.proofs.lemmas.List.Elements.{All-from_recursion}
 use Rattle.std.proofs.lemmas.List.Splits.{slice_split_at}
 use Rattle.flux_items.specs.Lines.{is_line_end, lines_of}
 use Rattle.flux_load.specs.Loads.{item_line, items_text}
@@ -38,7 +38,7 @@ one_digit first place = omega arith
 line_first : (first place : ℕ) (rest : List ℕ) → lines_of (item_line first place ++ rest) ≡ body (number_at first place) ∷ lines_of rest
 line_first first place rest = let number = number_at first place in
     ap (λ (l : List ℕ). lines_of (codes "Tick (" ++ l)) (append_assoc (decimal number) (codes ")\n") rest ∙ sym (append_assoc (decimal number) (codes ")") (10 ∷ rest)))
-    ∙ slice_split_at is_line_end (body number) 10 rest (recursion_from_All (λ (b : ℕ). is_line_end b ≡ false) (body number) (one_line number (one_digit first place))) refl
+    ∙ slice_split_at is_line_end (body number) 10 rest (All-from_recursion (λ (b : ℕ). is_line_end b ≡ false) (body number) (one_line number (one_digit first place))) refl
 
 -- the lines of the items, and of what is behind them
 pub lines_are : (count first : ℕ) (rest : List ℕ) → lines_of (items_text count first ++ rest) ≡ bodies count first ++ lines_of rest

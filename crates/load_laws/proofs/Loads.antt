@@ -93,7 +93,7 @@ module _ (told : Told) (count first : ℕ) (runtime : Runtime) (le : count ≤ L
   came_to statuses.Static text line (inr never) = absurd never
   came_to statuses.Items text line (inl (items, none)) = absurd (not_items items.docs line items.says)
   came_to statuses.Items text line (inr never) = absurd never
-  came_to statuses.No text line (inl (no, none)) = absurd no.says
+  came_to statuses.No text line (inl (refuted, none)) = absurd refuted.says
   came_to statuses.No text line (inr never) = absurd never
   came_to statuses.Missing text line (inl (inl lost, none)) = absurd lost.lost
   came_to statuses.Missing text line (inl (inr missing, none)) = absurd (not_missing missing.docs line missing.says)

@@ -1,5 +1,5 @@
 -- What the program of a load declares is sound for the library, with any documents.
-use Rattle.std.proofs.Common.{◌≡◌, ◌<◌, ◌≤◌, ◌⊎◌, inl, inr, ℕ, zero, suc, ◌==◌, Bool, true, false, if◌then◌else◌, List, [], ◌∷◌, length, None, refl, arith}
+use Rattle.std.proofs.Common.{◌≡◌, ◌<◌, ◌≤◌, ◌⊎◌, inl, inr, ℕ, zero, suc, ◌==◌, Bool, true, false, ◌||◌, List, [], ◌∷◌, length, None, refl, arith}
 use Rattle.std.specs.List.{list_any}
 use Rattle.std.proofs.lemmas.Bool.{or_left, or_right, eq-eqb}
 use Rattle.flux_library.specs.Documents.{DocMap}
@@ -53,7 +53,7 @@ not_in number (node ∷ nodes) none (inl same) =
     absurd cc
 not_in number (node ∷ nodes) none (inr is) = rest (number == node.0) none (λ e. not_in number nodes e is)
   where
-    rest : (own : Bool) → (if own then true else list_any (λ other. number == other.0) nodes) ≡ false → (list_any (λ other. number == other.0) nodes ≡ false → ⊥) → ⊥
+    rest : (own : Bool) → (own || list_any (λ other. number == other.0) nodes) ≡ false → (list_any (λ other. number == other.0) nodes ≡ false → ⊥) → ⊥
     rest true e later = absurd cc
     rest false e later = later e
 
@@ -71,13 +71,35 @@ is_order : IsOrder (nodes_of program_decls) order
 is_order = record {
   each = each;
   after = (
-    below 0 (omega arith), not_in 0 [] refl, (λ led is. absurd is),
-    (below 1 (omega arith), not_in 1 (no 0 ∷ []) refl, (λ led is. absurd is),
-    (below 2 (omega arith), not_in 2 (no 1 ∷ no 0 ∷ []) refl, (λ led is. absurd is),
-    (below 3 (omega arith), not_in 3 (no 2 ∷ no 1 ∷ no 0 ∷ []) refl, (λ led is. absurd is),
-    (below 5 (omega arith), not_in 5 (no 3 ∷ no 2 ∷ no 1 ∷ no 0 ∷ []) refl, visit_leads,
-    (below 4 (omega arith), not_in 4 (no 5 ∷ no 3 ∷ no 2 ∷ no 1 ∷ no 0 ∷ []) refl, load_leads,
-    tt))))),
+    below 0 (omega arith),
+    not_in 0 [] refl,
+    (λ led is. absurd is),
+    (
+      below 1 (omega arith),
+      not_in 1 (no 0 ∷ []) refl,
+      (λ led is. absurd is),
+      (
+        below 2 (omega arith),
+        not_in 2 (no 1 ∷ no 0 ∷ []) refl,
+        (λ led is. absurd is),
+        (
+          below 3 (omega arith),
+          not_in 3 (no 2 ∷ no 1 ∷ no 0 ∷ []) refl,
+          (λ led is. absurd is),
+          (
+            below 5 (omega arith),
+            not_in 5 (no 3 ∷ no 2 ∷ no 1 ∷ no 0 ∷ []) refl,
+            visit_leads,
+            (
+              below 4 (omega arith),
+              not_in 4 (no 5 ∷ no 3 ∷ no 2 ∷ no 1 ∷ no 0 ∷ []) refl,
+              load_leads,
+              tt,
+            ),
+          ),
+        ),
+      ),
+    ),
   );
 }
 
