@@ -85,7 +85,8 @@ given (suc count) first = given count first ++ Some (item (number_at first count
 abbrev pub items_in : List (Option Item) → List Item
 items_in given = filter_map (λ item. item) given
 
-give_more : (lines more : List (List ℕ)) (given others : List (Option Item)) → GiveEach load_rules lines given → GiveEach load_rules more others → GiveEach load_rules (lines ++ more) (given ++ others)
+give_more : (lines more : List (List ℕ)) (given others : List (Option Item)) → GiveEach load_rules lines given
+    → GiveEach load_rules more others → GiveEach load_rules (lines ++ more) (given ++ others)
 give_more [] more [] others one two = two
 give_more [] more (g ∷ given) others one two = absurd one
 give_more (line ∷ lines) more [] others one two = absurd one
@@ -94,38 +95,52 @@ give_more (line ∷ lines) more (g ∷ given) others one two = (one.0, give_more
 each_gives : (count first : ℕ) → GiveEach load_rules (bodies count first) (given count first)
 each_gives zero first = tt
 each_gives (suc count) first =
-    give_more (bodies count first) (body (number_at first count) ∷ []) (given count first) (Some (item (number_at first count)) ∷ []) (each_gives count first) (gives_item (number_at first count) (one_digit first count), tt)
+    let number = number_at first count in
+    give_more (bodies count first) (body number ∷ []) (given count first) (Some (item number) ∷ [])
+    (each_gives count first) (gives_item number (one_digit first count), tt)
 
-many : (count first : ℕ) (others : List (Option Item)) → length (items_in (given count first ++ others)) ≡ count + length (items_in others)
+many : (count first : ℕ) (others : List (Option Item))
+    → length (items_in (given count first ++ others)) ≡ count + length (items_in others)
 many zero first others = omega arith
 many (suc count) first others =
     let own : Option Item = Some (item (number_at first count)) in
     ap (λ (l : List (Option Item)). length (items_in l)) (append_assoc (given count first) (own ∷ []) others)
     ∙ many count first (own ∷ others) ∙ omega arith
 
-large : (count first : ℕ) (others : List (Option Item)) → total_size load_rules (items_in (given count first ++ others)) ≡ 26 * count + total_size load_rules (items_in others)
+large : (count first : ℕ) (others : List (Option Item))
+    → total_size load_rules (items_in (given count first ++ others))
+    ≡ 26 * count + total_size load_rules (items_in others)
 large zero first others = omega arith
 large (suc count) first others =
     let own : Item = item (number_at first count) in
-    let next : total_size load_rules (own ∷ items_in others) ≡ 26 + total_size load_rules (items_in others) = sum_by-cons (λ (i : Item). slice_index load_rules.sizes i.source.0) own (items_in others) in
-    ap (λ (l : List (Option Item)). total_size load_rules (items_in l)) (append_assoc (given count first) (Some own ∷ []) others)
+    let next : total_size load_rules (own ∷ items_in others) ≡ 26 + total_size load_rules (items_in others) =
+    sum_by-cons (λ (i : Item). slice_index load_rules.sizes i.source.0) own (items_in others) in
+    ap (λ (l : List (Option Item)). total_size load_rules (items_in l))
+    (append_assoc (given count first) (Some own ∷ []) others)
     ∙ large count first (Some own ∷ others) ∙ omega (arith, next)
 
 -- the text gives its items: each line one, and the empty line behind the last LF none
-pub gives_items : (count first : ℕ) → count ≤ ITEM_LIMIT → AreItemsOf load_rules (items_in (given count first ++ None ∷ [])) (items_text count first)
+pub gives_items : (count first : ℕ) → count ≤ ITEM_LIMIT
+    → AreItemsOf load_rules (items_in (given count first ++ None ∷ [])) (items_text count first)
 gives_items count first le = record {
   give = record {
     given = given count first ++ None ∷ [];
     each = subst (λ (ls : List (List ℕ)). GiveEach load_rules ls (given count first ++ None ∷ [])) (sym lines)
-        (give_more (bodies count first) ([] ∷ []) (given count first) (None ∷ []) (each_gives count first) (inl refl, tt));
+        (give_more (bodies count first) ([] ∷ []) (given count first) (None ∷ [])
+        (each_gives count first) (inl refl, tt));
     are = refl;
   };
-  within = record { few = omega (arith, le, many count first (None ∷ [])); small = omega (arith, le, large count first (None ∷ [])) };
+  within = record {
+    few = omega (arith, le, many count first (None ∷ []));
+    small = omega (arith, le, large count first (None ∷ []));
+  };
 }
   where
     lines : lines_of (items_text count first) ≡ bodies count first ++ [] ∷ []
     lines = ap lines_of (sym (append-nil (items_text count first))) ∙ lines_are count first []
 
 -- so no line of it has a fault
-pub faultless : (count first : ℕ) → count ≤ ITEM_LIMIT → (fault : ItemFault) → IsFaultOf load_rules fault (items_text count first) → ⊥
-faultless count first le fault is = no_items_and_fault load_rules are_rules (items_text count first) (items_in (given count first ++ None ∷ [])) fault (gives_items count first le) is
+pub faultless : (count first : ℕ) → count ≤ ITEM_LIMIT
+    → (fault : ItemFault) → IsFaultOf load_rules fault (items_text count first) → ⊥
+faultless count first le fault is = no_items_and_fault load_rules are_rules (items_text count first)
+    (items_in (given count first ++ None ∷ [])) fault (gives_items count first le) is

@@ -28,20 +28,25 @@ no_end : (number : ℕ) → is_line_end (48 + number) ≡ false
 no_end number = grind (arith, nat_tests)
 
 one_line : (number : ℕ) → number < 10 → HasNoEnd (body number)
-one_line number lt = subst (λ (digits : List ℕ). HasNoEnd (codes "Tick (" ++ digits ++ codes ")")) (sym (decimal_digit number lt))
+one_line number lt =
+    subst (λ (digits : List ℕ). HasNoEnd (codes "Tick (" ++ digits ++ codes ")")) (sym (decimal_digit number lt))
     (refl, (refl, (refl, (refl, (refl, (refl, (no_end number, (refl, tt))))))))
 
 -- a number is one digit
 pub one_digit : (first place : ℕ) → number_at first place < 10
 one_digit first place = omega arith
 
-line_first : (first place : ℕ) (rest : List ℕ) → lines_of (item_line first place ++ rest) ≡ body (number_at first place) ∷ lines_of rest
+line_first : (first place : ℕ) (rest : List ℕ)
+    → lines_of (item_line first place ++ rest) ≡ body (number_at first place) ∷ lines_of rest
 line_first first place rest = let number = number_at first place in
-    ap (λ (l : List ℕ). lines_of (codes "Tick (" ++ l)) (append_assoc (decimal number) (codes ")\n") rest ∙ sym (append_assoc (decimal number) (codes ")") (10 ∷ rest)))
-    ∙ slice_split_at is_line_end (body number) 10 rest (All-from_recursion (λ (b : ℕ). is_line_end b ≡ false) (body number) (one_line number (one_digit first place))) refl
+    ap (λ (l : List ℕ). lines_of (codes "Tick (" ++ l))
+    (append_assoc (decimal number) (codes ")\n") rest ∙ sym (append_assoc (decimal number) (codes ")") (10 ∷ rest)))
+    ∙ slice_split_at is_line_end (body number) 10 rest
+    (All-from_recursion (λ (b : ℕ). is_line_end b ≡ false) (body number) (one_line number (one_digit first place))) refl
 
 -- the lines of the items, and of what is behind them
-pub lines_are : (count first : ℕ) (rest : List ℕ) → lines_of (items_text count first ++ rest) ≡ bodies count first ++ lines_of rest
+pub lines_are : (count first : ℕ) (rest : List ℕ)
+    → lines_of (items_text count first ++ rest) ≡ bodies count first ++ lines_of rest
 lines_are zero first rest = refl
 lines_are (suc count) first rest =
     ap lines_of (append_assoc (items_text count first) (item_line first count) rest)

@@ -43,16 +43,22 @@ abbrev no_docs : DocMap
 no_docs = record { named = fin.empty; bodies = λ name. rw (fin.get-empty (slice_cmp nat_cmp) name) tt }
 
 module _ (told : Told) (count first : ℕ) where
-  abbrev texts : (docs : DocMap) → HasItems (built_in docs) told.files (made program_text) (made (items_text count first))
+  abbrev texts : (docs : DocMap)
+      → HasItems (built_in docs) told.files (made program_text) (made (items_text count first))
   texts docs = record {
     decls = program_decls;
-    program_ = record { has = record { text = program_text; gives = refl; declared = declared }; sound = program_sound docs };
+    program_ = record {
+      has = record { text = program_text; gives = refl; declared = declared };
+      sound = program_sound docs;
+    };
     text = items_text count first;
     gives = refl;
   }
 
-  no_fault : (docs : DocMap) → count ≤ LOAD_LIMIT → (fault : ItemFault) → IsFaultOf (rules_in (built_in docs) program_decls (program_sound docs)) fault (items_text count first) → ⊥
-  no_fault docs le fault is = faultless count first le fault (subst (λ (rules : ItemRules). IsFaultOf rules fault (items_text count first)) (sym (same_rules docs)) is)
+  no_fault : (docs : DocMap) → count ≤ LOAD_LIMIT → (fault : ItemFault)
+      → IsFaultOf (rules_in (built_in docs) program_decls (program_sound docs)) fault (items_text count first) → ⊥
+  no_fault docs le fault is = faultless count first le fault
+      (subst (λ (rules : ItemRules). IsFaultOf rules fault (items_text count first)) (sym (same_rules docs)) is)
 
   loadable : count ≤ LOAD_LIMIT → IsLoadable built_in told count first
   loadable le = record { docs = no_docs; none = refl; has = texts no_docs; faultless = no_fault no_docs le }
@@ -68,11 +74,15 @@ module _ (told : Told) (count first : ℕ) (runtime : Runtime) (le : count ≤ L
       not_faulty (built_in docs) told.files (made program_text) tt s.text s.fault program_decls has.program_
       (gives_here (built_in docs) told.files (made program_text) s.program s.text s.reads s.gives) s.stands
 
-  not_items : (docs : DocMap) (line : List ℕ) → IsItemsText (built_in docs) told.files (made program_text) (made (items_text count first)) line → ⊥
+  not_items : (docs : DocMap) (line : List ℕ)
+      → IsItemsText (built_in docs) told.files (made program_text) (made (items_text count first)) line → ⊥
   not_items docs line is =
-      no_fault told count first docs le is.fault (fault_here (built_in docs) told.files (made program_text) tt (made (items_text count first)) tt (texts told count first docs) line is)
+      let stands = fault_here (built_in docs) told.files (made program_text) tt (made (items_text count first)) tt
+      (texts told count first docs) line is in
+      no_fault told count first docs le is.fault stands
 
-  not_missing : (docs : DocMap) (line : List ℕ) → IsMissing (built_in docs) (load count first runtime) told.files line → ⊥
+  not_missing : (docs : DocMap) (line : List ℕ)
+      → IsMissing (built_in docs) (load count first runtime) told.files line → ⊥
   not_missing docs line m = one m.lost
     where
       one : ((named m.name ≡ made program_text) × IsLost told.files m.name PROGRAM_FILE_LIMIT) ⊎ (⊥ ⊎ ⊥) → ⊥
@@ -83,9 +93,11 @@ module _ (told : Told) (count first : ℕ) (runtime : Runtime) (le : count ≤ L
   -- ---- the statuses
 
   abbrev Came : Status → List ℕ → List ℕ → Type 0
-  Came status text line = Decided built_in (load count first runtime) told status text line ⊎ Happened built_in (load count first runtime) told status text line
+  Came status text line = Decided built_in (load count first runtime) told status text line
+      ⊎ Happened built_in (load count first runtime) told status text line
 
-  came_to : (status : Status) (text line : List ℕ) → Came status text line → OrMemory status ((status ≡ statuses.Done) ⊎ (status ≡ statuses.Write))
+  came_to : (status : Status) (text line : List ℕ) → Came status text line
+      → OrMemory status ((status ≡ statuses.Done) ⊎ (status ≡ statuses.Write))
   came_to statuses.Done text line came = inl (inl refl)
   came_to statuses.Write text line came = inl (inr refl)
   came_to statuses.Memory text line came = inr refl
@@ -117,8 +129,12 @@ module _ (words : List (List ℕ)) (before after : Seen) (status : Status) (coun
   few = let behind = spelled.behind in let fits = behind.fits in let number = fits.count_ in number.to
 
   one_of : OrMemory status ((status ≡ statuses.Done) ⊎ (status ≡ statuses.Write))
-  one_of = let answered = answered_of built_in words before after status (load count first runtime) spelled (λ other serving e. absurd cc) done.answered in
-      elim (of_command built_in words before.told (load count first runtime) spelled status answered.text answered.line answered.cause) [
+  one_of = let command = load count first runtime in
+      let answered = answered_of built_in words before after status command spelled
+      (λ other serving e. absurd cc) done.answered in
+      let cause = of_command built_in words before.told command spelled status
+      answered.text answered.line answered.cause in
+      elim cause [
         | inl came ↦ came_to before.told count first runtime few status answered.text answered.line came
         | inr memory ↦ inr memory
       ]
@@ -149,13 +165,19 @@ module _ (words : List (List ℕ)) (before after : Seen) (status : Status) (coun
   ]
 
   no_fault_told : (status ≢ statuses.Static) × (status ≢ statuses.Items)
-  no_fault_told = (other statuses.Static (λ e. absurd cc) (λ e. absurd cc) (λ e. absurd cc), other statuses.Items (λ e. absurd cc) (λ e. absurd cc) (λ e. absurd cc))
+  no_fault_told = (
+    other statuses.Static (λ e. absurd cc) (λ e. absurd cc) (λ e. absurd cc),
+    other statuses.Items (λ e. absurd cc) (λ e. absurd cc) (λ e. absurd cc),
+  )
 
 pub loads_end : LoadsEndSo
-loads_end words before after status count first runtime spelled done = ends words before after status count first runtime spelled done
+loads_end words before after status count first runtime spelled done =
+    ends words before after status count first runtime spelled done
 
 pub loads_done : LoadsAreDone
-loads_done words before after status count first runtime spelled rose done = is_done words before after status count first runtime spelled done rose
+loads_done words before after status count first runtime spelled rose done =
+    is_done words before after status count first runtime spelled done rose
 
 pub no_load_has_fault : NoLoadHasFault
-no_load_has_fault words before after status count first runtime spelled done = no_fault_told words before after status count first runtime spelled done
+no_load_has_fault words before after status count first runtime spelled done =
+    no_fault_told words before after status count first runtime spelled done

@@ -45,15 +45,20 @@ each (suc (suc (suc (suc (suc (suc number)))))) lt = absurd (omega (arith, lt, s
 below : (number : ℕ) → number < 6 → number < length (nodes_of program_decls)
 below number lt = omega (arith, lt, six)
 
+-- whether a number is among nodes
+abbrev finds : ℕ → List NodeNo → Bool
+finds number nodes = list_any (λ node. number == node.0) nodes
+
 -- a number that the test doesn't find isn't there
-not_in : (number : ℕ) (nodes : List NodeNo) → list_any (λ node. number == node.0) nodes ≡ false → IsIn number nodes → ⊥
+not_in : (number : ℕ) (nodes : List NodeNo) → finds number nodes ≡ false → IsIn number nodes → ⊥
 not_in number [] none is = is
 not_in number (node ∷ nodes) none (inl same) =
-    let found : list_any (λ other. number == other.0) (node ∷ nodes) ≡ true = or_left (number == node.0) (list_any (λ other. number == other.0) nodes) (eq-eqb number node.0 same) in
+    let found : finds number (node ∷ nodes) ≡ true =
+    or_left (number == node.0) (finds number nodes) (eq-eqb number node.0 same) in
     absurd cc
 not_in number (node ∷ nodes) none (inr is) = rest (number == node.0) none (λ e. not_in number nodes e is)
   where
-    rest : (own : Bool) → (own || list_any (λ other. number == other.0) nodes) ≡ false → (list_any (λ other. number == other.0) nodes ≡ false → ⊥) → ⊥
+    rest : (own : Bool) → (own || finds number nodes) ≡ false → (finds number nodes ≡ false → ⊥) → ⊥
     rest true e later = absurd cc
     rest false e later = later e
 
@@ -126,7 +131,8 @@ module _ (docs : DocMap) where
   no_size_row = refl
 
   pub are_locks : AreLocks (program_of program_decls) load_locks
-  are_locks = locks_are_there (program_of program_decls) (numbered (all_meaning docs) program_decls few_words no_names_row) acyclic
+  are_locks = let program_numbered = numbered (all_meaning docs) program_decls few_words no_names_row in
+      locks_are_there (program_of program_decls) program_numbered acyclic
 
   abbrev pub program_sound : AreSound (all_meaning docs) program_decls
   program_sound = record {

@@ -14,7 +14,7 @@ word text at = record { text = text; at = at }
 abbrev pub number : ℕ → List Param
 number at = record { ty = word (codes "int") at; stars = 0; name = word (codes "n") (at + 4) } ∷ []
 
--- four signatures, a predicate, a source with its session, three flows, and the constraints of four nodes
+-- four signatures, a predicate, a source, its session, three flows, and four lines of constraints
 abbrev pub program_decls : List Decl
 program_decls =
     Signature (word (codes "Tick") 0) [] (number 12)

@@ -8,8 +8,8 @@ pub fn program_is_sound()
     ensures { IsProgramSound }
 {}
 
-/// With the library that the program is built with, `load` answers 0, or 6 where writing failed, unless memory is short;
-/// never that a text of its own has a fault.
+/// With the library that the program is built with, `load` answers 0, or 6 where writing failed, unless memory is
+/// short; it never answers that a text of its own has a fault.
 pub fn loads_are_done()
     ensures loadable { LoadsAreLoadable }
     ensures end { LoadsEndSo }
