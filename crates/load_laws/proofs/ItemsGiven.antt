@@ -1,10 +1,9 @@
 -- The items of a load's text, which has no fault.
-use Rattle.std.proofs.Common.{◌≡◌, ◌<◌, ◌≤◌, ◌+◌, ◌*◌, ◌^◌, inl, ℕ, zero, suc, pos, List, [], ◌∷◌, ◌++◌, length, codes, decimal, slice_index, sum_by, Option, Some, None, refl, sym, ap, subst, ◌∙◌, arith, append_assoc}
+use Rattle.std.proofs.Common.{◌≡◌, ◌<◌, ◌≤◌, ◌+◌, ◌*◌, ◌^◌, inl, ℕ, zero, suc, pos, List, [], ◌∷◌, ◌++◌, length, codes, decimal, slice_index, Option, Some, None, refl, sym, ap, subst, ◌∙◌, arith, append_assoc}
 use Rattle.std.specs.List.{filter_map}
 use Rattle.std.proofs.lemmas.List.{append-nil}
 use Rattle.std.proofs.lemmas.List.Sums.{sum_by-cons}
 use Rattle.flux_values.specs.declared.values.Kind.TheVariants as kinds
-use Rattle.flux_values.specs.declared.values.Value.{Value}
 use Rattle.flux_values.specs.declared.values.Value.TheVariants.{Int}
 use Rattle.flux_spelling.proofs.Causes.{printed_spells}
 use Rattle.flux_model.specs.declared.items.Item.{Item}
@@ -13,7 +12,7 @@ use Rattle.flux_items.specs.declared.rules.ItemFault.{ItemFault}
 use Rattle.flux_items.specs.declared.rules.TheConstants.{ITEM_LIMIT}
 use Rattle.flux_items.specs.Lines.{lines_of}
 use Rattle.flux_items.specs.Spelled.{SpellsItem}
-use Rattle.flux_items.specs.Rules.{IsNamed, AreRules, AreWithin, total_size}
+use Rattle.flux_items.specs.Rules.{IsNamed, AreRules, total_size}
 use Rattle.flux_items.specs.Items.{IsItemLine, GiveEach, AreItemsOf}
 use Rattle.flux_items.specs.Faults.{IsFaultOf}
 use Rattle.flux_items.proofs.OneAnswer.{no_items_and_fault}

@@ -1,7 +1,7 @@
 -- What the program of a load declares is sound for the library, with any documents.
 use Rattle.std.proofs.Common.{◌≡◌, ◌<◌, ◌≤◌, ◌⊎◌, inl, inr, ℕ, zero, suc, ◌==◌, Bool, true, false, ◌||◌, List, [], ◌∷◌, length, None, refl, arith}
 use Rattle.std.specs.List.{list_any}
-use Rattle.std.proofs.lemmas.Bool.{or_left, or_right, eq-eqb}
+use Rattle.std.proofs.lemmas.Bool.{or_left, eq-eqb}
 use Rattle.flux_library.specs.Documents.{DocMap}
 use Rattle.nodes_all.specs.Alls.{all_meaning}
 use Rattle.flux_model.specs.declared.programs.NodeNo.{NodeNo}
