@@ -1,0 +1,6 @@
+mod Lexed
+mod Declared
+mod Sound
+mod Lines
+mod ItemsGiven
+mod Loads

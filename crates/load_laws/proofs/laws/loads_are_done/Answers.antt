@@ -1,0 +1,14 @@
+use Rattle.load_laws.proofs.Loads.{loads_loadable, loads_end, loads_done, no_load_has_fault}
+use Rattle.load_laws.proofs.laws.loads_are_done.Goals as goal
+
+pub returns-clause-loadable : goal.returns-clause-loadable
+returns-clause-loadable c = loads_loadable
+
+pub returns-clause-end : goal.returns-clause-end
+returns-clause-end c = loads_end
+
+pub returns-clause-done : goal.returns-clause-done
+returns-clause-done c = loads_done
+
+pub returns-clause-faultless : goal.returns-clause-faultless
+returns-clause-faultless c = no_load_has_fault
