@@ -14,12 +14,15 @@ use plain_journals::Given;
 use std::alloc::Global;
 use std::sync::Wait;
 
-/// What the second seat got, and what it found.
+/// What two seats got.
 #[derive(Clone, Copy, Debug)]
 pub struct Tries {
-    pub while_out: bool,
-    pub once_given: bool,
-    pub entries: usize,
+    /// Whether the first one's flow made a step in its turn.
+    pub stepped: bool,
+    /// How many entries the second one found while the turn was out; None where it got no turn.
+    pub while_out: Option<usize>,
+    /// How many it found once the turn was given.
+    pub once_given: Option<usize>,
 }
 
 /// Lets the one flow of a core make a step, and says whether it did.
@@ -32,50 +35,63 @@ fn step_only(core: &mut Core<Counter>) -> bool
     core.step(FlowNo(0)).is_ok()
 }
 
-/// Gives a turn back as it was found.
-fn give_back(hall: &Hall<Counter>, turn: HallTurn<Counter>) -> HallSeat<Counter>
-    requires hall { turn.held.hall ≡ hall.now }
-    requires same { turn.core ≡ turn.held.found }
-    ensures { result.hall ≡ hall.now }
+/// Tries once, and where it gets the turn gives it back as it was found, and says how many entries there were.
+fn look(hall: &Hall<Counter>, seat: HallSeat<Counter>) -> (Option<usize>, HallSeat<Counter>)
+    requires { seat.hall ≡ hall.now }
+    ensures { result.1.hall ≡ hall.now }
 {
-    hall.give(turn)
+    match hall.try_turn(seat) {
+        Ok(turn) => {
+            let entries = turn.core.journal().entries.len();
+            (Some(entries), hall.give(turn))
+        }
+        Err(seat) => (None, seat),
+    }
 }
 
-/// The first seat makes one step in its turn. The second tries meanwhile, and again behind it.
+/// The flow makes a step in a turn; the other seat looks while the turn is out, and once it was given. Both seats come back.
+fn look_beside(
+    hall: &Hall<Counter>,
+    turn: HallTurn<Counter>,
+    other: HallSeat<Counter>,
+) -> (Tries, HallSeat<Counter>, HallSeat<Counter>)
+    requires turn { turn.held.hall ≡ hall.now }
+    requires found { turn.core ≡ turn.held.found }
+    requires other { other.hall ≡ hall.now }
+    ensures one { result.1.hall ≡ hall.now }
+    ensures other { result.2.hall ≡ hall.now }
+{
+    let mut turn = turn;
+    let stepped = step_only(&mut turn.core);
+    let (while_out, other) = look(hall, other);
+    let one = hall.give(turn);
+    let (once_given, other) = look(hall, other);
+    let tries = Tries {
+        stepped,
+        while_out,
+        once_given,
+    };
+    (tries, one, other)
+}
+
+/// The first seat of a hall gets the turn by a try, and the second looks beside it.
 pub fn two_tries<R: Wait>(rt: &R, alloc: Global) -> Result<Tries, Trouble> {
     let given = [Given {
         source: 0,
         number: 5,
     }];
     let Opened { core, program: _ } = open(alloc, FREE, &given, Counter)?;
-    let (hall, seat) = match Hall::new(alloc, core) {
-        Ok(made) => made,
-        Err(_) => return Err(Trouble::Memory),
+    let Ok((hall, seat)) = Hall::new(alloc, core) else {
+        return Err(Trouble::Memory);
     };
     let (one, other) = hall.split(seat);
-    let mut turn = hall.turn(rt, one);
-    let stepped = step_only(&mut turn.core);
-    let (while_out, other) = match hall.try_turn(other) {
-        Ok(turn) => (true, give_back(&hall, turn)),
-        Err(seat) => (false, seat),
-    };
-    let one = hall.give(turn);
-    let (once_given, entries, other) = match hall.try_turn(other) {
+    match hall.try_turn(one) {
         Ok(turn) => {
-            let entries = turn.core.journal().entries.len();
-            (true, entries, give_back(&hall, turn))
+            let (tries, one, other) = look_beside(&hall, turn, other);
+            let seat = hall.join(one, other);
+            let _core = hall.close(rt, seat);
+            Ok(tries)
         }
-        Err(seat) => (false, 0, seat),
-    };
-    let seat = hall.join(one, other);
-    let _core = hall.close(rt, seat);
-    if stepped {
-        Ok(Tries {
-            while_out,
-            once_given,
-            entries,
-        })
-    } else {
-        Err(Trouble::Memory)
+        Err(_) => Err(Trouble::Turn),
     }
 }

@@ -9,47 +9,56 @@ mod crowds;
 mod gates;
 mod halls;
 mod heavy;
+mod libraries;
 mod programs;
 mod queues;
 mod refusals;
 mod runs;
+mod threads;
 mod troubles;
 
 use crowds::drive_crowd;
 use halls::two_tries;
 use heavy::heavy_ended;
 use programs::{COUNTING, READING, SESSIONS};
-use queues::five_takes;
+use queues::takes;
 use refusals::driven_twice;
 use runs::{Driver, calls_held, kept, nested_kept};
 use std::alloc::Global;
 use std::env;
 use std::marker::Sync;
 use std::process::ExitCode;
+use std::rt::Files;
 use std::sync::Wait;
 use std::thread::Threads;
+use threads::{none_left, thread_count};
 use troubles::Trouble;
 
 /// So many random programs are driven by each runtime.
 const SEEDS: u32 = 20;
 
-fn name_of(is_turn: bool) -> &'static str {
-    if is_turn { "a turn" } else { "the seat" }
-}
+/// So often each of them is driven.
+const TIMES: u32 = 20;
 
 fn answer_hall<R: Wait + Print>(rt: &R, alloc: Global) -> Result<(), Trouble> {
     let tries = two_tries(rt, alloc)?;
     println!(rt;
-        "hall: {} while the turn is out, {} once it was given, entries {}",
-        name_of(tries.while_out),
-        name_of(tries.once_given),
-        tries.entries
+        "hall: the first seat's flow made a step: {}",
+        tries.stepped
     )?;
+    match tries.while_out {
+        Some(entries) => println!(rt; "hall: a turn while another is out, entries {entries}")?,
+        None => println!(rt; "hall: no turn while another is out")?,
+    }
+    match tries.once_given {
+        Some(entries) => println!(rt; "hall: a turn once the other was given, entries {entries}")?,
+        None => println!(rt; "hall: no turn once the other was given")?,
+    }
     Ok(())
 }
 
 fn answer_queue<R: Wait + Print>(rt: &R, alloc: Global) -> Result<(), Trouble> {
-    for take in five_takes(rt, alloc)? {
+    for take in takes(rt, alloc)? {
         match take {
             Some(flow) => println!(rt; "queue: {}", flow.0)?,
             None => println!(rt; "queue: none")?,
@@ -58,19 +67,29 @@ fn answer_queue<R: Wait + Print>(rt: &R, alloc: Global) -> Result<(), Trouble> {
     Ok(())
 }
 
-/// The trials of one runtime.
-fn answer_driver<R: Threads + Wait + Sync + Print>(
+/// Programs that are driven to their ends.
+fn answer_programs<R: Threads + Wait + Sync + Print>(
     rt: &R,
     alloc: Global,
     driver: Driver,
     name: &str,
 ) -> Result<(), Trouble> {
-    let kept = kept(rt, alloc, driver, SEEDS)?;
-    println!(rt; "{name}: {kept} journals of {SEEDS} keep each rule")?;
+    let kept = kept(rt, alloc, driver, SEEDS, TIMES)?;
+    println!(rt; "{name}: {SEEDS} programs, {TIMES} times each: {kept} journals keep each rule")?;
     for flows in [0, 1, 65] {
         let nested = nested_kept(rt, alloc, driver, flows)?;
         println!(rt; "{name}: {flows} flows through nested nodes keep each rule: {nested}")?;
     }
+    Ok(())
+}
+
+/// Calls that are refused, each in turn.
+fn answer_refusals<R: Threads + Wait + Sync + Print>(
+    rt: &R,
+    alloc: Global,
+    driver: Driver,
+    name: &str,
+) -> Result<(), Trouble> {
     for call in 1..=4 {
         let drives = driven_twice(rt, alloc, driver, call)?;
         println!(rt;
@@ -113,18 +132,29 @@ fn answer_crowds<R: Threads + Wait + Sync + Print>(
     Ok(())
 }
 
-fn answer_all<R: Threads + Wait + Sync + Print>(rt: &R, alloc: Global) -> Result<(), Trouble> {
+fn answer_all<R: Threads + Wait + Sync + Print + Files + Alloc>(
+    rt: &R,
+    alloc: Global,
+) -> Result<(), Trouble> {
+    let threads = thread_count(rt);
     answer_hall(rt, alloc)?;
     answer_queue(rt, alloc)?;
     answer_beside(rt, alloc, Driver::PerFlow, "perflow")?;
     answer_beside(rt, alloc, Driver::Pool(2), "pool=2")?;
-    answer_driver(rt, alloc, Driver::PerFlow, "perflow")?;
-    answer_driver(rt, alloc, Driver::Pool(1), "pool=1")?;
-    answer_driver(rt, alloc, Driver::Pool(2), "pool=2")?;
-    answer_driver(rt, alloc, Driver::Pool(4), "pool=4")?;
-    answer_driver(rt, alloc, Driver::Pool(16), "pool=16")?;
+    for (driver, name) in [
+        (Driver::PerFlow, "perflow"),
+        (Driver::Pool(1), "pool=1"),
+        (Driver::Pool(2), "pool=2"),
+        (Driver::Pool(4), "pool=4"),
+        (Driver::Pool(16), "pool=16"),
+    ] {
+        answer_programs(rt, alloc, driver, name)?;
+        answer_refusals(rt, alloc, driver, name)?;
+    }
     answer_crowds(rt, alloc, Driver::PerFlow, "perflow")?;
-    answer_crowds(rt, alloc, Driver::Pool(4), "pool=4")
+    answer_crowds(rt, alloc, Driver::Pool(4), "pool=4")?;
+    println!(rt; "no thread is left: {}", none_left(rt, threads))?;
+    Ok(())
 }
 
 /// The words behind the program's own name.
@@ -143,6 +173,7 @@ fn driver_of(word: &str) -> Result<Driver, Trouble> {
         b"event" => Ok(Driver::Event),
         b"perflow" => Ok(Driver::PerFlow),
         b"pool=1" => Ok(Driver::Pool(1)),
+        b"pool=2" => Ok(Driver::Pool(2)),
         b"pool=4" => Ok(Driver::Pool(4)),
         b"pool=16" => Ok(Driver::Pool(16)),
         _ => Err(Trouble::Words),
@@ -166,7 +197,7 @@ fn words_of(rt: &HostRuntime) -> Result<Words, Trouble> {
     read_words(words.as_slice())
 }
 
-fn answer<R: Threads + Wait + Sync + Print>(
+fn answer<R: Threads + Wait + Sync + Print + Files + Alloc>(
     rt: &R,
     alloc: Global,
     words: Result<Words, Trouble>,

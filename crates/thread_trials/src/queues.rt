@@ -7,10 +7,10 @@ use std::alloc::Global;
 use std::sync::Wait;
 
 /// The first pass takes, puts, and takes three times more.
-pub fn five_takes<R: Wait>(rt: &R, alloc: Global) -> Result<[Option<FlowNo>; 4], Trouble> {
+pub fn takes<R: Wait>(rt: &R, alloc: Global) -> Result<[Option<FlowNo>; 4], Trouble> {
     let (queue, mut pass) = FlowQueue::new(rt, alloc, 2)?;
     let Some(first) = queue.take(rt, &mut pass) else {
-        return Err(Trouble::Text);
+        return Err(Trouble::Turn);
     };
     queue.put(rt, &mut pass);
     let second = queue.take(rt, &mut pass);

@@ -92,28 +92,38 @@ fn given_of(alloc: Global, seed: u32) -> Result<List<Given>, Trouble> {
     Ok(all)
 }
 
-/// Of so many seeds' programs, how many were driven to a journal that keeps each rule.
+/// Of so many drives of a seed's program, how many made a journal that keeps each rule.
+fn kept_of<R: Threads + Wait + Sync>(
+    rt: &R,
+    alloc: Global,
+    driver: Driver,
+    seed: u32,
+    times: u32,
+) -> Result<u32, Trouble> {
+    let text = text_of(alloc, seed)?;
+    let given = given_of(alloc, seed)?;
+    let mut kept: u32 = 0;
+    for _time in 0..times {
+        let text = text.as_bytes();
+        let opened = driven(rt, alloc, driver, text, given.as_slice(), &OpenGate)?;
+        if keeps_rules(alloc, opened, given.as_slice()) {
+            kept = kept.saturating_add(1);
+        }
+    }
+    Ok(kept)
+}
+
+/// The programs of so many seeds, each driven so often: how many journals keep each rule.
 pub fn kept<R: Threads + Wait + Sync>(
     rt: &R,
     alloc: Global,
     driver: Driver,
     seeds: u32,
+    times: u32,
 ) -> Result<u32, Trouble> {
     let mut kept: u32 = 0;
     for seed in 0..seeds {
-        let text = text_of(alloc, seed)?;
-        let given = given_of(alloc, seed)?;
-        let opened = driven(
-            rt,
-            alloc,
-            driver,
-            text.as_bytes(),
-            given.as_slice(),
-            &OpenGate,
-        )?;
-        if keeps_rules(alloc, opened, given.as_slice()) {
-            kept = kept.saturating_add(1);
-        }
+        kept = kept.saturating_add(kept_of(rt, alloc, driver, seed, times)?);
     }
     Ok(kept)
 }

@@ -10,8 +10,8 @@ pub enum Trouble {
     Words,
     /// The text has a fault, there is no such source, or there are too many flows.
     Text,
-    /// A printed journal was read as another one, or not at all.
-    Journal,
+    /// A free turn, or the first number of a queue, was not got.
+    Turn,
     /// Words or output failed.
     System,
     Memory,
@@ -21,7 +21,7 @@ impl Trouble {
     /// The status that the program ends with.
     pub fn code(self) -> u8 {
         match self {
-            Trouble::Text | Trouble::Journal => 1,
+            Trouble::Text | Trouble::Turn => 1,
             Trouble::Words => 2,
             Trouble::System => 6,
             Trouble::Memory => 12,
