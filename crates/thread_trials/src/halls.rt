@@ -74,24 +74,44 @@ fn look_beside(
     (tries, one, other)
 }
 
-/// The first seat of a hall gets the turn by a try, and the second looks beside it.
+/// The first seat tries for the turn, and the second looks beside it; they come back as one. None where it got no turn.
+fn try_both(
+    hall: &Hall<Counter>,
+    one: HallSeat<Counter>,
+    other: HallSeat<Counter>,
+) -> (Option<Tries>, HallSeat<Counter>)
+    requires one { one.hall ≡ hall.now }
+    requires other { other.hall ≡ hall.now }
+    ensures { result.1.hall ≡ hall.now }
+{
+    match hall.try_turn(one) {
+        Ok(turn) => {
+            let (tries, one, other) = look_beside(hall, turn, other);
+            (Some(tries), hall.join(one, other))
+        }
+        Err(one) => (None, hall.join(one, other)),
+    }
+}
+
+/// Two seats of a hall try, and the hall is closed.
+fn tries_at<R: Wait>(rt: &R, hall: Hall<Counter>, seat: HallSeat<Counter>) -> Result<Tries, Trouble>
+    requires { seat.hall ≡ hall }
+{
+    let (one, other) = hall.split(seat);
+    let (tries, seat) = try_both(&hall, one, other);
+    let _core = hall.close(rt, seat);
+    tries.ok_or(Trouble::Turn)
+}
+
+/// Two seats try at a hall with a core of one flow.
 pub fn two_tries<R: Wait>(rt: &R, alloc: Global) -> Result<Tries, Trouble> {
     let given = [Given {
         source: 0,
         number: 5,
     }];
     let Opened { core, program: _ } = open(alloc, FREE, &given, Counter)?;
-    let Ok((hall, seat)) = Hall::new(alloc, core) else {
-        return Err(Trouble::Memory);
-    };
-    let (one, other) = hall.split(seat);
-    match hall.try_turn(one) {
-        Ok(turn) => {
-            let (tries, one, other) = look_beside(&hall, turn, other);
-            let seat = hall.join(one, other);
-            let _core = hall.close(rt, seat);
-            Ok(tries)
-        }
-        Err(_) => Err(Trouble::Turn),
+    match Hall::new(alloc, core) {
+        Ok((hall, seat)) => tries_at(rt, hall, seat),
+        Err(_) => Err(Trouble::Memory),
     }
 }

@@ -40,6 +40,23 @@ const SEEDS: u32 = 20;
 /// So often each of them is driven.
 const TIMES: u32 = 20;
 
+/// The runtimes that are tried, and their names.
+const DRIVERS: &[(Driver, &str)] = &[
+    (Driver::Event, "event"),
+    (Driver::PerFlow, "perflow"),
+    (Driver::Pool(1), "pool=1"),
+    (Driver::Pool(2), "pool=2"),
+    (Driver::Pool(4), "pool=4"),
+    (Driver::Pool(16), "pool=16"),
+];
+
+/// The programs of the crowds, and what their flows do.
+const CROWDS: &[(&[u8], &str)] = &[
+    (COUNTING, "one counter"),
+    (SESSIONS, "sessions"),
+    (READING, "readers"),
+];
+
 fn answer_hall<R: Wait + Print>(rt: &R, alloc: Global) -> Result<(), Trouble> {
     let tries = two_tries(rt, alloc)?;
     println!(rt;
@@ -112,17 +129,14 @@ fn answer_beside<R: Threads + Wait + Sync + Print>(
     Ok(())
 }
 
+/// Crowds of flows.
 fn answer_crowds<R: Threads + Wait + Sync + Print>(
     rt: &R,
     alloc: Global,
     driver: Driver,
     name: &str,
 ) -> Result<(), Trouble> {
-    for (text, kind) in [
-        (COUNTING, "one counter"),
-        (SESSIONS, "sessions"),
-        (READING, "readers"),
-    ] {
+    for (text, kind) in CROWDS {
         let crowd = drive_crowd(rt, alloc, driver, text, 4_096)?;
         println!(rt;
             "{name}: {kind}: {} flows have ended, the greatest put is {}",
@@ -132,27 +146,37 @@ fn answer_crowds<R: Threads + Wait + Sync + Print>(
     Ok(())
 }
 
+/// The trials of each runtime.
+fn answer_drivers<R: Threads + Wait + Sync + Print>(rt: &R, alloc: Global) -> Result<(), Trouble> {
+    for (driver, name) in DRIVERS {
+        answer_programs(rt, alloc, *driver, name)?;
+        answer_refusals(rt, alloc, *driver, name)?;
+    }
+    Ok(())
+}
+
+/// What threads share, by calls.
+fn answer_shared<R: Wait + Print>(rt: &R, alloc: Global) -> Result<(), Trouble> {
+    answer_hall(rt, alloc)?;
+    answer_queue(rt, alloc)
+}
+
+/// The trials by threads.
+fn answer_threads<R: Threads + Wait + Sync + Print>(rt: &R, alloc: Global) -> Result<(), Trouble> {
+    answer_beside(rt, alloc, Driver::PerFlow, "perflow")?;
+    answer_beside(rt, alloc, Driver::Pool(2), "pool=2")?;
+    answer_drivers(rt, alloc)?;
+    answer_crowds(rt, alloc, Driver::PerFlow, "perflow")?;
+    answer_crowds(rt, alloc, Driver::Pool(4), "pool=4")
+}
+
 fn answer_all<R: Threads + Wait + Sync + Print + Files + Alloc>(
     rt: &R,
     alloc: Global,
 ) -> Result<(), Trouble> {
     let threads = thread_count(rt);
-    answer_hall(rt, alloc)?;
-    answer_queue(rt, alloc)?;
-    answer_beside(rt, alloc, Driver::PerFlow, "perflow")?;
-    answer_beside(rt, alloc, Driver::Pool(2), "pool=2")?;
-    for (driver, name) in [
-        (Driver::PerFlow, "perflow"),
-        (Driver::Pool(1), "pool=1"),
-        (Driver::Pool(2), "pool=2"),
-        (Driver::Pool(4), "pool=4"),
-        (Driver::Pool(16), "pool=16"),
-    ] {
-        answer_programs(rt, alloc, driver, name)?;
-        answer_refusals(rt, alloc, driver, name)?;
-    }
-    answer_crowds(rt, alloc, Driver::PerFlow, "perflow")?;
-    answer_crowds(rt, alloc, Driver::Pool(4), "pool=4")?;
+    answer_shared(rt, alloc)?;
+    answer_threads(rt, alloc)?;
     println!(rt; "no thread is left: {}", none_left(rt, threads))?;
     Ok(())
 }
