@@ -6,11 +6,11 @@ use flux_model::FlowNo;
 use std::alloc::Global;
 use std::sync::Wait;
 
-/// What the first pass takes: it puts its first number back, and none of those behind.
+/// The first pass takes, puts, and takes three times more.
 pub fn takes<R: Wait>(rt: &R, alloc: Global) -> Result<[Option<FlowNo>; 4], Trouble> {
     let (queue, mut pass) = FlowQueue::new(rt, alloc, 2)?;
     let Some(first) = queue.take(rt, &mut pass) else {
-        return Err(Trouble::Queue);
+        return Err(Trouble::Turn);
     };
     queue.put(rt, &mut pass);
     let second = queue.take(rt, &mut pass);

@@ -1,13 +1,18 @@
 //! Why a trial came to no end.
 
 use flux_values::Memory;
+use std::alloc::{AllocError, AllocFailed};
 use std::io::{self, ErrorKind};
 
 #[derive(Clone, Copy, Debug, PartialEq, Eq)]
 pub enum Trouble {
-    /// A new queue had no number.
-    Queue,
-    /// Output failed.
+    /// The words are none that are known.
+    Words,
+    /// The text has a fault, there is no such source, or there are too many flows.
+    Text,
+    /// A free turn, or the first number of a queue, was not got.
+    Turn,
+    /// Words or output failed.
     System,
     Memory,
 }
@@ -16,7 +21,8 @@ impl Trouble {
     /// The status that the program ends with.
     pub fn code(self) -> u8 {
         match self {
-            Trouble::Queue => 1,
+            Trouble::Text | Trouble::Turn => 1,
+            Trouble::Words => 2,
             Trouble::System => 6,
             Trouble::Memory => 12,
         }
@@ -25,6 +31,18 @@ impl Trouble {
 
 impl From<Memory> for Trouble {
     fn from(_memory: Memory) -> Trouble {
+        Trouble::Memory
+    }
+}
+
+impl From<AllocError> for Trouble {
+    fn from(_e: AllocError) -> Trouble {
+        Trouble::Memory
+    }
+}
+
+impl<T: Drop> From<AllocFailed<T>> for Trouble {
+    fn from(_e: AllocFailed<T>) -> Trouble {
         Trouble::Memory
     }
 }
