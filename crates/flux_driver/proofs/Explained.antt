@@ -1,8 +1,7 @@
 -- Why each status comes, from what a call of the program has done.
 use Rattle.std.proofs.Common.{◌≡◌, ◌⊎◌, inl, inr, ℕ, List, refl}
-use Rattle.flux_words.specs.Commands.{
-  Command, Spells, SpellsNone, IsServe, check, plan, format, run, audit, load, serve, help
-}
+use Rattle.flux_words.specs.Commands.{Command, Spells, SpellsNone, IsServe}
+use Rattle.flux_words.specs.Commands.{check, plan, format, run, audit, load, serve, help}
 use Rattle.flux_driver.specs.declared.statuses.Status.{Status}
 use Rattle.flux_driver.specs.declared.statuses.Status.TheVariants as statuses
 use Rattle.flux_driver.specs.Worlds.{Seen}
@@ -12,9 +11,8 @@ use Rattle.flux_driver.specs.Answers.{Libraries, Decided, Happened, IsAnswer, Or
 use Rattle.flux_driver.specs.Serving.{end_status, HasServedWords}
 use Rattle.flux_driver.specs.Top.{HasAnswered, HasDone, Decides, SpellNoServe}
 use Rattle.flux_driver.proofs.Answering.{of_command, not_read, not_write}
-use Rattle.flux_driver.specs.Explained.{
-  IsCause, IsExplained, StatusesHaveCauses, CausesAreAnswered, NoCommandIsUsage, UsageIsForNoCommand
-}
+use Rattle.flux_driver.specs.Explained.{IsCause, IsExplained, StatusesHaveCauses, CausesAreAnswered}
+use Rattle.flux_driver.specs.Explained.{NoCommandIsUsage, UsageIsForNoCommand}
 
 -- words that spell no `serve` spell a command that is none
 no_serve : (words : List (List ℕ)) (command : Command) → Spells words command → SpellNoServe words
