@@ -1,7 +1,7 @@
 -- The rule of simulated processors: which entry comes when, and which call runs when.
-use Rattle.std.specs.Prelude.{◌≡◌, ℕ, ◌<◌, ◌≤◌, ◌⊎◌, nat_lt, List, ◌∷◌, ◌++◌, map, length}
+use Rattle.std.specs.Prelude.{◌≡◌, ℕ, ◌<◌, ◌≤◌, ◌⊎◌, List, ◌∷◌, ◌++◌, map, length}
 use Rattle.std.specs.List.{AllByRecursion}
-use Rattle.std.specs.List.Sorted.{IsSortedBy}
+use Rattle.std.specs.List.Sorted.{IsNonDecreasing}
 use Rattle.flux_model.specs.declared.items.FlowNo.{FlowNo}
 use Rattle.flow_model.specs.declared.journals.CallMade.{CallMade}
 use Rattle.flow_model.specs.declared.journals.Event.{Event}
@@ -74,7 +74,7 @@ AreSettled setup processors journal runs = (tick flow : ℕ) → IsLive setup (u
 pub record IsByTheRule (setup : Setup) (costs : List ℕ) (processors : ℕ) (entries : List Entry) (at : List ℕ)
     (runs : List Run) (ticks : ℕ) : Type 0 where
   pub each : length at ≡ length entries
-  pub rising : IsSortedBy nat_lt at
+  pub rising : IsNonDecreasing at
   pub turns : ComeInTurn setup (timed at entries)
   pub runs_ : IsOneRunACall costs (timed at entries) runs
   pub few : NeverMoreRuns processors runs

@@ -16,19 +16,29 @@ pub struct Clock {
     pub at: List<u64>,
     /// The runs that have stopped.
     pub ended: List<Run>,
+    /// How many calls can run at once.
+    pub processors: u32,
     pub running: Running,
     pub waiting: Waiting,
 }
 
 impl Clock {
     /// Before anything is done.
-    pub fn new(alloc: Global) -> Clock
-        ensures { result ≡ record { tick = 0; at = []; ended = []; running = []; waiting = [] } }
+    pub fn new(alloc: Global, processors: u32) -> Clock
+        ensures { result ≡ record {
+          tick = 0;
+          at = [];
+          ended = [];
+          processors = processors;
+          running = [];
+          waiting = [];
+        } }
     {
         Clock {
             tick: 0,
             at: List::new(alloc),
             ended: List::new(alloc),
+            processors,
             running: Running::new(alloc),
             waiting: Waiting::new(alloc),
         }
