@@ -1,7 +1,8 @@
 //! Which flow can go on without a call.
 
-ghost use Rattle.std.specs.Prelude.{◌<◌, ◌↔◌, length, IsTrue, MatchOption};
-ghost use Rattle.flow_waits.specs.Idle.{IsIdle, NoneIsIdle, IsFirstIdle};
+ghost use Rattle.std.specs.Prelude.{◌<◌, length, MatchOption};
+ghost use Rattle.flow_waits.specs.Idle.{IsFirstIdle};
+ghost use Rattle.flux_simulate.specs.steps.Ticking.{AllStandStill, IsIdleOrNot};
 
 use flow_core::Core;
 use flux_library::Library;
@@ -10,17 +11,18 @@ use flux_model::FlowNo;
 /// Whether a flow has not ended, isn't blocked and has no begun call.
 fn can_go<L: Library>(core: &Core<L>, flow: FlowNo) -> bool
     requires { flow.0 < length core.now.setup.items }
-    ensures { IsTrue result ↔ IsIdle L.meaning core.now flow.0 }
+    ensures { IsIdleOrNot L.meaning core.now flow.0 result }
 {
-    !core.is_ended(flow) && !core.is_calling(flow) && !core.blocked(flow)
+    if core.is_ended(flow) || core.is_calling(flow) {
+        return false;
+    }
+    !core.blocked(flow)
 }
 
 /// The lowest flow that has not ended, isn't blocked and has no begun call.
 pub fn first_idle<L: Library>(core: &Core<L>) -> Option<FlowNo>
-    ensures { MatchOption result (NoneIsIdle L.meaning core.now) (IsFirstIdle L.meaning core.now 0) }
+    ensures { MatchOption result (AllStandStill L.meaning core.now) (IsFirstIdle L.meaning core.now 0) }
 {
-    // Asked for what it promises: that the journal is legal, and begun calls are next.
-    let _journal = core.journal();
     for number in 0..core.flows() {
         let flow = FlowNo(number);
         if can_go(core, flow) {

@@ -5,14 +5,14 @@ ghost use Rattle.std.specs.List.{sum_by};
 ghost use Rattle.flux_laws.specs.Growth.{item_size};
 ghost use Rattle.flow_core.specs.States.{setup_in, begun_by};
 ghost use Rattle.flow_core.specs.Runs.{GoesToEnd, GoesOnLegally};
-ghost use Rattle.flow_waits.specs.Idle.{IsFirstIdle, NoneIsIdle};
+ghost use Rattle.flow_waits.specs.Idle.{IsFirstIdle};
 ghost use Rattle.flux_simulate.specs.Costs.{AreCosts};
 ghost use Rattle.flux_simulate.specs.Ticks.{timed, last_tick};
 ghost use Rattle.flux_simulate.specs.Runs.{IsOneRunACall, NeverMoreRuns, sum_of_costs};
 ghost use Rattle.flux_simulate.specs.Rule.{IsByTheRule};
 ghost use Rattle.flux_simulate.specs.Idle.{NeverIdleForNothing};
-ghost use Rattle.flux_simulate.specs.steps.Ticking.{AllLast, Finishes, Goes, Begins, Rests, IsFurtherTick, GoesFurther};
-ghost use Rattle.flux_simulate.specs.steps.Calls.{IsRunOf, EndsBegun, IsStarted, AreSmall};
+ghost use Rattle.flux_simulate.specs.steps.Ticking.{AllLast, AllStandStill, Finishes, Goes, Begins, Rests, IsFurtherTick, GoesFurther};
+ghost use Rattle.flux_simulate.specs.steps.Calls.{IsRunOf, EndsBegun, HasStarted, AreSmall};
 
 use crate::clock::Clock;
 use crate::finding::first_idle;
@@ -119,7 +119,7 @@ fn settle<L: Library>(
 fn go_on<L: Library>(core: &mut Core<L>, clock: &mut Clock) -> Result<(), Memory>
     requires { Goes L.meaning core.old clock.old }
     ensures goes { OnOk result (Goes L.meaning core.new clock.new) }
-    ensures none { OnOk result (NoneIsIdle L.meaning core.new) }
+    ensures none { OnOk result (AllStandStill L.meaning core.new) }
     ensures ended { clock.new.ended ≡ clock.old.ended }
     ensures running { clock.new.running ≡ clock.old.running }
     ensures processors { clock.new.processors ≡ clock.old.processors }
@@ -136,7 +136,7 @@ fn go_one<L: Library>(core: &mut Core<L>, clock: &mut Clock, flow: FlowNo) -> Re
     requires goes { Goes L.meaning core.old clock.old }
     requires first { IsFirstIdle L.meaning core.old 0 flow }
     ensures goes { OnOk result (Goes L.meaning core.new clock.new) }
-    ensures less { OnOk result (IsStarted L.meaning core.old core.new) }
+    ensures less { OnOk result (HasStarted core.old core.new) }
     ensures ended { clock.new.ended ≡ clock.old.ended }
     ensures running { clock.new.running ≡ clock.old.running }
     ensures processors { clock.new.processors ≡ clock.old.processors }

@@ -1,8 +1,7 @@
 -- What becomes of one call, and what keeps numbers small. No promise cites it.
-use Rattle.std.specs.Prelude.{◌≡◌, ℕ, ◌+◌, ◌-◌, ◌<◌, ◌≤◌, length, Some}
+use Rattle.std.specs.Prelude.{◌≡◌, ℕ, ◌+◌, ◌<◌, ◌≤◌, List, length, Some}
 use Rattle.std.specs.List.{count_by, sum_by}
 use Rattle.std.specs.Option.{is_some}
-use Rattle.std.specs.Prelude.{List}
 use Rattle.flux_values.specs.declared.answers.Answer.{Answer}
 use Rattle.flux_values.specs.Meanings.{LibraryMeaning}
 use Rattle.flux_model.specs.declared.items.FlowNo.{FlowNo}
@@ -33,8 +32,8 @@ abbrev pub begun_count : {L : Type 0} → CoreState L → ℕ
 begun_count core = count_by (λ call. is_some call) core.begun
 
 -- one entry more, or one call more that is begun
-pub record IsStarted {L : Type 0} (meaning : L → LibraryMeaning) (old new : CoreState L) : Type 0 where
-  pub more : length old.entries + begun_count old < length new.entries + begun_count new
+abbrev pub HasStarted : {L : Type 0} → CoreState L → CoreState L → Type 0
+HasStarted old new = length old.entries + begun_count old < length new.entries + begun_count new
 
 -- what is given is small, so no tick is too great a number
 pub record AreSmall {L : Type 0} (meaning : L → LibraryMeaning) (core : CoreState L) (costs : List ℕ) (processors : ℕ)

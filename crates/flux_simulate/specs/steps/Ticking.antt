@@ -10,11 +10,12 @@ use Rattle.flow_model.specs.declared.journals.Entry.{Entry}
 use Rattle.flow_model.specs.declared.journals.Event.TheVariants.{Call}
 use Rattle.flow_model.specs.Setup.{Setup}
 use Rattle.flow_model.specs.Events.{IsLive}
+use Rattle.flux_laws.specs.Going.{IsBlocked}
 use Rattle.flux_laws.specs.Growth.{IsNoWait}
 use Rattle.flow_state.specs.declared.inputs.Inputs.{Inputs}
 use Rattle.flow_core.specs.States.{CoreState, setup_in, begun_by}
 use Rattle.flow_core.specs.Runs.{GoesOn}
-use Rattle.flow_waits.specs.Idle.{NoneIsIdle}
+use Rattle.flow_waits.specs.Idle.{IsIdle}
 use Rattle.flow_waits.specs.steps.Waking.{has}
 use Rattle.flux_simulate.specs.declared.runs.Run.{Run}
 use Rattle.flux_simulate.specs.declared.clock.Clock.{Clock}
@@ -88,6 +89,22 @@ pub record RunOrWait {L : Type 0} (core : CoreState L) (running : List Run) (wai
   pub each : (flow : ℕ) → runs_of running flow + one_if (has waiting flow) ≡ one_if (is_some (begun_by core flow))
   pub nodes : AllByRecursion (λ run. IsOfNode run.node (begun_by core (let own = run.flow in own.0))) running
 
+-- ---- who can go on
+
+-- a live flow whose call isn't begun is blocked
+abbrev pub StandsStill : {L : Type 0} → (L → LibraryMeaning) → CoreState L → ℕ → Type 0
+StandsStill meaning core flow = IsLive (setup_in meaning core) core.entries flow → begun_by core flow ≡ None
+    → IsBlocked (setup_in meaning core) core.entries flow
+
+-- so are all
+abbrev pub AllStandStill : {L : Type 0} → (L → LibraryMeaning) → CoreState L → Type 0
+AllStandStill meaning core = (flow : ℕ) → StandsStill meaning core flow
+
+-- whether a flow can go on without a call that is begun
+abbrev pub IsIdleOrNot : {L : Type 0} → (L → LibraryMeaning) → CoreState L → ℕ → Bool → Type 0
+IsIdleOrNot meaning core flow true = IsIdle meaning core flow
+IsIdleOrNot meaning core flow false = StandsStill meaning core flow
+
 -- ---- all of it
 
 pub record Ticks {L : Type 0} (meaning : L → LibraryMeaning) (core : CoreState L) (clock : Clock) : Type 0 where
@@ -129,7 +146,7 @@ pub record Goes {L : Type 0} (meaning : L → LibraryMeaning) (core : CoreState 
 pub record Begins {L : Type 0} (meaning : L → LibraryMeaning) (core : CoreState L) (clock : Clock) : Type 0 where
   pub ticks : Ticks meaning core clock
   pub beyond : GoBeyond clock
-  pub none : NoneIsIdle meaning core
+  pub none : AllStandStill meaning core
   pub lower : (flow : ℕ) → has clock.waiting flow ≡ true → starting_from clock.running flow clock.tick ≡ 0
 
 -- when all of a tick is done: calls wait only where all processors are taken

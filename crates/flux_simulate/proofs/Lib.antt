@@ -1,0 +1,13 @@
+mod Journals
+mod Tallies
+mod Pasts
+mod Timing
+mod Settling
+mod Finishing
+mod Advancing
+mod Going
+mod Beginning
+mod Bounds
+mod Closing
+mod Further
+mod Placing
