@@ -26,12 +26,12 @@ use Rattle.flux_simulate.proofs.Pasts.{alike-begun, past-alike}
 above-has : (flow : ℕ) (numbers : List ℕ) → AllByRecursion (λ other. flow < other) numbers → (other : ℕ)
     → has numbers other ≡ true → flow < other
 above-has flow [] above other is = absurd (false≢true is)
-above-has flow (one ∷ numbers) above other is = by (cases_Bool (eqb other one))
+above-has flow (one ∷ numbers) above other is =
+    by (cases_Bool (eqb other one)) (λ there. above-has flow numbers above.1 other there)
   where
-    by : (eqb other one ≡ true) ⊎ (eqb other one ≡ false) → flow < other
-    by (inl same) = let lt = above.0 in let e = eqb-true other one same in omega (arith, lt, e)
-    by (inr apart) = above-has flow numbers above.1 other
-        (ap (λ (b : Bool). b || has numbers other) (sym apart) ∙ is)
+    by : (eqb other one ≡ true) ⊎ (eqb other one ≡ false) → (has numbers other ≡ true → flow < other) → flow < other
+    by (inl same) more = let lt = above.0 in let e = eqb-true other one same in omega (arith, lt, e)
+    by (inr apart) more = more (ap (λ (b : Bool). b || has numbers other) (sym apart) ∙ is)
 
 module _ {L : Type 0} (core : CoreState L) (clock : Clock) (flow : ℕ) (left : List ℕ)
     (takes : TakesLowest clock.waiting left flow) (calls : RunOrWait core clock.running clock.waiting) where

@@ -93,7 +93,8 @@ module _ {L : Type 0} (meaning : L → LibraryMeaning) (core : CoreState L) (clo
   few =
       let setup = setup_in meaning core in
       let most = few-entries setup core.entries kept.legal in
-      let sizes = sizes-are (item_size setup) setup.items in
+      let sizes : sum_below (flow_size setup) (length setup.items) ≡ sum_by (λ item. item_size setup (Some item)) setup.items =
+      sizes-are (item_size setup) setup.items in
       let limit = small.sizes in
       let items = kept.few in
       omega (arith, most, sizes, limit, items)

@@ -84,7 +84,7 @@ module _ {L : Type 0} (meaning : L → LibraryMeaning) (core : CoreState L) (clo
           let count = of-now meaning core clock kept rests clock.tick (omega arith) (on clock.tick) flow in
           let zero_runs = runs-none in
           absurd (omega (arith, one, count, zero_runs))
-      by (inr (inr (call, no, passed))) =
+      by (inr (inr (call, none_run, passed))) =
           let taken = passed.taken in
           let count = at-now meaning core clock kept rests clock.tick (omega arith) (on clock.tick) in
           let zero_runs = none in
@@ -119,7 +119,7 @@ module _ {L : Type 0} (meaning : L → LibraryMeaning) (core : CoreState L) (clo
           → (0 < running_of clock.ended flow t) ⊎ IsBlocked setup (until t journal) flow
       by (inl is) = inr is.0
       by (inr (inl (call, one))) = inl (omega (arith, one))
-      by (inr (inr (call, no, passed))) = let taken = passed.taken in absurd (omega (arith, taken, free))
+      by (inr (inr (call, none_run, passed))) = let taken = passed.taken in absurd (omega (arith, taken, free))
 
   pub bounded : last_tick clock.at ≤ sum_of_costs costs clock.ended
   bounded =

@@ -76,9 +76,6 @@ module _ {L : Type 0} (meaning : L → LibraryMeaning) (core new : CoreState L) 
     waiting = clock.waiting;
   }
 
-  made : CallMade
-  made = let call = ends.ends in call.made
-
   abbrev entry : CallMade → Entry
   entry call = record { flow = run.flow; event = Call call }
 

@@ -11,3 +11,4 @@ mod Bounds
 mod Closing
 mod Further
 mod Placing
+mod Ending

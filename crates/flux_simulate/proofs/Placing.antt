@@ -37,6 +37,17 @@ no_later-from a b never = record {
 
 -- ---- what is taken out at a place
 
+-- at a place that is there the default doesn't matter
+get-same : (list : List Run) (k : ℕ) (a b : Run) → k < length list → get_or list k a ≡ get_or list k b
+get-same [] k a b within = absurd (omega (arith, within))
+get-same (x ∷ list) zero a b within = refl
+get-same (x ∷ list) (suc k) a b within = get-same list k a b (omega (arith, within))
+
+-- what was read there twice is the same
+pub same-place : (runs : List Run) (place : ℕ) (a b : Run) → place < length runs → a ≡ get_or runs place a
+    → b ≡ get_or runs place b → a ≡ b
+same-place runs place a b within one other = one ∙ get-same runs place a b within ∙ sym other
+
 out-at : (runs : List Run) (place : ℕ) (default : Run) → place < length runs
     → (front : List Run) × (back : List Run) × (runs ≡ front ++ get_or runs place default ∷ back)
     × (remove runs place ≡ front ++ back)
@@ -57,16 +68,10 @@ taken-out runs place run first is =
         is = out.3;
       };
       first = recursion_from_All (StopsNoLater run) runs
-          (λ k d low within. subst (λ (r : Run). StopsNoLater r (get_or runs k d)) (sym is)
+          (λ k d within. subst (λ (r : Run). StopsNoLater r (get_or runs k d)) (sym is)
           (by k d within));
     }
   where
-    -- at a place that is there the default doesn't matter
-    same : (list : List Run) (k : ℕ) (a b : Run) → k < length list → get_or list k a ≡ get_or list k b
-    same [] k a b within = absurd (omega (arith, within))
-    same (x ∷ list) zero a b within = refl
-    same (x ∷ list) (suc k) a b within = same list k a b (omega (arith, within))
-
     by : (k : ℕ) (d : Run) → k < length runs → StopsNoLater (get_or runs place run) (get_or runs k d)
-    by k d within = subst (λ (r : Run). StopsNoLater (get_or runs place run) r) (same runs k run d within)
+    by k d within = subst (λ (r : Run). StopsNoLater (get_or runs place run) r) (get-same runs k run d within)
         (first.first k run within)

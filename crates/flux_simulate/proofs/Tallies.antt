@@ -121,18 +121,18 @@ count-all test (x ∷ xs) all =
 pub none-counts : {X : Type 0} (test : X → Bool) (xs : List X) → count_by test xs ≡ 0
     → AllByRecursion (λ x. test x ≡ false) xs
 none-counts test [] none = tt
-none-counts test (x ∷ xs) none = by (cases_Bool (test x))
+none-counts test (x ∷ xs) none = by (cases_Bool (test x)) (λ rest. none-counts test xs rest)
   where
-    by : (test x ≡ true) ⊎ (test x ≡ false) → AllByRecursion (λ y. test y ≡ false) (x ∷ xs)
-    by (inl is) =
+    by : (test x ≡ true) ⊎ (test x ≡ false) → (count_by test xs ≡ 0 → AllByRecursion (λ y. test y ≡ false) xs)
+        → AllByRecursion (λ y. test y ≡ false) (x ∷ xs)
+    by (inl is) more =
         let one = sum_by-cons (λ y. count_one (test y)) x xs in
         let own = ap count_one is in
         absurd (omega (arith, one, own, none))
-    by (inr no) =
+    by (inr fails) more =
         let one = sum_by-cons (λ y. count_one (test y)) x xs in
-        let own = ap count_one no in
-        let rest : count_by test xs ≡ 0 = omega (arith, one, own, none) in
-        (no, none-counts test xs rest)
+        let own = ap count_one fails in
+        (fails, more (omega (arith, one, own, none)))
 
 -- ---- runs and ticks
 
@@ -202,5 +202,5 @@ pub runs-apart : (running : List Run) (flow : ℕ) → runs_of running flow ≡ 
     → AllByRecursion (λ run. run.flow.0 ≡ flow → ⊥) running
 runs-apart running flow none =
     all-map (λ run. eqb run.flow.0 flow ≡ false) (λ run. run.flow.0 ≡ flow → ⊥)
-    (λ run no. eqb-false run.flow.0 flow no) running
+    (λ run fails. eqb-false run.flow.0 flow fails) running
     (none-counts (λ (run : Run). eqb run.flow.0 flow) running none)

@@ -18,7 +18,7 @@ use Rattle.flux_simulate.proofs.Journals.{timed-more, turns-more}
 rising-more : (at : List ℕ) (tick : ℕ) → IsNonDecreasing at → AllByRecursion (λ a. a ≤ tick) at
     → IsNonDecreasing (at ++ tick ∷ [])
 rising-more at tick rising past = IsNonDecreasingBy-push (λ x. x) at tick rising
-    (λ d some. All-from_recursion (λ a. a ≤ tick) at past (length at - 1) d (omega arith) (omega (arith, some)))
+    (λ d some. All-from_recursion (λ a. a ≤ tick) at past (length at - 1) d (omega (arith, some)))
 
 pub timed-on : (setup : Setup) (entries : List Entry) (at : List ℕ) (tick : ℕ) (flow : FlowNo) (event : Event)
     → IsTimed setup entries at tick → IsTurnAt setup (timed at entries) tick flow event

@@ -13,7 +13,10 @@ fn can_go<L: Library>(core: &Core<L>, flow: FlowNo) -> bool
     requires { flow.0 < length core.now.setup.items }
     ensures { IsIdleOrNot L.meaning core.now flow.0 result }
 {
-    if core.is_ended(flow) || core.is_calling(flow) {
+    if core.is_ended(flow) {
+        return false;
+    }
+    if core.is_calling(flow) {
         return false;
     }
     !core.blocked(flow)

@@ -6,6 +6,7 @@ ghost use Rattle.flux_laws.specs.Growth.{item_size};
 ghost use Rattle.flow_core.specs.States.{setup_in, begun_by};
 ghost use Rattle.flow_core.specs.Runs.{GoesToEnd, GoesOnLegally};
 ghost use Rattle.flow_waits.specs.Idle.{IsFirstIdle};
+ghost use Rattle.flow_waits.specs.Driven.{IsJobOf};
 ghost use Rattle.flux_simulate.specs.Costs.{AreCosts};
 ghost use Rattle.flux_simulate.specs.Ticks.{timed, last_tick};
 ghost use Rattle.flux_simulate.specs.Runs.{IsOneRunACall, NeverMoreRuns, sum_of_costs};
@@ -17,7 +18,7 @@ ghost use Rattle.flux_simulate.specs.steps.Calls.{IsRunOf, EndsBegun, HasStarted
 use crate::clock::Clock;
 use crate::finding::first_idle;
 use crate::runs::{Run, Simulated};
-use flow_core::{Core, Step, Stopped};
+use flow_core::{Core, Job, Step, Stopped};
 use flux_library::Library;
 use flux_model::FlowNo;
 use flux_values::{List, Memory};
@@ -127,6 +128,8 @@ fn go_on<L: Library>(core: &mut Core<L>, clock: &mut Clock) -> Result<(), Memory
 {
     while let Some(flow) = first_idle(core) {
         go_one(core, clock, flow)?;
+        // Asked for what it promises: that the journal is legal, so not too long.
+        let _journal = core.journal();
     }
     Ok(())
 }
@@ -160,6 +163,8 @@ fn begin<L: Library>(core: &Core<L>, costs: &List<u32>, clock: &mut Clock) -> Re
     ensures last { OnOk result (AllLast costs.now clock.new) }
     ensures processors { clock.new.processors ≡ clock.old.processors }
 {
+    // Asked for what it promises: that the journal is legal, so no tick is too great a number.
+    let _journal = core.journal();
     while clock.running.len() < clock.processors as usize {
         let Some(flow) = clock.waiting.take_lowest() else {
             return Ok(());
@@ -244,11 +249,18 @@ fn finish_call<L: Library>(core: &mut Core<L>, flow: FlowNo) -> Result<(), Memor
     ensures further { GoesFurther core.old core.new }
 {
     match core.recall(flow)? {
-        Some(job) => {
-            let done = job.run(core.alloc())?;
-            let _ = core.finish(&done)?;
-            Ok(())
-        }
+        Some(job) => finish_job(core, &job),
         None => Ok(()),
     }
+}
+
+/// Runs a begun call, and finishes it.
+fn finish_job<L: Library>(core: &mut Core<L>, job: &Job<L>) -> Result<(), Memory>
+    requires { IsJobOf core.old job.now }
+    ensures ends { OnOk result (EndsBegun L.meaning core.old core.new job.now.flow) }
+    ensures further { GoesFurther core.old core.new }
+{
+    let done = job.run(core.alloc())?;
+    let _ = core.finish(&done)?;
+    Ok(())
 }
