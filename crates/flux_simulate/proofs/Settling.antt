@@ -95,10 +95,14 @@ module _ {L : Type 0} (meaning : L → LibraryMeaning) (core : CoreState L) (clo
           let none : runs_of clock.running flow ≡ 0 = omega (arith, counts, one, waiting) in
           let at = at-now in
           let taken = rests.taken flow waits in
-          inr (inr (begun-call meaning core kept flow inputs is, of-now flow ∙ none, record {
-            taken = omega (arith, at, taken);
-            lower = from-now flow waits;
-          }))
+          inr (inr (
+            begun-call meaning core kept flow inputs is,
+            of-now flow ∙ none,
+            record {
+              taken = omega (arith, at, taken);
+              lower = from-now flow waits;
+            },
+          ))
       called inputs is false waits =
           let one : one_if (is_some (begun_by core flow)) ≡ 1 = ap (λ (call : Option Inputs). one_if (is_some call)) is in
           let waiting : one_if (has clock.waiting flow) ≡ 0 = ap one_if waits in

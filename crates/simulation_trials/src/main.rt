@@ -38,16 +38,55 @@ fn tell(rt: &HostRuntime, name: &str, row: &Row) -> Result<(), Trouble> {
 fn tell_runs(rt: &HostRuntime, name: &str, row: &Row) -> Result<(), Trouble> {
     let done = simulated(rt.alloc(), row)?;
     for run in &done.runs {
-        println!(rt; "{name}: flow {} from {} to {}", run.flow.0, run.start, run.stop)?;
+        println!(rt;
+            "{name}: flow {} from {} to {}",
+            run.flow.0, run.start, run.stop
+        )?;
     }
     Ok(())
 }
 
 fn answer_all(rt: &HostRuntime) -> Result<(), Trouble> {
-    tell(rt, "add", &Row { text: ADD, flows: 2, costs: &[1, 5], processors: 2 })?;
-    tell(rt, "pass", &Row { text: PASS, flows: 3, costs: &[1, 5], processors: 2 })?;
-    tell(rt, "none", &Row { text: PASS, flows: 0, costs: &[1, 5], processors: 2 })?;
-    tell_runs(rt, "pass", &Row { text: PASS, flows: 3, costs: &[1, 5], processors: 2 })?;
+    tell(
+        rt,
+        "add",
+        &Row {
+            text: ADD,
+            flows: 2,
+            costs: &[1, 5],
+            processors: 2,
+        },
+    )?;
+    tell(
+        rt,
+        "pass",
+        &Row {
+            text: PASS,
+            flows: 3,
+            costs: &[1, 5],
+            processors: 2,
+        },
+    )?;
+    tell(
+        rt,
+        "none",
+        &Row {
+            text: PASS,
+            flows: 0,
+            costs: &[1, 5],
+            processors: 2,
+        },
+    )?;
+    tell_runs(
+        rt,
+        "pass",
+        &Row {
+            text: PASS,
+            flows: 3,
+            costs: &[1, 5],
+            processors: 2,
+        },
+    )?;
     for processors in [1u32, 2, 4, 8, 64] {
         tell(rt, "load", &load_row(64, processors))?;
     }

@@ -13,6 +13,6 @@ returns c =
           (taken-out c.self.inside.runs.items c.first_to_stop-place.result c.remove.result first
           c.remove.ensures.value)),
       let same = ap (λ (r : Run). r.stop) (same-place c.self.inside.runs.items c.first_to_stop-place.result
-      c.remove.result c.index.result.now first.within c.remove.ensures.value c.index.ensures) in
-      omega (arith, same, c.if-index-tick.false),
+          c.remove.result c.index.result.now first.within c.remove.ensures.value c.index.ensures) in
+          omega (arith, same, c.if-index-tick.false),
     )
