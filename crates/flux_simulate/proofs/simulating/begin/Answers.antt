@@ -22,13 +22,13 @@ loop-clock-preserved g c =
         waiting = c.take_lowest.new.self;
       })) (sym c.in_ok-add.ensures.ok)
           (begun-begins g.L.Meaning.meaning c.args.core.now clock c.in-Some.flow c.take_lowest.new.self
-          c.loop-clock.invariant.begins c.in-Some.ensures free c.args.costs.now c.in_ok-run.run c.in_ok-run.ensures);
+          c.loop-clock.invariant.begins c.in-Some.ensures free c.args.costs.now c.in_ok-run.run' c.in_ok-run.ensures);
       last = subst (λ running. AllLast c.args.costs.now (record clock {
         running = running;
         waiting = c.take_lowest.new.self;
       })) (sym c.in_ok-add.ensures.ok)
           (begun-last g.L.Meaning.meaning c.args.core.now clock c.in-Some.flow c.take_lowest.new.self
-          c.loop-clock.invariant.begins c.in-Some.ensures free c.args.costs.now c.in_ok-run.run c.in_ok-run.ensures
+          c.loop-clock.invariant.begins c.in-Some.ensures free c.args.costs.now c.in_ok-run.run' c.in_ok-run.ensures
           c.loop-clock.invariant.last);
       processors = c.loop-clock.invariant.processors;
     }
