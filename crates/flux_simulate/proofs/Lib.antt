@@ -12,3 +12,5 @@ mod Closing
 mod Further
 mod Placing
 mod Ending
+mod Steps
+mod Lessening
