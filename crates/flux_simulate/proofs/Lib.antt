@@ -14,3 +14,5 @@ mod Placing
 mod Ending
 mod Steps
 mod Lessening
+mod Stopping
+mod Adding

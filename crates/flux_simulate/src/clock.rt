@@ -1,6 +1,6 @@
 //! What a simulation has come to.
 
-ghost use Rattle.std.specs.Prelude.{◌≡◌, ◌∷◌, ◌++◌, [], OnOk};
+ghost use Rattle.std.specs.Prelude.{◌≡◌, ◌∷◌, ◌++◌, [], OnOk, OnErr};
 
 use crate::processors::Running;
 use crate::runs::Run;
@@ -46,17 +46,19 @@ impl Clock {
 
     /// Notes the tick of an entry.
     pub fn note(&mut self) -> Result<(), Memory>
-        ensures { OnOk result (self.new ≡ record self.old { at = self.old.at ++ self.old.tick ∷ [] }) }
+        ensures ok { OnOk result (self.new ≡ record self.old { at = self.old.at ++ self.old.tick ∷ [] }) }
+        ensures err { OnErr result (self.new ≡ self.old) }
     {
         self.at.add(self.tick)
     }
 
     /// Notes the entry of a call, and its run.
     pub fn note_end(&mut self, run: Run) -> Result<(), Memory>
-        ensures { OnOk result (self.new ≡ record self.old {
+        ensures ok { OnOk result (self.new ≡ record self.old {
           at = self.old.at ++ self.old.tick ∷ [];
           ended = self.old.ended ++ run ∷ [];
         }) }
+        ensures processors { self.new.processors ≡ self.old.processors }
     {
         self.note()?;
         self.ended.add(run)
