@@ -63,3 +63,22 @@ module _ {L : Type 0} (meaning : L → LibraryMeaning) (start old new : CoreStat
       let bound = few in
       let calls = few-begun in
       omega (arith, started, bound, calls)
+
+-- a core that went on is no shorter
+pub further-longer : {L : Type 0} (old new : CoreState L) → GoesFurther old new
+    → length old.entries ≤ length new.entries
+further-longer old new further =
+    let on = further.on in
+    let same = ap length on.added in
+    let both = length-append old.entries on.more in
+    omega (arith, same, both)
+
+-- a tick that finishes a call and settles
+pub ticked-lessens : {L : Type 0} (meaning : L → LibraryMeaning) (start old mid new : CoreState L)
+    → GoesFurther start mid → IsKept meaning mid → length old.entries < length mid.entries → GoesFurther mid new
+    → most_entries (setup_in meaning start) - length new.entries
+    < most_entries (setup_in meaning start) - length old.entries
+ticked-lessens meaning start old mid new further kept longer on =
+    let less = longer-lessens meaning start old mid further kept longer in
+    let more = further-longer mid new on in
+    omega (arith, less, more)

@@ -16,3 +16,5 @@ mod Steps
 mod Lessening
 mod Stopping
 mod Adding
+mod Opening
+mod Handing
