@@ -35,7 +35,7 @@ use threads::{none_left, thread_count};
 use troubles::Trouble;
 
 /// So many random programs are driven by each runtime.
-const SEEDS: u32 = 20;
+const SEEDS: u32 = 10;
 
 /// So often each of them is driven.
 const TIMES: u32 = 20;
