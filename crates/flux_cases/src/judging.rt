@@ -3,11 +3,11 @@
 ghost use Rattle.std.specs.Prelude.{◌≡◌};
 ghost use Rattle.flux_doors.specs.Memory.{door_out};
 
-use crate::audits::{audit_words, audit_world};
-use crate::calls::{CountingGate, calls_in};
-use crate::links::clients_of;
-use crate::worlds::{Memories, world_of};
-use case_files::{Case, Differences, Entry, Line, Report, Stream, Trouble};
+use crate::worlds::{Memories, audit_world, world_of};
+use case_files::{Case, Differences, Entry, Line, Report, Trouble};
+use case_worlds::{
+    CountingGate, audit_words, compare_gains, compare_links, compare_names, compare_told, is_command,
+};
 use flux_driver::{needs_threads, top};
 use flux_spelling::append_text;
 use flux_values::{Bytes, Memory};
@@ -135,30 +135,9 @@ fn compare_world(
     case: &Case,
     world: &Memories,
 ) -> Result<(), Memory> {
-    let (out, err) = (world.out.written(), world.err.written());
-    differences.compare_gain(b"out", Stream::Out, out, case.gains(Stream::Out))?;
-    differences.compare_gain(b"err", Stream::Err, err, case.gains(Stream::Err))?;
-    differences.compare_names(b"asked", world.store.names.all(), case.asked)?;
-    differences.compare_names(b"opened", world.folder.names.all(), case.opened)?;
-    compare_links(alloc, differences, case, world)
-}
-
-/// Compares the calls that the gate was told of with those that are wanted, and with those that were printed.
-fn compare_told(
-    differences: &mut Differences,
-    case: &Case,
-    status: u8,
-    words: &[Bytes],
-    told: Option<u64>,
-    printed: &[u8],
-) -> Result<(), Memory> {
-    if let Some(calls) = case.calls {
-        differences.compare_calls(told, calls as u64)?;
-    }
-    if status == 0 && has_journal(words) {
-        differences.compare_calls(told, calls_in(printed))?;
-    }
-    Ok(())
+    compare_gains(differences, case, &world.out, &world.err)?;
+    compare_names(differences, case, &world.store, &world.folder)?;
+    compare_links(alloc, differences, case, &world.door)
 }
 
 /// Audits the journal that a run printed, and tells where the answer isn't yes.
@@ -180,31 +159,4 @@ fn audit<Rt: Threads + Wait + Sync>(
     let mut line = Bytes::copy(alloc, b"its journal is refused: ")?;
     append_text(&mut line, world.out.written())?;
     differences.tell(line.as_bytes())
-}
-
-/// Compares what each link was written with what it has to be. A link that didn't come to the door was written nothing.
-fn compare_links(
-    alloc: Global,
-    differences: &mut Differences,
-    case: &Case,
-    world: &Memories,
-) -> Result<(), Memory> {
-    let back = world.door.taken_back();
-    for (place, client) in clients_of(alloc, case)?.iter().enumerate() {
-        let written = match back.get(place) {
-            Some(link) => link.written(),
-            None => b"",
-        };
-        differences.compare_link(place, written, client.lines)?;
-    }
-    Ok(())
-}
-
-/// Whether a journal is printed, or a log.
-fn has_journal(words: &[Bytes]) -> bool {
-    is_command(words, b"run") || is_command(words, b"serve")
-}
-
-fn is_command(words: &[Bytes], name: &[u8]) -> bool {
-    words.first().is_some_and(|word| word.as_bytes() == name)
 }

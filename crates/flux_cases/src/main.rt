@@ -5,11 +5,7 @@
 //! written. A wrong case is told with its file, its line and what differs. The last line counts them.
 #![tactic(auto)]
 
-mod audits;
-mod calls;
 mod judging;
-mod links;
-mod watched;
 mod worlds;
 
 use case_files::{Report, Trouble, read_lines};

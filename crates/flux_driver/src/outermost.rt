@@ -159,35 +159,38 @@ pub fn top<
 }
 
 /// Does what the words say in the world, and answers how it ended: that there was no memory where there was none for the
-/// words or for the world.
+/// words or for the world. Without words the world stays as it was.
 pub fn answer<
-    S: Store + Drop,
-    F: Folder + Drop,
-    O: Sink + Drop,
-    E: Sink + Drop,
-    D: Door + Drop,
+    S: Store,
+    F: Folder,
+    O: Sink,
+    E: Sink,
+    D: Door,
     G: Gate + Sync,
     Rt: Threads + Wait + Sync,
 >(
     rt: &Rt,
     alloc: Global,
     words: Result<List<Bytes>, Memory>,
-    world: Result<World<S, F, O, E, D>, Memory>,
+    world: &mut Result<World<S, F, O, E, D>, Memory>,
     gate: &G,
 ) -> Status
-    requires out { IfOk world (λ before. D.out before.door ≡ 0) }
-    ensures words { IsErr words → result ≡ Status.Memory }
-    ensures world { IsErr world → result ≡ Status.Memory }
+    requires out { IfOk world.old (λ before. D.out before.door ≡ 0) }
+    // Each accepted link has gone back to the door.
+    ensures out { IfOk world.new (λ after. D.out after.door ≡ 0) }
+    ensures there { IsErr world.new → IsErr world.old }
+    ensures words { IsErr words → (result ≡ Status.Memory) × (world.new ≡ world.old) }
+    ensures world { IsErr world.old → result ≡ Status.Memory }
     ensures done { let seen = seen_by S.files S.asked S.faults F.folders F.asked F.faults O.written O.faults
         E.written E.faults (door_by (link_by D.Link.left D.Link.written D.Link.faults) D.to_come D.taken_back D.open_at D.faults D.late) in
-        IfOk words (λ given. IfOk world (λ before. (after : Seen)
-        × HasDone built_in given (seen before) result after)) }
+        IfOk words (λ given. IfOk world.old (λ before. IfOk world.new (λ after.
+        HasDone built_in given (seen before) result (seen after)))) }
 {
     let Ok(words) = words else {
         return Status::Memory;
     };
-    let Ok(mut world) = world else {
-        return Status::Memory;
-    };
-    top(rt, alloc, words.as_slice(), &mut world, gate)
+    match world {
+        Ok(world) => top(rt, alloc, words.as_slice(), world, gate),
+        Err(_) => Status::Memory,
+    }
 }

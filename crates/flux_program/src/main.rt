@@ -77,5 +77,6 @@ fn exit_code(status: Status) -> ExitCode
 
 fn main(rt: HostRuntime) -> ExitCode {
     let words = read_words(rt.alloc(), &arguments(&rt));
-    exit_code(answer(&rt, rt.alloc(), words, outside(&rt), &OpenGate))
+    let mut world = outside(&rt);
+    exit_code(answer(&rt, rt.alloc(), words, &mut world, &OpenGate))
 }

@@ -1,14 +1,13 @@
-//! The journals that runs print are audited.
+//! What audits the journal that a run printed: its words, and a world in which nothing fails.
 
 ghost use Rattle.std.specs.Prelude.{◌≡◌, IfOk};
 ghost use Rattle.flux_doors.specs.Memory.{door_out};
 
-use crate::watched::{Names, WatchedStore};
-use crate::worlds::{Memories, files_of, folder};
+use crate::parts::{files_of, store_with};
+use crate::watched::WatchedStore;
 use case_files::Case;
 use flux_doors::MemoryDoor;
-use flux_driver::World;
-use flux_outside::{FileBytes, MemorySink, MemoryStore};
+use flux_outside::{FileBytes, MemorySink};
 use flux_values::{Bytes, List, Memory};
 use std::alloc::Global;
 
@@ -37,23 +36,24 @@ pub fn audit_words(alloc: Global, words: &[Bytes]) -> Result<List<Bytes>, Memory
     Ok(audit)
 }
 
-/// The world of a case, with the journal that its run printed, in which nothing fails.
-pub fn audit_world(alloc: Global, case: &Case, journal: &[u8]) -> Result<Memories, Memory>
-    ensures { IfOk result (λ world. door_out world.door ≡ 0) }
-{
+/// The files of a case, and the journal.
+pub fn audit_store(alloc: Global, case: &Case, journal: &[u8]) -> Result<WatchedStore, Memory> {
     let mut files = files_of(alloc, case)?;
     files.add(FileBytes {
         name: Bytes::copy(alloc, JOURNAL)?,
         body: Bytes::copy(alloc, journal)?,
     })?;
-    Ok(World {
-        store: WatchedStore {
-            store: MemoryStore::new(files, List::new(alloc)),
-            names: Names::new(alloc),
-        },
-        folder: folder(alloc, case, List::new(alloc))?,
-        out: MemorySink::new(alloc, ROOM, ROOM, List::new(alloc))?,
-        err: MemorySink::new(alloc, ROOM, ROOM, List::new(alloc))?,
-        door: MemoryDoor::new(alloc, List::new(alloc), List::new(alloc))?,
-    })
+    Ok(store_with(alloc, files, List::new(alloc)))
+}
+
+/// A stream with room for a verdict.
+pub fn verdict_sink(alloc: Global) -> Result<MemorySink, Memory> {
+    MemorySink::new(alloc, ROOM, ROOM, List::new(alloc))
+}
+
+/// A door that nobody comes to.
+pub fn empty_door(alloc: Global) -> Result<MemoryDoor, Memory>
+    ensures { IfOk result (λ door. door_out door ≡ 0) }
+{
+    MemoryDoor::new(alloc, List::new(alloc), List::new(alloc))
 }

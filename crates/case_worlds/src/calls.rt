@@ -1,7 +1,8 @@
 //! The calls of nodes, as a gate is told of them and as a printed journal has them.
 
-use flux_driver::Gate;
+use flow_core::Gate;
 use flux_model::{FlowNo, NodeNo};
+use flux_values::Bytes;
 use std::sync::atomic::{AtomicBool, AtomicU32, AtomicU64, Ordering};
 
 /// A gate that counts calls, and keeps whether the begin of one was told before the end of another.
@@ -69,6 +70,16 @@ pub fn calls_in(journal: &[u8]) -> u64 {
         }
     }
     calls
+}
+
+/// Whether a journal is printed, or a log.
+pub fn has_journal(words: &[Bytes]) -> bool {
+    is_command(words, b"run") || is_command(words, b"serve")
+}
+
+/// Whether the words begin with a command's name.
+pub fn is_command(words: &[Bytes], name: &[u8]) -> bool {
+    words.first().is_some_and(|word| word.as_bytes() == name)
 }
 
 fn is_number(word: &[u8]) -> bool {

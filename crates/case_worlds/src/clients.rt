@@ -1,4 +1,4 @@
-//! The links that a case's door gives, and what they are written.
+//! The links that a case's door gives.
 
 ghost use Rattle.std.specs.Prelude.{◌≡◌, ◌<◌, IfOk};
 ghost use Rattle.flux_doors.specs.Memory.{door_out};
@@ -64,7 +64,7 @@ fn add_clients<'a>(
 }
 
 /// The door that gives a case's links. None is out yet.
-pub fn door(alloc: Global, case: &Case) -> Result<MemoryDoor, Memory>
+pub fn door_of(alloc: Global, case: &Case) -> Result<MemoryDoor, Memory>
     ensures { IfOk result (λ door. door_out door ≡ 0) }
 {
     let clients = clients_of(alloc, case)?;

@@ -1,0 +1,19 @@
+//! The world in memory that a case meets, and what came of it, held against what the case wants.
+//!
+//! The store and the folder keep the names that they are asked for, the gate counts calls, and the door gives the case's links.
+//! What runs a case is `flux_cases`, over the driver; this crate knows nothing of it, so that it is proved beside.
+#![tactic(auto)]
+
+mod audits;
+mod calls;
+mod clients;
+mod comparing;
+mod parts;
+mod watched;
+
+pub use audits::{audit_store, audit_words, empty_door, verdict_sink};
+pub use calls::{CountingGate, is_command};
+pub use clients::door_of;
+pub use comparing::{compare_gains, compare_links, compare_names, compare_told};
+pub use parts::{err_of, folder_of, folder_with, out_of, store_of};
+pub use watched::{WatchedFolder, WatchedStore};

@@ -1,0 +1,79 @@
+//! The parts of the world in memory that a case speaks of.
+
+use crate::watched::{Names, WatchedFolder, WatchedStore};
+use case_files::{Case, Entry, Part, Shape, Stream};
+use flux_outside::{FileBytes, MemoryFolder, MemorySink, MemoryStore};
+use flux_values::{Bytes, List, Memory};
+use std::alloc::Global;
+
+/// How many bytes a stream has room for, and takes a call, where a case says nothing of it.
+const ROOM: usize = 16_777_216;
+
+/// The files that are there.
+pub fn files_of(alloc: Global, case: &Case) -> Result<List<FileBytes>, Memory> {
+    let mut files = List::new(alloc);
+    for line in case.own.iter().chain(case.shared) {
+        if let Entry::File(file) = &line.entry {
+            files.add(FileBytes {
+                name: Bytes::copy(alloc, file.name.as_bytes())?,
+                body: Bytes::copy(alloc, file.body.as_bytes())?,
+            })?;
+        }
+    }
+    Ok(files)
+}
+
+/// The store of these files, which keeps the names that it is asked for, and of which these calls fail.
+pub fn store_with(alloc: Global, files: List<FileBytes>, fails: List<u64>) -> WatchedStore {
+    WatchedStore {
+        store: MemoryStore::new(files, fails),
+        names: Names::new(alloc),
+    }
+}
+
+/// The store of a case.
+pub fn store_of(alloc: Global, case: &Case) -> Result<WatchedStore, Memory> {
+    let fails = case.fails(alloc, Part::Store)?;
+    Ok(store_with(alloc, files_of(alloc, case)?, fails))
+}
+
+/// The folder that is there, of which these calls fail.
+pub fn folder_with(
+    alloc: Global,
+    case: &Case,
+    fails: List<u64>,
+) -> Result<WatchedFolder, Memory> {
+    let mut docs = List::new(alloc);
+    for line in case.own.iter().chain(case.shared) {
+        if let Entry::Documents(documents) = &line.entry {
+            documents.add_to(alloc, &mut docs)?;
+        }
+    }
+    // A folder without a name is asked for by no words.
+    let dir = Bytes::copy(alloc, case.folder.unwrap_or(b""))?;
+    Ok(WatchedFolder {
+        folder: MemoryFolder::new(dir, docs, fails),
+        names: Names::new(alloc),
+    })
+}
+
+/// The folder of a case.
+pub fn folder_of(alloc: Global, case: &Case) -> Result<WatchedFolder, Memory> {
+    folder_with(alloc, case, case.fails(alloc, Part::Folder)?)
+}
+
+fn sink(alloc: Global, shape: Shape, fails: List<u64>) -> Result<MemorySink, Memory> {
+    let room = shape.room.unwrap_or(ROOM);
+    let piece = shape.piece.unwrap_or(ROOM).max(1);
+    MemorySink::new(alloc, room, piece, fails)
+}
+
+/// The output of a case.
+pub fn out_of(alloc: Global, case: &Case) -> Result<MemorySink, Memory> {
+    sink(alloc, case.out, case.fails(alloc, Part::Stream(Stream::Out))?)
+}
+
+/// The error stream of a case.
+pub fn err_of(alloc: Global, case: &Case) -> Result<MemorySink, Memory> {
+    sink(alloc, case.err, case.fails(alloc, Part::Stream(Stream::Err))?)
+}
