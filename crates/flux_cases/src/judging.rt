@@ -1,14 +1,16 @@
 //! Cases run one after another, and what is wrong with each.
 
 ghost use Rattle.std.specs.Prelude.{◌≡◌};
-ghost use Rattle.flux_doors.specs.Memory.{door_out};
 
 use crate::worlds::{Memories, audit_world, world_of};
 use case_files::{Case, Differences, Entry, Line, Report, Trouble};
 use case_worlds::{
-    CountingGate, audit_words, compare_gains, compare_links, compare_names, compare_told, is_command,
+    CountingGate, audit_words, compare_gains, compare_links, compare_names, compare_told,
+    is_command,
 };
-use flux_driver::{needs_threads, top};
+use flux_doors::Door;
+use flux_driver::{World, needs_threads, top};
+use flux_outside::{Folder, Sink, Store};
 use flux_spelling::append_text;
 use flux_values::{Bytes, Memory};
 use std::alloc::Global;
@@ -82,14 +84,14 @@ fn judge_lines<Rt: Threads + Wait + Sync>(
 }
 
 /// The status that a command line ends with. Cases look at what else came of it.
-fn answer<Rt: Threads + Wait + Sync>(
+fn answer<S: Store, F: Folder, O: Sink, E: Sink, D: Door, Rt: Threads + Wait + Sync>(
     rt: &Rt,
     alloc: Global,
     words: &[Bytes],
-    world: &mut Memories,
+    world: &mut World<S, F, O, E, D>,
     gate: &CountingGate,
 ) -> u8
-    requires { door_out world.old.door ≡ 0 }
+    requires { D.out world.old.door ≡ 0 }
 {
     top(rt, alloc, words, world, gate).code()
 }

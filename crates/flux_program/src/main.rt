@@ -6,9 +6,9 @@ ghost use Rattle.std.specs.IoError.{error_kind};
 ghost use Rattle.std.specs.Process.{exit_status};
 ghost use Rattle.flux_driver.specs.Statuses.{code_of};
 
-use flux_doors::RealDoor;
+use flux_doors::{Door, RealDoor};
 use flux_driver::{OpenGate, Status, World, answer};
-use flux_outside::{RealFolder, RealSink, RealStore};
+use flux_outside::{Folder, RealFolder, RealSink, RealStore, Sink, Store};
 use flux_values::{Bytes, List, Memory};
 use std::alloc::Global;
 use std::io::{ErrorKind, Stderr, Stdout};
@@ -75,8 +75,19 @@ fn exit_code(status: Status) -> ExitCode
     ExitCode::from(status.code())
 }
 
+/// Does what the words say in a world, whatever it is made of.
+fn answer_in<S: Store, F: Folder, O: Sink, E: Sink, D: Door>(
+    rt: &HostRuntime,
+    words: Result<List<Bytes>, Memory>,
+    world: &mut Result<World<S, F, O, E, D>, Memory>,
+) -> ExitCode
+    requires { IfOk world.old (λ before. D.out before.door ≡ 0) }
+{
+    exit_code(answer(rt, rt.alloc(), words, world, &OpenGate))
+}
+
 fn main(rt: HostRuntime) -> ExitCode {
     let words = read_words(rt.alloc(), &arguments(&rt));
     let mut world = outside(&rt);
-    exit_code(answer(&rt, rt.alloc(), words, &mut world, &OpenGate))
+    answer_in(&rt, words, &mut world)
 }
