@@ -6,7 +6,7 @@ use Rattle.flow_model.specs.declared.journals.Entry.{Entry}
 use Rattle.flux_batches.specs.declared.reading.Held.{Held}
 use Rattle.flux_batches.specs.declared.reading.Sent.{Sent}
 use Rattle.flux_batches.specs.Links.{Seen}
-use Rattle.flux_batches.specs.Replies.{IsAnswered, AreAnswered, flow_behind, TakesBack, HasAnswered}
+use Rattle.flux_batches.specs.Replies.{IsAnswered, AreAnswered, flow_behind, TakesBack, AreAllAnswered}
 
 pub back_none : {L : Type 0} → (before : Option (List L)) → TakesBack before before []
 back_none None = refl
@@ -80,5 +80,5 @@ answered_more see entries helds before mid after held left flow flow' back a one
   next = flow_more see entries 0 helds a.backs held left back a.answered ∙ ap (λ f. flow_behind f held.sent) a.next ∙ sym now;
 }
 
-pub answered_all : {K : Type 0} → (see : K → Seen) (entries : List Entry) (helds : List (Held K)) (before after : Option (List K)) (flow : ℕ) → Answered see entries helds before after [] flow → HasAnswered see entries helds before after
+pub answered_all : {K : Type 0} → (see : K → Seen) (entries : List Entry) (helds : List (Held K)) (before after : Option (List K)) (flow : ℕ) → Answered see entries helds before after [] flow → AreAllAnswered see entries helds before after
 answered_all see entries helds before after flow a = record { backs = a.backs; taken = a.taken; answered = a.answered }

@@ -23,14 +23,16 @@ pub record Seen : Type 0 where
 abbrev pub stream_of : Seen → Stream
 stream_of link = record { written = link.written; faults = link.faults }
 
--- a link was read: its text is that of what it had, or its count rose; nothing was written
+-- a link was read: its text is that of what it had; or its count rose; or memory was short, and its
+-- count stands; nothing was written
 abbrev pub IsSent : Framing → Seen → Seen → Sent → Type 0
 IsSent framing before after (Text text) =
     IfSome before.left (λ left. text ≡ text_of framing left) × (after.faults ≡ before.faults)
     × (after.written ≡ before.written)
 IsSent framing before after Failed =
     Rose before.faults after.faults × (after.written ≡ before.written)
-IsSent framing before after Memory = after.written ≡ before.written
+IsSent framing before after Memory =
+    (after.faults ≡ before.faults) × (after.written ≡ before.written)
 
 -- links were read in order, and these are left to read
 abbrev pub AreHeld : {K : Type 0} → (K → Seen) → Framing → List K → List (Held K) → List K → Type 0
@@ -64,12 +66,13 @@ abbrev pub items_from : {K : Type 0} → ℕ → List (Held K) → List Item
 items_from number [] = []
 items_from number (held ∷ rest) = item_sent number held.sent ++ items_from (number + 1) rest
 
--- there was memory for each text
+-- there was memory for a link's text
 abbrev pub IsRead : Sent → Type 0
 IsRead (Text text) = Unit {0}
 IsRead Failed = Unit {0}
 IsRead Memory = ⊥
 
+-- there was memory for each text
 abbrev pub AreRead : {K : Type 0} → List (Held K) → Type 0
 AreRead [] = Unit {0}
 AreRead (held ∷ rest) = IsRead held.sent × AreRead rest

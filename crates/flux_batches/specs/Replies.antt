@@ -56,7 +56,7 @@ abbrev pub TakesBack : {L : Type 0} → Option (List L) → Option (List L) → 
 TakesBack before after links = after ≡ option_map (λ held. held ++ links) before
 
 -- all links were answered, and given back to the door
-pub record HasAnswered {L : Type 0} (see : L → Seen) (entries : List Entry) (helds : List (Held L))
+pub record AreAllAnswered {L : Type 0} (see : L → Seen) (entries : List Entry) (helds : List (Held L))
     (before after : Option (List L)) : Type 0 where
   pub backs : List L
   pub taken : TakesBack before after backs

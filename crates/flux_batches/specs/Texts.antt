@@ -10,13 +10,15 @@ abbrev pub limit_of : Framing → ℕ
 limit_of Head = 16384
 limit_of Line = 1024
 
--- LF LF, LF CR LF, and LF
+-- a line's end and an empty line: LF LF
 abbrev pub empty_line : List ℕ
 empty_line = 10 ∷ 10 ∷ []
 
+-- the same with CR: LF CR LF
 abbrev pub empty_line_cr : List ℕ
 empty_line_cr = 10 ∷ 13 ∷ 10 ∷ []
 
+-- a line's end: LF
 abbrev pub line_end : List ℕ
 line_end = 10 ∷ []
 
@@ -25,16 +27,17 @@ abbrev pub ends : Framing → List ℕ → Bool
 ends Head front = ends_with nat_eq front empty_line || ends_with nat_eq front empty_line_cr
 ends Line front = ends_with nat_eq front line_end
 
--- the least front of some bytes that passes a test, and all of them where none does; `seen` are
--- those before
+-- the least that passes a test of `seen`, and of `seen` with more and more of the bytes behind it; all
+-- of these where none does
 abbrev pub grown : (List ℕ → Bool) → List ℕ → List ℕ → List ℕ
 grown test seen [] = seen
 grown test seen (b ∷ bytes) = if test seen then seen else grown test (seen ++ b ∷ []) bytes
 
+-- the least front of some bytes that passes a test, and all of them where none does
 abbrev pub least_front : (List ℕ → Bool) → List ℕ → List ℕ
 least_front test bytes = grown test [] bytes
 
--- whether one does
+-- whether one does, of those that begin with `seen`
 abbrev pub has_front : (List ℕ → Bool) → List ℕ → List ℕ → Bool
 has_front test seen [] = test seen
 has_front test seen (b ∷ bytes) = test seen || has_front test (seen ++ b ∷ []) bytes

@@ -38,6 +38,8 @@ pub fn gather<D: Door>(alloc: Global, door: &mut D) -> Result<VecDeque<D::Link>,
     ensures steady { OnOk result (D.faults door.new ≡ D.faults door.old) }
     ensures unless { (result ≡ Err NoBatch.Door → ⊥) → D.faults door.new ≡ D.faults door.old }
     ensures closed { result ≡ Err NoBatch.Closed → IfSome (D.to_come door.old) (λ batches. first_link (waiting batches) ≡ None) }
+    ensures kept { (result ≡ Err NoBatch.Closed → ⊥) → OnErr result (D.to_come door.new ≡ D.to_come door.old) }
+    ensures no_later { OnErr result (D.late door.new ≡ D.late door.old) }
     ensures failed { result ≡ Err NoBatch.Door → Rose (D.faults door.old) (D.faults door.new) }
     ensures later { (D.faults door.old ≤ D.faults door.new) × (D.late door.old ≤ D.late door.new) }
 {

@@ -3,7 +3,7 @@
 ghost use Rattle.std.specs.Prelude.{◌≡◌, ◌+◌, ◌<◌, ◌≤◌, [], nat_eq, if◌then◌else◌, OnOk, OnErr};
 ghost use Rattle.std.specs.VecDeque.{deque_len};
 ghost use Rattle.flux_outside.specs.Streams.{Wrote, Broke, WroteOrBroke};
-ghost use Rattle.flux_batches.specs.Replies.{emitted, reply_of, IsAnswered, flow_behind, HasAnswered};
+ghost use Rattle.flux_batches.specs.Replies.{emitted, reply_of, IsAnswered, flow_behind, AreAllAnswered};
 
 use crate::gathering::LINK_LIMIT;
 use crate::reading::{Held, Sent};
@@ -84,7 +84,7 @@ pub fn answer_links<D: Door>(door: &mut D, links: VecDeque<Held<D::Link>>, entri
     requires out { D.out door.old ≡ deque_len links }
     requires few { deque_len links ≤ LINK_LIMIT }
     ensures out { D.out door.new ≡ 0 }
-    ensures answered { HasAnswered
+    ensures answered { AreAllAnswered
         (λ link. record { left = D.Link.left link; written = D.Link.written link; faults = D.Link.faults link })
         entries.now links.items (D.taken_back door.old) (D.taken_back door.new) }
     ensures kept { D.to_come door.new ≡ D.to_come door.old }

@@ -9,13 +9,15 @@ use Rattle.flux_doors.specs.declared.memory_doors.MemoryDoor.{MemoryDoor}
 
 -- ---- the link
 
--- the bytes left to read, all bytes that its sink took, and its count of faults
+-- the bytes left to read
 abbrev pub link_left : MemoryLink → List ℕ
 link_left link = drop link.given link.input
 
+-- all bytes that its sink took
 abbrev pub link_written : MemoryLink → List ℕ
 link_written link = sink_bytes link.written
 
+-- how often it has failed
 abbrev pub link_faults : MemoryLink → ℕ
 link_faults link = link.faults
 
@@ -54,19 +56,23 @@ LinkWasWritten before after =
 abbrev pub door_links : MemoryDoor → List (List MemoryLink)
 door_links door = door.begun.items ∷ map deque_items door.later.items
 
--- the links taken back, the port that it is open at, how many links are out, and the counts of faults
+-- the links taken back
 abbrev pub door_back : MemoryDoor → List MemoryLink
 door_back door = door.back.items
 
+-- the port that it is open at, if it is
 abbrev pub door_port : MemoryDoor → Option ℕ
 door_port door = door.port
 
+-- how many links are out
 abbrev pub door_out : MemoryDoor → ℕ
 door_out door = door.out
 
+-- how often opening or a first accept has failed
 abbrev pub door_faults : MemoryDoor → ℕ
 door_faults door = door.faults
 
+-- how often a later accept has failed
 abbrev pub door_late : MemoryDoor → ℕ
 door_late door = door.late
 

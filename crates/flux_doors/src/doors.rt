@@ -13,7 +13,7 @@ pub const OUT_LIMIT: usize = 4_096;
 
 /// Gives links, batch by batch, and takes each back.
 pub trait Door {
-    type Link: Link + Drop;
+    type Link: Link + Drop + Send;
 
     /// The links to come, by their batches, where they are told. The first batch is the one that has begun.
     ghost to_come: { Self → Option (List (List Self.Link)) };

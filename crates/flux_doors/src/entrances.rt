@@ -1,5 +1,8 @@
 //! The socket that clients come in by, and those that wait behind it.
 
+ghost use Rattle.std.specs.Prelude.{◌≡◌, ◌≤◌, true, IfOk, IsSome};
+ghost use Rattle.std.specs.VecDeque.{deque_len};
+
 use crate::arrivals::{Arrival, arrival_of};
 use crate::real_links::RealLink;
 use std::alloc::Global;
@@ -14,14 +17,19 @@ const TRIES: u32 = 1_000_000;
 /// holds 128, and makes others try again after a second.
 const READY_LIMIT: usize = 256;
 
-/// A port of this machine alone, 127.0.0.1.
+/// The socket of a port of this machine alone, 127.0.0.1.
 #[derive(Drop)]
-pub struct Entrance<R: Net + Clock + Copy> {
+struct Socket<R: Net + Clock + Copy> {
     runtime: R,
     listener: Option<R::Listener>,
     /// Whether an accept waits for a client.
     waits: bool,
-    /// Links that were accepted, for this batch or a later one.
+}
+
+/// A socket, and the links that were accepted at it, for this batch or a later one.
+#[derive(Drop)]
+pub struct Entrance<R: Net + Clock + Copy> {
+    socket: Socket<R>,
     ready: VecDeque<RealLink<R>>,
 }
 
@@ -37,18 +45,8 @@ fn room<R: Net + Clock + Copy>(alloc: Global) -> VecDeque<RealLink<R>> {
     }
 }
 
-impl<R: Net + Clock + Copy> Entrance<R> {
-    /// One that isn't open yet.
-    pub fn new(alloc: Global, runtime: R) -> Entrance<R> {
-        Entrance {
-            runtime,
-            listener: None,
-            waits: true,
-            ready: room(alloc),
-        }
-    }
-
-    pub fn open(&mut self, port: u16) -> Result<(), Refused> {
+impl<R: Net + Clock + Copy> Socket<R> {
+    fn open(&mut self, port: u16) -> Result<(), Refused> {
         let there = SocketAddr::from((Ipv4Addr::LOCALHOST, port));
         match self.runtime.bind(there) {
             Ok(listener) => {
@@ -75,7 +73,9 @@ impl<R: Net + Clock + Copy> Entrance<R> {
     }
 
     /// The next client. A first accept waits for one; a later one doesn't.
-    fn next_link(&mut self, first: bool) -> Result<Option<RealLink<R>>, Refused> {
+    fn next_link(&mut self, first: bool) -> Result<Option<RealLink<R>>, Refused>
+        ensures { first ≡ true → IfOk result IsSome }
+    {
         let clock = self.runtime;
         let listener = self.listener(first)?;
         for _ in 0..TRIES {
@@ -93,14 +93,32 @@ impl<R: Net + Clock + Copy> Entrance<R> {
         }
         Err(Refused)
     }
+}
+
+impl<R: Net + Clock + Copy> Entrance<R> {
+    /// One that isn't open yet.
+    pub fn new(alloc: Global, runtime: R) -> Entrance<R> {
+        Entrance {
+            socket: Socket {
+                runtime,
+                listener: None,
+                waits: true,
+            },
+            ready: room(alloc),
+        }
+    }
+
+    pub fn open(&mut self, port: u16) -> Result<(), Refused> {
+        self.socket.open(port)
+    }
 
     /// Takes in the clients that stand ready, as far as there is room.
-    fn take_in(&mut self) -> Result<(), Refused> {
-        for _ in self.ready.len()..self.ready.capacity() {
-            match self.next_link(false)? {
-                Some(link) => {
-                    let _ = self.ready.push_back(link);
-                }
+    fn take_in(&mut self) -> Result<(), Refused>
+        ensures { deque_len self.old.ready ≤ deque_len self.new.ready }
+    {
+        'clients: while self.ready.len() < self.ready.capacity() {
+            match self.socket.next_link(false)? {
+                Some(link) => self.ready.push_back_reserved(link),
                 None => return Ok(()),
             }
         }
@@ -108,9 +126,11 @@ impl<R: Net + Clock + Copy> Entrance<R> {
     }
 
     /// The next link of a batch: a client that was taken in. Only the first one is waited for.
-    pub fn next_ready(&mut self, first: bool) -> Result<Option<RealLink<R>>, Refused> {
+    pub fn next_ready(&mut self, first: bool) -> Result<Option<RealLink<R>>, Refused>
+        ensures { first ≡ true → IfOk result IsSome }
+    {
         if first && self.ready.is_empty() {
-            return self.next_link(true);
+            return self.socket.next_link(true);
         }
         let mut taken = Ok(());
         if first || self.ready.is_empty() {

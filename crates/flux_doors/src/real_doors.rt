@@ -1,9 +1,8 @@
 //! A door over a real socket: a thin adapter, which tells nothing of the links to come.
 
-ghost use Rattle.std.specs.Prelude.{◌≡◌, ◌≤◌};
-ghost use Rattle.flux_doors.specs.Doors.{HasAcceptCause};
+ghost use Rattle.std.specs.Prelude.{◌≡◌, None};
 
-use crate::doors::Door;
+use crate::doors::{Door, OUT_LIMIT};
 use crate::endings::Endings;
 use crate::entrances::{Entrance, Refused};
 use crate::real_links::RealLink;
@@ -27,7 +26,7 @@ pub struct RealDoor<R: Net + Clock + Copy> {
 impl<R: Net + Clock + Copy> RealDoor<R> {
     /// A door that isn't open yet.
     pub fn new(alloc: Global, runtime: R) -> RealDoor<R>
-        ensures { (result.out ≡ 0) × (result.faults ≡ 0) × (result.late ≡ 0) }
+        ensures { (result.port ≡ None) × (result.out ≡ 0) × (result.faults ≡ 0) × (result.late ≡ 0) }
     {
         RealDoor {
             entrance: Entrance::new(alloc, runtime),
@@ -40,8 +39,12 @@ impl<R: Net + Clock + Copy> RealDoor<R> {
     }
 }
 
-impl<R: Net + Clock + Copy> Door for RealDoor<R> {
-    ghost use Rattle.std.specs.Prelude.{None};
+impl<R: Net + Clock + Copy + Send> Door for RealDoor<R>
+where
+    R::Stream: Send,
+{
+    ghost use Rattle.std.specs.Prelude.{◌≡◌, ◌<◌, true, IfOk, IsSome};
+    ghost use Rattle.flux_doors.specs.Doors.{HasAcceptCause, out_after};
 
     type Link = RealLink<R>;
 
@@ -67,7 +70,16 @@ impl<R: Net + Clock + Copy> Door for RealDoor<R> {
         }
     }
 
-    fn accept(&mut self, first: bool) -> Result<Option<RealLink<R>>, Failed> {
+    fn accept(&mut self, first: bool) -> Result<Option<RealLink<R>>, Failed>
+        requires { self.old.out < OUT_LIMIT }
+        ensures stays { self.new.port ≡ self.old.port }
+        ensures out { self.new.out ≡ out_after self.old.out result }
+        ensures cause { HasAcceptCause first
+            (record { faults = self.old.faults; late = self.old.late })
+            (record { faults = self.new.faults; late = self.new.late }) result }
+        // This door is never closed: a first accept that answers gives a link.
+        ensures first { first ≡ true → IfOk result IsSome }
+    {
         if first {
             self.endings.close_all();
         }

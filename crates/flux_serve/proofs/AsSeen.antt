@@ -153,16 +153,18 @@ module _ {L : Type 0} (see : L → Seen) where
 
   -- ---- the end
 
-  formed_seen : (before after : Sight L) (came : List L) → AreGathered before.to_come after.to_come before.late after.late came ⊎ (came ≡ [])
-      → AreGathered (option_map (map (map see)) before.to_come) (option_map (map (map see)) after.to_come) before.late after.late (map see came) ⊎ (map see came ≡ [])
+  formed_seen : (before after : Sight L) (came : List L) → AreGathered before.to_come after.to_come before.late after.late came ⊎ ((came ≡ []) × (after.to_come ≡ before.to_come) × (after.late ≡ before.late))
+      → AreGathered (option_map (map (map see)) before.to_come) (option_map (map (map see)) after.to_come) before.late after.late (map see came)
+      ⊎ ((map see came ≡ []) × (option_map (map (map see)) after.to_come ≡ option_map (map (map see)) before.to_come) × (after.late ≡ before.late))
   formed_seen before after came (inl formed) = inl (gathered_seen before.to_come after.to_come before.late after.late came formed)
-  formed_seen before after came (inr none) = inr (ap (map see) none)
+  formed_seen before after came (inr none) = inr (ap (map see) none.0, ap (option_map (map (map see))) none.1, none.2)
 
   undriven_seen : (before after : Sight L) → IsUndriven see before after → IsUndriven itself (as_seen see before) (as_seen see after)
   undriven_seen before after u = record {
     came = map see u.came;
     backs = map see u.backs;
     formed = formed_seen before after u.came u.formed;
+    size = rw (length-map u.came see) u.size;
     back = taken_seen before.taken_back after.taken_back u.backs u.back;
     unwritten = unwritten_seen u.came u.backs u.unwritten;
     steady = u.steady;
@@ -171,9 +173,9 @@ module _ {L : Type 0} (see : L → Seen) where
 
   stopped_seen : (service : Service) (opening : Cells) (count number : ℕ) (before after : Sight L) (end : ServeEnd) → HasStopped see service opening count number before after end
       → HasStopped itself service opening count number (as_seen see before) (as_seen see after) end
-  stopped_seen service opening count number before after Closed s = (none_waits before.to_come s.0, ap (option_map (map see)) s.1, s.2, s.3)
+  stopped_seen service opening count number before after Closed s = (none_waits before.to_come s.0, ap (option_map (map see)) s.1, s.2, s.3, s.4)
   stopped_seen service opening count number before after Counted s = absurd s
-  stopped_seen service opening count number before after Door s = (s.0, ap (option_map (map see)) s.1, s.2)
+  stopped_seen service opening count number before after Door s = (s.0, ap (option_map (map see)) s.1, s.2, ap (option_map (map (map see))) s.3, s.4)
   stopped_seen service opening count number before after Log s = (batch_seen s.0, has_driven service opening count number s.0 before after Broke s.1)
   stopped_seen service opening count number before after Memory (inl s) = inl (undriven_seen before after s)
   stopped_seen service opening count number before after Memory (inr s) = inr (batch_seen s.0, has_driven service opening count number s.0 before after Stands s.1)

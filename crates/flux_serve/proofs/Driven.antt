@@ -8,7 +8,7 @@ use Rattle.flux_journal.specs.Logs.{printed_batch}
 use Rattle.flux_outside.specs.Streams.{Stream, Broke}
 use Rattle.flux_batches.specs.declared.reading.Held.{Held}
 use Rattle.flux_batches.specs.Links.{Seen, AreRead, items_from}
-use Rattle.flux_batches.specs.Replies.{TakesBack, HasAnswered}
+use Rattle.flux_batches.specs.Replies.{TakesBack, AreAllAnswered}
 use Rattle.flux_batches.specs.Gathered.{AreGathered}
 use Rattle.flux_serve.specs.declared.batches.ServeEnd.{ServeEnd}
 use Rattle.flux_serve.specs.declared.batches.ServeEnd.TheVariants.{Closed, Counted, Door, Log, Memory}
@@ -27,7 +27,7 @@ pub record Parts {L : Type 0} (see : L → Seen) (service : Service) (opening : 
   pub is : items ≡ items_from number held
   pub legal : IsLegal (batch_setup service opening items) journal.entries
   pub whole : IsWhole (batch_setup service opening items) journal.entries
-  pub answered : HasAnswered see journal.entries held taken_back after.taken_back
+  pub answered : AreAllAnswered see journal.entries held taken_back after.taken_back
   pub come : after.to_come ≡ to_come
   pub late_ : after.late ≡ late
   pub steady : after.faults ≡ before.faults

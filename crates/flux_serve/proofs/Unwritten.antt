@@ -14,7 +14,7 @@ unwritten_same see (link ∷ links) = (refl, unwritten_same see links)
 sent_unwritten : (framing : Framing) (before after : Seen) (sent : Sent) → IsSent framing before after sent → after.written ≡ before.written
 sent_unwritten framing before after (Text text) is = is.2
 sent_unwritten framing before after Failed is = is.1
-sent_unwritten framing before after Memory is = is
+sent_unwritten framing before after Memory is = is.1
 
 pub unwritten_held : {L : Type 0} → (see : L → Seen) (framing : Framing) (links : List L) (helds : List (Held L)) → AreHeld see framing links helds [] → AreUnwritten see links (map (λ held. held.link) helds)
 unwritten_held {L} see framing links [] is = let P : List L → Type 0 = λ l. AreUnwritten see l [] in subst P (sym is) tt

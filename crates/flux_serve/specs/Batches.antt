@@ -60,11 +60,12 @@ pub record IsDriven {L : Type 0} (see : L → Seen) (service : Service) (opening
 
 -- ---- behind a batch
 
--- the cells, and the number of the next link
+-- the cells
 abbrev pub cells_behind : {L : Type 0} → Service → Cells → ℕ → Batch L → Cells
 cells_behind service opening number batch = let journal = batch.journal in
     cells_after (batch_setup service opening (batch_items number batch)) journal.entries
 
+-- the number of the next link
 abbrev pub number_behind : {L : Type 0} → ℕ → Batch L → ℕ
 number_behind number batch = number + length batch.held
 

@@ -56,13 +56,14 @@ AreServed {L} see service opening count number before after (batch ∷ batches) 
     × AreServed see service (cells_behind service opening number batch) (count + 1)
     (number_behind number batch) mid after batches
 
--- the cells and the number of the next link behind batches
+-- the cells behind batches
 abbrev pub cells_at_end : {L : Type 0} → Service → Cells → ℕ → List (Batch L) → Cells
 cells_at_end service opening number [] = opening
 cells_at_end service opening number (batch ∷ batches) =
     cells_at_end service (cells_behind service opening number batch) (number_behind number batch)
     batches
 
+-- the number of the next link behind batches
 abbrev pub number_at_end : {L : Type 0} → ℕ → List (Batch L) → ℕ
 number_at_end number [] = number
 number_at_end number (batch ∷ batches) = number_at_end (number_behind number batch) batches
@@ -78,12 +79,14 @@ AreUnwritten see (link ∷ links) (back ∷ backs) =
 AreUnwritten see [] (back ∷ backs) = ⊥
 AreUnwritten see (link ∷ links) [] = ⊥
 
--- a batch that wasn't driven: the first links of the door's next batch, or none; the log and the
--- door's count stand
+-- a batch that wasn't driven: the first links of the door's next batch, at most 64; or none, where
+-- the door gave nothing; the log and the door's count stand
 pub record IsUndriven {L : Type 0} (see : L → Seen) (before after : Sight L) : Type 0 where
   pub came : List L
   pub backs : List L
-  pub formed : AreGathered before.to_come after.to_come before.late after.late came ⊎ (came ≡ [])
+  pub formed : AreGathered before.to_come after.to_come before.late after.late came
+      ⊎ ((came ≡ []) × (after.to_come ≡ before.to_come) × (after.late ≡ before.late))
+  pub size : length came ≤ 64
   pub back : TakesBack before.taken_back after.taken_back backs
   pub unwritten : AreUnwritten see came backs
   pub steady : after.faults ≡ before.faults
@@ -99,11 +102,11 @@ abbrev pub HasStopped : {L : Type 0} → (L → Seen) → Service → Cells → 
 HasStopped see service opening count number before after Closed =
     IfSome before.to_come (λ batches. first_link (waiting batches) ≡ None)
     × (after.taken_back ≡ before.taken_back) × (after.log ≡ before.log)
-    × (after.faults ≡ before.faults)
+    × (after.faults ≡ before.faults) × (after.late ≡ before.late)
 HasStopped see service opening count number before after Counted = ⊥
 HasStopped see service opening count number before after Door =
     Rose before.faults after.faults × (after.taken_back ≡ before.taken_back)
-    × (after.log ≡ before.log)
+    × (after.log ≡ before.log) × (after.to_come ≡ before.to_come) × (after.late ≡ before.late)
 HasStopped {L} see service opening count number before after Log =
     (batch : Batch L) × HasDriven see service opening count number batch before after Broke
 HasStopped {L} see service opening count number before after Memory =

@@ -26,11 +26,12 @@ pub record IsTaken {L : Type 0} (see : L → Seen) (framing : Framing)
 abbrev pub IsNone : {L : Type 0} → (L → Seen) → Sight L → Sight L → ServeEnd → Type 0
 IsNone see before after Closed =
     IfSome before.to_come (λ batches. first_link (waiting batches) ≡ None)
-    × (after.taken_back ≡ before.taken_back) × (after.log ≡ before.log) × (after.faults ≡ before.faults)
+    × (after.taken_back ≡ before.taken_back) × (after.log ≡ before.log)
+    × (after.faults ≡ before.faults) × (after.late ≡ before.late)
 IsNone see before after Counted = ⊥
 IsNone see before after Door =
     Rose before.faults after.faults × (after.taken_back ≡ before.taken_back)
-    × (after.log ≡ before.log)
+    × (after.log ≡ before.log) × (after.to_come ≡ before.to_come) × (after.late ≡ before.late)
 IsNone see before after Log = ⊥
 IsNone see before after Memory = IsUndriven see before after
 

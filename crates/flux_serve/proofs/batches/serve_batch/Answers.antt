@@ -7,7 +7,7 @@ use Rattle.flux_cells.specs.Kept.{cells_of}
 use Rattle.flux_outside.specs.Streams.{Stream, Wrote}
 use Rattle.flux_journal.specs.Logs.{printed_batch}
 use Rattle.flux_batches.specs.Links.{Seen}
-use Rattle.flux_batches.specs.Replies.{TakesBack, HasAnswered}
+use Rattle.flux_batches.specs.Replies.{TakesBack, AreAllAnswered}
 use Rattle.flux_batches.specs.Gathered.{AreGathered}
 use Rattle.flux_serve.specs.Batches.{Service, batch_setup}
 use Rattle.flux_serve.specs.Ends.{Sight}
@@ -57,6 +57,7 @@ returns-in-Err-run_links-clause-stopped g c =
       came = taken.came;
       backs = backs;
       formed = inl (subst N (sym c.give_back_held.ensures.counts.1) (subst C (sym c.give_back_held.ensures.kept) taken.formed));
+      size = taken.size.1;
       back = subst T c.in-Ok.ensures.back c.give_back_held.ensures.back;
       unwritten = unwritten_held see c.args.served.now.framing taken.came c.in-Ok.links.items taken.read;
       steady = c.give_back_held.ensures.counts.0 ∙ c.in-Ok.ensures.steady;
@@ -84,7 +85,7 @@ returns-in-Ok-write_batch-clause-passed g c =
     let run = c.in-Ok-run_links.run' in
     let journal = run.journal in
     let helds = c.in-Ok.links.items in
-    let A : List Entry → Type 0 = λ e. HasAnswered see e helds (g.D.Door.taken_back c.take.new.door) (g.D.Door.taken_back c.answer_links.new.door) in
+    let A : List Entry → Type 0 = λ e. AreAllAnswered see e helds (g.D.Door.taken_back c.take.new.door) (g.D.Door.taken_back c.answer_links.new.door) in
     let parts : Parts see service (cells_of c.args.opening) c.args.number before after helds run.items journal = record {
       to_come = g.D.Door.to_come c.take.new.door;
       taken_back = g.D.Door.taken_back c.take.new.door;
@@ -129,7 +130,7 @@ returns-in-Err-write_batch-clause-stopped g c =
     let run = c.in-Ok-run_links.run' in
     let journal = run.journal in
     let helds = c.in-Ok.links.items in
-    let A : List Entry → Type 0 = λ e. HasAnswered see e helds (g.D.Door.taken_back c.take.new.door) (g.D.Door.taken_back c.answer_links.new.door) in
+    let A : List Entry → Type 0 = λ e. AreAllAnswered see e helds (g.D.Door.taken_back c.take.new.door) (g.D.Door.taken_back c.answer_links.new.door) in
     let parts : Parts see service (cells_of c.args.opening) c.args.number before after helds run.items journal = record {
       to_come = g.D.Door.to_come c.take.new.door;
       taken_back = g.D.Door.taken_back c.take.new.door;

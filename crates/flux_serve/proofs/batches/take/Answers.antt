@@ -1,4 +1,4 @@
-use Rattle.std.proofs.Common.{ℕ, [], List, Option, refl, sym, ◌∙◌, subst, inl, inr}
+use Rattle.std.proofs.Common.{ℕ, [], List, Option, refl, sym, ◌∙◌, subst, inl, inr, arith}
 use Rattle.flux_batches.specs.Links.{Seen}
 use Rattle.flux_batches.specs.Replies.{TakesBack}
 use Rattle.flux_batches.specs.Gathered.{AreGathered}
@@ -10,7 +10,8 @@ pub returns-in-Err-Memory-clause-none : goal.returns-in-Err-Memory-clause-none
 returns-in-Err-Memory-clause-none g c log = record {
   came = [];
   backs = [];
-  formed = inr refl;
+  formed = inr (refl, c.in-Err-Memory.ensures.kept (λ e. absurd cc), c.in-Err-Memory.ensures.no_later);
+  size = omega arith;
   back = c.gather.ensures.back ∙ back_none (g.D.Door.taken_back c.args.door.now);
   unwritten = tt;
   steady = c.gather.ensures.unless (λ e. absurd cc);
@@ -29,6 +30,7 @@ returns-in-Err-clause-none g c log =
       came = c.in-Err.links.items;
       backs = c.in-Err.links.items;
       formed = inl (subst N (sym c.give_back.ensures.counts.1) (subst C (sym c.give_back.ensures.kept) (subst G (sym c.in-Err.ensures.unread.0) c.in-Ok.ensures.links)));
+      size = omega (arith, c.in-Err.links.ok.0, c.in-Err.ensures.unread.1, c.in-Ok.ensures.some.1);
       back = subst P c.gather.ensures.back c.give_back.ensures.back;
       unwritten = unwritten_same see c.in-Err.links.items;
       steady = c.give_back.ensures.counts.0 ∙ c.in-Ok.ensures.steady;
