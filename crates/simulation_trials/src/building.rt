@@ -1,0 +1,106 @@
+//! From a text and the numbers that its sources give to a core whose flows have done nothing.
+
+ghost use Rattle.std.specs.Prelude.{◌≡◌, ◌≤◌, IfOk, length};
+ghost use Rattle.std.specs.List.{AllByRecursion};
+ghost use Rattle.flux_model.specs.Kinds.{kinds_at};
+ghost use Rattle.flux_model.specs.Items.{IsItemFor};
+ghost use Rattle.flux_model.specs.Names.{IsNamed};
+ghost use Rattle.flux_model.specs.Numbered.{IsNumbered};
+ghost use Rattle.flux_model.specs.Soundness.{IsSound};
+
+use crate::troubles::Trouble;
+use flow_core::{Core, Setup};
+use flux_cells::Cells;
+use flux_check::check;
+use flux_compile::compile;
+use flux_faults::CheckFault;
+use flux_hoist::Checked;
+use flux_library::Library;
+use flux_model::{Item, SourceNo};
+use flux_values::{Kind, List, Memory, Value};
+use std::alloc::Global;
+use std::sync::Arc;
+
+/// The most flows of a core.
+const FLOW_LIMIT: usize = 4_096;
+
+/// A number that a source gives.
+#[derive(Clone, Copy, Debug)]
+pub struct Given {
+    pub source: u32,
+    pub number: i64,
+}
+
+/// The text's program with what is found of it.
+pub fn checked_of<L: Library>(alloc: Global, text: &[u8], library: &L) -> Result<Checked, Trouble>
+    ensures sound { IfOk result (λ checked. IsSound (L.meaning library.now) checked.program
+        (kinds_at checked.sigs.nodes)) }
+    ensures numbered { IfOk result (λ checked. IsNumbered checked.program) }
+    ensures named { IfOk result (λ checked. IsNamed checked.program) }
+{
+    match check(alloc, text, library) {
+        Ok(checked) => Ok(checked),
+        Err(CheckFault::Memory) => Err(Trouble::Memory),
+        Err(CheckFault::Static(_)) => Err(Trouble::Text),
+    }
+}
+
+/// The item of a source that gives one number.
+fn item_of(alloc: Global, checked: &Checked, given: Given) -> Result<Item, Trouble>
+    ensures { IfOk result (IsItemFor checked.now.program (kinds_at checked.now.sigs.nodes)) }
+{
+    let Some(line) = checked.program.sources.get(given.source as usize) else {
+        return Err(Trouble::Text);
+    };
+    let Some(sig) = checked.sigs.nodes.get(line.node.0 as usize) else {
+        return Err(Trouble::Text);
+    };
+    let [out] = sig.outs.as_slice() else {
+        return Err(Trouble::Text);
+    };
+    if out.kind != Kind::Int {
+        return Err(Trouble::Text);
+    }
+    let mut values = List::new(alloc);
+    values.add(Value::Int(given.number))?;
+    Ok(Item {
+        source: SourceNo(given.source),
+        values,
+    })
+}
+
+/// An item for each flow.
+fn items_of(alloc: Global, checked: &Checked, given: &[Given]) -> Result<List<Item>, Trouble>
+    ensures fit { IfOk result (AllByRecursion
+        (IsItemFor checked.now.program (kinds_at checked.now.sigs.nodes))) }
+    ensures few { IfOk result (λ items. length items ≤ 4096) }
+{
+    if given.len() > FLOW_LIMIT {
+        return Err(Trouble::Text);
+    }
+    let mut items = List::new(alloc);
+    for one in given {
+        items.add(item_of(alloc, checked, *one)?)?;
+    }
+    Ok(items)
+}
+
+/// A core of the text's program, with a flow for each number.
+pub fn core_of<L: Library>(
+    alloc: Global,
+    text: &[u8],
+    given: &[Given],
+    library: L,
+) -> Result<Core<L>, Trouble> {
+    let checked = checked_of(alloc, text, &library)?;
+    let plans = compile(alloc, &checked)?;
+    let items = items_of(alloc, &checked, given)?;
+    let setup = Setup {
+        program: Arc::new(alloc, checked.program)?,
+        plans: Arc::new(alloc, plans)?,
+        items,
+        opening: Cells::new(alloc),
+        library: Arc::new(alloc, library)?,
+    };
+    Ok(Core::new(alloc, setup)?)
+}
