@@ -1,16 +1,18 @@
 -- What can still come grows less with each entry, and with each call that is begun.
-use Rattle.std.proofs.Common.{◌≡◌, ◌<◌, ◌≤◌, ◌+◌, ◌-◌, ℕ, Bool, true, false, List, [], ◌∷◌, ◌++◌, length, length-append, ap, subst, arith}
+use Rattle.std.proofs.Common.{◌≡◌, ◌<◌, ◌≤◌, ◌+◌, ◌-◌, ℕ, Bool, true, false, List, [], ◌∷◌, ◌++◌, length, Option, length-append, refl, ap, subst, arith}
 use Rattle.std.specs.List.{count_by}
 use Rattle.std.specs.Option.{is_some}
 use Rattle.std.proofs.lemmas.List.Sums.{sum_by-cons}
 use Rattle.flux_values.specs.Meanings.{LibraryMeaning}
 use Rattle.flow_model.specs.Setup.{Setup}
+use Rattle.flow_state.specs.declared.inputs.Inputs.{Inputs}
+use Rattle.flow_state.specs.States.{SetupState}
 use Rattle.flow_core.specs.States.{CoreState, setup_in, IsKept}
 use Rattle.flow_waits.proofs.Counting.{most_entries, few-entries}
 use Rattle.flux_simulate.specs.declared.runs.Run.{Run}
 use Rattle.flux_simulate.specs.steps.Changes.{IsOut}
 use Rattle.flux_simulate.specs.steps.Calls.{begun_count, HasStarted}
-use Rattle.flux_simulate.specs.steps.Ticking.{GoesFurther}
+use Rattle.flux_simulate.specs.steps.Ticking.{one_if, GoesFurther}
 use Rattle.flux_simulate.proofs.Tallies.{count_one}
 use Rattle.flux_simulate.proofs.Further.{further-setup}
 
@@ -46,10 +48,12 @@ module _ {L : Type 0} (meaning : L → LibraryMeaning) (start old new : CoreStat
 
   few-begun : begun_count new ≤ length start.setup.items
   few-begun =
-      let count = count-most (λ call. is_some call) new.begun in
-      let each = kept.each in
-      let on = further.on in
-      let same = ap (λ s. length s.items) on.setup_ in
+      let count : begun_count new ≤ length new.begun =
+      count-most (λ (call : Option Inputs). is_some call) new.begun in
+      let each : length new.begun ≡ length new.setup.items = kept.each in
+      let setup : new.setup ≡ start.setup = let on = further.on in on.setup_ in
+      let same : length new.setup.items ≡ length start.setup.items =
+      ap (λ (s : SetupState L). length s.items) setup in
       omega (arith, count, each, same)
 
   pub longer-lessens : length old.entries < length new.entries
@@ -57,12 +61,13 @@ module _ {L : Type 0} (meaning : L → LibraryMeaning) (start old new : CoreStat
   longer-lessens longer = let bound = few in omega (arith, longer, bound)
 
   pub started-lessens : HasStarted old new
-      → most + length start.setup.items - (length new.entries + begun_count new)
-      < most + length start.setup.items - (length old.entries + begun_count old)
+      → (most + length start.setup.items) - (length new.entries + begun_count new)
+      < (most + length start.setup.items) - (length old.entries + begun_count old)
   started-lessens started =
+      let more : length old.entries + begun_count old < length new.entries + begun_count new = started in
       let bound = few in
       let calls = few-begun in
-      omega (arith, started, bound, calls)
+      omega (arith, more, bound, calls)
 
 -- a core that went on is no shorter
 pub further-longer : {L : Type 0} (old new : CoreState L) → GoesFurther old new
@@ -73,12 +78,17 @@ further-longer old new further =
     let both = length-append old.entries on.more in
     omega (arith, same, both)
 
--- a tick that finishes a call and settles
-pub ticked-lessens : {L : Type 0} (meaning : L → LibraryMeaning) (start old mid new : CoreState L)
-    → GoesFurther start mid → IsKept meaning mid → length old.entries < length mid.entries → GoesFurther mid new
-    → most_entries (setup_in meaning start) - length new.entries
-    < most_entries (setup_in meaning start) - length old.entries
-ticked-lessens meaning start old mid new further kept longer on =
-    let less = longer-lessens meaning start old mid further kept longer in
-    let more = further-longer mid new on in
-    omega (arith, less, more)
+-- a tick that is done, or the last, behind which there is none
+pub tick-lessens : {L : Type 0} (meaning : L → LibraryMeaning) (start old new : CoreState L) → GoesFurther start new
+    → IsKept meaning new → GoesFurther old new → (was now : Bool) → was ≡ true
+    → (now ≡ true → length old.entries < length new.entries)
+    → (most_entries (setup_in meaning start) - length new.entries) + one_if now
+    < (most_entries (setup_in meaning start) - length old.entries) + one_if was
+tick-lessens meaning start old new further kept on was true more longer =
+    let less = longer-lessens meaning start old new further kept (longer refl) in
+    let one = ap one_if more in
+    omega (arith, less, one)
+tick-lessens meaning start old new further kept on was false more longer =
+    let less = further-longer old new on in
+    let one = ap one_if more in
+    omega (arith, less, one)

@@ -3,7 +3,7 @@
 ghost use Rattle.std.specs.Prelude.{◌≡◌, ◌<◌, ◌≤◌, ℕ, List, [], length, None, Some, IsSome, IfOk, IfErr, OnOk};
 ghost use Rattle.std.specs.List.{sum_by};
 ghost use Rattle.flux_laws.specs.Growth.{item_size};
-ghost use Rattle.flow_core.specs.States.{setup_in, begun_by};
+ghost use Rattle.flow_core.specs.States.{setup_in, begun_by, IsKept};
 ghost use Rattle.flow_core.specs.Runs.{GoesToEnd, GoesOnLegally};
 ghost use Rattle.flow_waits.specs.Idle.{IsFirstIdle};
 ghost use Rattle.flow_waits.specs.Driven.{IsJobOf};
@@ -12,7 +12,7 @@ ghost use Rattle.flux_simulate.specs.Ticks.{timed, last_tick};
 ghost use Rattle.flux_simulate.specs.Runs.{IsOneRunACall, NeverMoreRuns, sum_of_costs};
 ghost use Rattle.flux_simulate.specs.Rule.{IsByTheRule};
 ghost use Rattle.flux_simulate.specs.Idle.{NeverIdleForNothing};
-ghost use Rattle.flux_simulate.specs.steps.Ticking.{AllLast, AllStandStill, Finishes, Goes, Begins, Rests, IsFurtherTick, GoesFurther};
+ghost use Rattle.flux_simulate.specs.steps.Ticking.{AllLast, AllStandStill, Finishes, Goes, Begins, Rests, IsFurtherTick, IsNextTick, GoesFurther};
 ghost use Rattle.flux_simulate.specs.steps.Calls.{IsRunOf, EndsBegun, HasStarted, AreSmall};
 
 use crate::clock::Clock;
@@ -49,10 +49,7 @@ pub fn simulate<L: Library>(
 {
     let mut core = core;
     let mut clock = Clock::new(core.alloc(), processors);
-    let done = tick_by_tick(&mut core, costs, &mut clock);
-    // Asked for what it promises: that the journal is legal.
-    let _journal = core.journal();
-    match done {
+    match all_ticks(&mut core, costs, &mut clock) {
         Ok(()) => Ok(simulated(core, clock)),
         Err(Memory) => Err(Stopped { core }),
     }
@@ -74,7 +71,29 @@ fn simulated<L: Library>(core: Core<L>, clock: Clock) -> Simulated<L>
     }
 }
 
-/// From the first tick to the last.
+/// From the first tick to the last. The journal is legal, also where memory is short.
+fn all_ticks<L: Library>(
+    core: &mut Core<L>,
+    costs: &List<u32>,
+    clock: &mut Clock,
+) -> Result<(), Memory>
+    requires goes { Goes L.meaning core.old clock.old }
+    requires last { AllLast costs.now clock.old }
+    requires small { AreSmall L.meaning core.old costs.now clock.old.processors }
+    ensures rests { OnOk result (Rests L.meaning core.new clock.new) }
+    ensures over { OnOk result (clock.new.running ≡ []) }
+    ensures last { OnOk result (AllLast costs.now clock.new) }
+    ensures kept { IsKept L.meaning core.new }
+    ensures further { GoesFurther core.old core.new }
+    ensures processors { clock.new.processors ≡ clock.old.processors }
+{
+    let done = tick_by_tick(core, costs, clock);
+    // Asked for what it promises: that the journal is legal.
+    let _journal = core.journal();
+    done
+}
+
+/// One tick after another, as long as calls run.
 fn tick_by_tick<L: Library>(
     core: &mut Core<L>,
     costs: &List<u32>,
@@ -90,12 +109,35 @@ fn tick_by_tick<L: Library>(
     ensures processors { clock.new.processors ≡ clock.old.processors }
 {
     settle(core, costs, clock)?;
-    while finish_next(core, clock)? {
-        // Asked for what it promises: that the journal is legal.
+    let mut more = true;
+    'ticks: while more {
+        more = next_tick(core, costs, clock)?;
+        // Asked for what it promises: that the journal is legal, so not too long.
         let _journal = core.journal();
-        settle(core, costs, clock)?;
     }
     Ok(())
+}
+
+/// Goes on to the next tick and does all of it. There is none where no call runs.
+fn next_tick<L: Library>(
+    core: &mut Core<L>,
+    costs: &List<u32>,
+    clock: &mut Clock,
+) -> Result<bool, Memory>
+    requires rests { Rests L.meaning core.old clock.old }
+    requires last { AllLast costs.now clock.old }
+    requires small { AreSmall L.meaning core.old costs.now clock.old.processors }
+    ensures tick { IfOk result (IsNextTick L.meaning core.old core.new clock.new) }
+    ensures last { OnOk result (AllLast costs.now clock.new) }
+    ensures further { GoesFurther core.old core.new }
+    ensures processors { clock.new.processors ≡ clock.old.processors }
+{
+    let stopped = finish_next(core, clock)?;
+    if stopped {
+        settle(core, costs, clock)?;
+        return Ok(true);
+    }
+    Ok(false)
 }
 
 /// Does all of a tick that comes after calls are finished.
@@ -150,7 +192,9 @@ fn go_one<L: Library>(core: &mut Core<L>, clock: &mut Clock, flow: FlowNo) -> Re
     match core.step(flow)? {
         Step::Job(_) => clock.waiting.add(flow),
         Step::Went => clock.note(),
-        Step::Ended | Step::Calling | Step::Waits { .. } => Ok(()),
+        Step::Ended => Ok(()),
+        Step::Calling => Ok(()),
+        Step::Waits { .. } => Ok(()),
     }
 }
 

@@ -160,6 +160,13 @@ IsFurtherTick meaning old new clock true =
     Goes meaning new clock × (length old.entries < length new.entries)
 IsFurtherTick meaning old new clock false = Rests meaning new clock × (clock.running ≡ [])
 
+-- the next tick is done, and something with it; or no call runs any more
+pub record IsNextTick {L : Type 0} (meaning : L → LibraryMeaning) (old new : CoreState L) (clock : Clock) (more : Bool)
+    : Type 0 where
+  pub rests : Rests meaning new clock
+  pub longer : more ≡ true → length old.entries < length new.entries
+  pub over : more ≡ false → clock.running ≡ []
+
 -- ---- the core
 
 -- a core goes on, and its flag is as it was
