@@ -20,14 +20,14 @@ next_tick-requires-clause-small g c =
     (further-small g.L.Meaning.meaning c.args.core.now c.ticks.core c.args.costs.now c.args.clock.now.processors
     c.ticks.invariant.further c.requires.small)
 
-pub returns-in_err-next_tick-clause-further : goal.returns-in_err-next_tick-clause-further
-returns-in_err-next_tick-clause-further g c =
+pub returns-in_err-more-clause-further : goal.returns-in_err-more-clause-further
+returns-in_err-more-clause-further g c =
     further-then c.args.core.now c.ticks.core c.next_tick.new.core c.ticks.invariant.further
     c.next_tick.ensures.further
 
 pub ticks-smaller : goal.ticks-smaller
 ticks-smaller g c =
-    let tick = c.in_ok-next_tick.ensures.tick in
+    let tick = c.in_ok-more.ensures.tick in
     tick-lessens g.L.Meaning.meaning c.args.core.now c.ticks.core c.next_tick.new.core
     (further-then c.args.core.now c.ticks.core c.next_tick.new.core c.ticks.invariant.further
     c.next_tick.ensures.further) c.journal-journal.ensures.kept c.next_tick.ensures.further c.ticks.more _
@@ -35,11 +35,11 @@ ticks-smaller g c =
 
 pub ticks-preserved : goal.ticks-preserved
 ticks-preserved g c =
-    let tick = c.in_ok-next_tick.ensures.tick in record {
+    let tick = c.in_ok-more.ensures.tick in record {
       further = further-then c.args.core.now c.ticks.core c.next_tick.new.core c.ticks.invariant.further
           c.next_tick.ensures.further;
       rests = tick.rests;
-      last = c.in_ok-next_tick.ensures.last;
+      last = c.in_ok-more.ensures.last;
       processors = c.next_tick.ensures.processors ∙ c.ticks.invariant.processors;
       over = tick.over;
     }
