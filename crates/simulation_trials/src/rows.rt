@@ -1,6 +1,6 @@
 //! What is simulated, and what came of it.
 
-use crate::building::{Given, core_of};
+use crate::building::{Given, ready_of};
 use crate::troubles::Trouble;
 use flux_simulate::{Simulated, simulate};
 use flux_values::List;
@@ -50,20 +50,13 @@ fn given(alloc: Global, flows: u32) -> Result<List<Given>, Trouble> {
     Ok(all)
 }
 
-/// A cost for each node: those that are given, and 1 for all others.
-fn all_costs(alloc: Global, nodes: usize, costs: &[u32]) -> Result<List<u32>, Trouble> {
-    let mut all = List::new(alloc);
-    for node in 0..nodes {
-        all.add(costs.get(node).copied().unwrap_or(1))?;
-    }
-    Ok(all)
-}
-
 pub fn simulated(alloc: Global, row: &Row) -> Result<Simulated<Counter>, Trouble> {
+    if row.processors < 1 || row.processors > 64 {
+        return Err(Trouble::Words);
+    }
     let given = given(alloc, row.flows)?;
-    let core = core_of(alloc, row.text, given.as_slice(), Counter)?;
-    let costs = all_costs(alloc, 16, row.costs)?;
-    match simulate(core, &costs, row.processors) {
+    let ready = ready_of(alloc, row.text, given.as_slice(), row.costs, Counter)?;
+    match simulate(ready.core, &ready.costs, row.processors) {
         Ok(done) => Ok(done),
         Err(_) => Err(Trouble::Memory),
     }
