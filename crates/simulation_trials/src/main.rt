@@ -30,7 +30,9 @@ fn tell(rt: &HostRuntime, name: &str, row: &Row) -> Result<(), Trouble> {
         calls,
         costs,
     } = sums;
-    let idle = u64::from(row.processors) * ticks - costs;
+    let idle = u64::from(row.processors)
+        .saturating_mul(ticks)
+        .saturating_sub(costs);
     println!(rt; "{name}: ticks {ticks} calls {calls} idle {idle}")?;
     Ok(())
 }

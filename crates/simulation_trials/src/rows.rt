@@ -64,9 +64,9 @@ pub fn simulated(alloc: Global, row: &Row) -> Result<Simulated<Counter>, Trouble
 
 pub fn sums_of(alloc: Global, row: &Row) -> Result<Sums, Trouble> {
     let done = simulated(alloc, row)?;
-    let mut costs = 0;
+    let mut costs: u64 = 0;
     for run in &done.runs {
-        costs += run.stop - run.start;
+        costs = costs.saturating_add(run.stop.saturating_sub(run.start));
     }
     Ok(Sums {
         ticks: done.ticks,
