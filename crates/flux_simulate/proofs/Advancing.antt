@@ -1,16 +1,15 @@
 -- Time passes to the tick at which a run stops first.
-use Rattle.std.proofs.Common.{◌≡◌, ◌<◌, ◌≤◌, ◌+◌, ◌-◌, ◌⊎◌, inl, inr, ℕ, List, [], ◌∷◌, ◌++◌, length, sym, ap, subst, arith}
+use Rattle.std.proofs.Common.{◌≡◌, ◌<◌, ◌≤◌, ◌+◌, ◌-◌, ◌⊎◌, inl, inr, ℕ, List, ◌∷◌, ◌++◌, sym, ap, subst, arith}
 use Rattle.std.specs.List.{AllByRecursion, sum_by}
 use Rattle.std.proofs.lemmas.Bool.{cases_lt}
 use Rattle.std.proofs.lemmas.List.Sums.{sum_by-le-sum_by}
 use Rattle.flux_values.specs.Meanings.{LibraryMeaning}
-use Rattle.flow_model.specs.declared.journals.Entry.{Entry}
 use Rattle.flow_model.specs.Setup.{Setup}
 use Rattle.flow_model.specs.Events.{IsLive}
 use Rattle.flow_core.specs.States.{CoreState, setup_in, IsKept}
 use Rattle.flux_simulate.specs.declared.runs.Run.{Run}
 use Rattle.flux_simulate.specs.declared.clock.Clock.{Clock}
-use Rattle.flux_simulate.specs.Ticks.{Timed, timed, until, at_tick}
+use Rattle.flux_simulate.specs.Ticks.{Timed, timed, until}
 use Rattle.flux_simulate.specs.Runs.{running_at}
 use Rattle.flux_simulate.specs.Rule.{IsSettled}
 use Rattle.flux_simulate.specs.steps.Changes.{StopsNoLater}

@@ -1,6 +1,6 @@
 -- The lowest flow whose call waits begins it on a free processor.
-use Rattle.std.proofs.Common.{◌≡◌, ◌<◌, ◌≤◌, ◌+◌, ◌-◌, ◌⊎◌, inl, inr, ℕ, Bool, true, false, eqb, leb, ◌||◌, ◌&&◌, List, [], ◌∷◌, ◌++◌, length, Option, Some, None, length-append, refl, sym, ap, subst, ◌∙◌, arith}
-use Rattle.std.specs.List.{AllByRecursion, sum_by}
+use Rattle.std.proofs.Common.{◌≡◌, ◌<◌, ◌+◌, ◌-◌, ◌⊎◌, inl, inr, ℕ, Bool, true, false, eqb, leb, ◌||◌, ◌&&◌, List, [], ◌∷◌, ◌++◌, length, Option, length-append, refl, sym, ap, subst, ◌∙◌, arith}
+use Rattle.std.specs.List.{AllByRecursion}
 use Rattle.std.specs.Option.{is_some}
 use Rattle.std.proofs.lemmas.Bool.{cases_eq, cases_Bool, eqb-true, eq-eqb, ne_eqb, lt-leb, and_right, or_left, false≢true}
 use Rattle.std.proofs.lemmas.List.Sums.{sum_by_push}
@@ -18,8 +18,8 @@ use Rattle.flux_simulate.specs.Ticks.{timed}
 use Rattle.flux_simulate.specs.Runs.{starting_from}
 use Rattle.flux_simulate.specs.steps.Changes.{TakesLowest}
 use Rattle.flux_simulate.specs.steps.Calls.{IsRunOf}
-use Rattle.flux_simulate.specs.steps.Ticking.{IsOn, Lasts, AllLast, one_if, runs_of, IsOfNode, RunOrWait, Ticks, GoBeyond, Begins, Rests}
-use Rattle.flux_simulate.proofs.Tallies.{count_one, runs-behind, own-one, other-none}
+use Rattle.flux_simulate.specs.steps.Ticking.{IsOn, Lasts, AllLast, one_if, runs_of, IsOfNode, RunOrWait, Ticks, Begins}
+use Rattle.flux_simulate.proofs.Tallies.{count_one, runs-behind}
 use Rattle.flux_simulate.proofs.Pasts.{alike-begun, past-alike}
 
 -- numbers above a flow don't have it

@@ -1,25 +1,22 @@
 -- How large a tick can be: no larger than all work that is done.
-use Rattle.std.proofs.Common.{◌≡◌, ◌<◌, ◌≤◌, ◌+◌, ◌-◌, ◌*◌, ℕ, zero, suc, List, [], ◌∷◌, ◌++◌, map, length, Option, Some, None, length-append, refl, sym, ap, ◌∙◌, arith}
-use Rattle.std.specs.List.{AllByRecursion, sum_by, slice_get, slice_index, flat_map}
+use Rattle.std.proofs.Common.{◌≡◌, ◌<◌, ◌≤◌, ◌+◌, ◌-◌, ℕ, zero, suc, List, [], ◌∷◌, length, Option, Some, length-append, refl, ap, arith}
+use Rattle.std.specs.List.{AllByRecursion, sum_by, slice_get, slice_index}
 use Rattle.std.proofs.lemmas.List.{length-map}
 use Rattle.std.proofs.lemmas.List.Sums.{sum_by-cons}
 use Rattle.flux_values.specs.Meanings.{LibraryMeaning}
-use Rattle.flux_model.specs.declared.programs.NodeNo.{NodeNo}
-use Rattle.flux_model.specs.declared.programs.Program.{Program}
 use Rattle.flux_model.specs.declared.items.FlowNo.{FlowNo}
 use Rattle.flux_model.specs.declared.items.Item.{Item}
 use Rattle.flow_model.specs.declared.journals.Entry.{Entry}
 use Rattle.flow_model.specs.declared.journals.Event.{Event}
 use Rattle.flow_model.specs.declared.journals.Event.TheVariants.{Take, Wait, Enter, Choose, Call, Exit, Drop, End}
-use Rattle.flow_model.specs.Setup.{Setup}
 use Rattle.flux_laws.specs.Growth.{item_size, flow_size, sum_below}
 use Rattle.flow_core.specs.States.{CoreState, setup_in, IsKept}
-use Rattle.flow_waits.proofs.Counting.{most_entries, few-entries}
+use Rattle.flow_waits.proofs.Counting.{few-entries}
 use Rattle.flux_simulate.specs.declared.runs.Run.{Run}
 use Rattle.flux_simulate.specs.declared.clock.Clock.{Clock}
-use Rattle.flux_simulate.specs.Costs.{cost_of, AreCosts}
-use Rattle.flux_simulate.specs.Ticks.{Timed, timed}
-use Rattle.flux_simulate.specs.Runs.{CallEnd, end_of, ends_by, ends_in, sum_of_costs}
+use Rattle.flux_simulate.specs.Costs.{cost_of}
+use Rattle.flux_simulate.specs.Ticks.{timed}
+use Rattle.flux_simulate.specs.Runs.{end_of, ends_by, ends_in, sum_of_costs}
 use Rattle.flux_simulate.specs.steps.Calls.{AreSmall}
 use Rattle.flux_simulate.specs.steps.Ticking.{IsOn, Lasts, AllLast, Ticks}
 use Rattle.flux_simulate.proofs.Tallies.{all-map, all-both, sum-same, sum-most}

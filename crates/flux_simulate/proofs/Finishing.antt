@@ -1,5 +1,5 @@
 -- A call is finished, of the lowest flow of those whose runs stop at the tick.
-use Rattle.std.proofs.Common.{◌≡◌, ◌<◌, ◌≤◌, ◌+◌, ◌-◌, ◌⊎◌, inl, inr, ℕ, true, false, cond, eqb, List, [], ◌∷◌, ◌++◌, map, length, Option, Some, None, length-append, refl, sym, ap, subst, ◌∙◌, arith}
+use Rattle.std.proofs.Common.{◌≡◌, ◌<◌, ◌≤◌, ◌+◌, ◌-◌, ◌⊎◌, inl, inr, ℕ, eqb, List, [], ◌∷◌, ◌++◌, map, length, Option, Some, None, length-append, refl, sym, ap, subst, ◌∙◌, arith}
 use Rattle.std.specs.List.{AllByRecursion, sum_by, slice_get, slice_set}
 use Rattle.std.specs.Option.{is_some, option_flatten}
 use Rattle.std.proofs.lemmas.Bool.{cases_eq, cases_lt}
@@ -14,13 +14,13 @@ use Rattle.flux_laws.proofs.Members.{all-more}
 use Rattle.flow_state.specs.declared.inputs.Inputs.{Inputs}
 use Rattle.flow_state.proofs.Sets.{get-replaced, get-replaced_other}
 use Rattle.flow_core.specs.States.{CoreState, setup_in, begun_by}
-use Rattle.flow_core.specs.Moves.{with_entry, with_begun, FinishesCall}
+use Rattle.flow_core.specs.Moves.{with_entry, with_begun}
 use Rattle.flow_waits.specs.steps.Waking.{has}
 use Rattle.flux_simulate.specs.declared.runs.Run.{Run}
 use Rattle.flux_simulate.specs.declared.clock.Clock.{Clock}
 use Rattle.flux_simulate.specs.Ticks.{Timed, timed, until, at_tick}
 use Rattle.flux_simulate.specs.Runs.{CallEnd, end_of, ends_in}
-use Rattle.flux_simulate.specs.Rule.{IsCallBelow, IsCallsTurn}
+use Rattle.flux_simulate.specs.Rule.{IsCallBelow}
 use Rattle.flux_simulate.specs.steps.Changes.{StopsNoLater}
 use Rattle.flux_simulate.specs.steps.Calls.{EndsBegun}
 use Rattle.flux_simulate.specs.steps.Ticking.{IsTimed, IsOver, IsOn, AreRuns, ArePast, Lasts, AllLast, one_if, runs_of, IsOfNode, RunOrWait, Ticks, IsCallUnder, Finishes}

@@ -1,6 +1,6 @@
 -- The lowest flow that can go on makes its next event, or begins its call, which then waits.
-use Rattle.std.proofs.Common.{◌≡◌, ◌<◌, ◌≤◌, ◌+◌, ◌⊎◌, inl, inr, ℕ, zero, suc, Bool, true, false, cond, eqb, ◌||◌, List, [], ◌∷◌, ◌++◌, map, length, Option, Some, None, length-append, append_assoc, refl, sym, ap, subst, ◌∙◌, arith}
-use Rattle.std.specs.List.{AllByRecursion, sum_by, count_by, slice_get, slice_set}
+use Rattle.std.proofs.Common.{◌≡◌, ◌<◌, ◌≤◌, ◌+◌, ◌⊎◌, inl, inr, ℕ, zero, suc, Bool, ◌||◌, List, [], ◌∷◌, ◌++◌, length, Option, Some, None, length-append, refl, sym, ap, subst, ◌∙◌, arith}
+use Rattle.std.specs.List.{AllByRecursion, sum_by, slice_get, slice_set}
 use Rattle.std.specs.Option.{is_some, option_flatten}
 use Rattle.std.proofs.lemmas.Bool.{cases_eq, cases_lt, eq-eqb, ne_eqb}
 use Rattle.std.proofs.lemmas.List.{append-nil}
@@ -9,13 +9,8 @@ use Rattle.flux_values.specs.Meanings.{LibraryMeaning}
 use Rattle.flux_model.specs.declared.items.FlowNo.{FlowNo}
 use Rattle.flow_model.specs.declared.journals.Entry.{Entry}
 use Rattle.flow_model.specs.declared.journals.Event.{Event}
-use Rattle.flow_model.specs.declared.journals.Event.TheVariants.{Wait}
-use Rattle.flow_model.specs.declared.journals.Key.{Key}
 use Rattle.flow_model.specs.Setup.{Setup}
 use Rattle.flow_model.specs.Events.{IsNext}
-use Rattle.flow_model.specs.Legal.{IsLegal}
-use Rattle.flux_values.specs.declared.answers.Mode.{Mode}
-use Rattle.flux_laws.specs.Going.{IsAtCall}
 use Rattle.flux_laws.specs.Growth.{IsNoWait}
 use Rattle.flux_laws.proofs.Members.{get-within}
 use Rattle.flow_state.specs.declared.inputs.Inputs.{Inputs}
@@ -23,17 +18,16 @@ use Rattle.flow_state.proofs.Sets.{get-replaced, get-replaced_other}
 use Rattle.flow_state.proofs.Tables.{not-both}
 use Rattle.flow_core.specs.States.{CoreState, setup_in, begun_by, IsKept}
 use Rattle.flow_core.specs.Moves.{with_entry, with_begun, MakesEvent, BeginsCall}
-use Rattle.flow_waits.specs.Idle.{IsIdle, IsFirstIdle}
+use Rattle.flow_waits.specs.Idle.{IsFirstIdle}
 use Rattle.flow_waits.specs.Turns.{IsPassing}
 use Rattle.flow_waits.specs.steps.Waking.{has, IsMore}
 use Rattle.flow_waits.proofs.Orders.{before-from_zero}
 use Rattle.flow_waits.proofs.Turning.{passing}
-use Rattle.flux_simulate.specs.declared.runs.Run.{Run}
 use Rattle.flux_simulate.specs.declared.clock.Clock.{Clock}
 use Rattle.flux_simulate.specs.Ticks.{Timed, timed, until}
-use Rattle.flux_simulate.specs.Runs.{CallEnd, end_of, ends_in}
+use Rattle.flux_simulate.specs.Runs.{CallEnd, ends_in}
 use Rattle.flux_simulate.specs.Rule.{GoesAlone, IsLowestAlone}
-use Rattle.flux_simulate.specs.steps.Calls.{begun_count, HasStarted}
+use Rattle.flux_simulate.specs.steps.Calls.{HasStarted}
 use Rattle.flux_simulate.specs.steps.Ticking.{AreRuns, ArePast, one_if, runs_of, IsOfNode, RunOrWait, Ticks, Goes}
 use Rattle.flux_simulate.proofs.Journals.{timed-more, entries-of, until-later, ends-more, no-ends}
 use Rattle.flux_simulate.proofs.Tallies.{count_one, all-both, runs-apart}

@@ -1,5 +1,5 @@
 -- What is kept before anything is done, and when all stand still.
-use Rattle.std.proofs.Common.{◌≡◌, ◌<◌, ◌≤◌, ℕ, false, eqb, leb, ◌&&◌, List, [], length, Option, None, refl, sym, ap, subst, arith}
+use Rattle.std.proofs.Common.{◌≡◌, ◌<◌, ℕ, false, eqb, leb, ◌&&◌, List, [], length, Option, None, refl, sym, ap, subst, arith}
 use Rattle.std.specs.List.{AllByRecursion}
 use Rattle.std.specs.Option.{is_some}
 use Rattle.std.proofs.lemmas.Bool.{ne_eqb, and_left}
@@ -10,7 +10,6 @@ use Rattle.flow_state.specs.declared.inputs.Inputs.{Inputs}
 use Rattle.flow_core.specs.States.{CoreState, setup_in, begun_by}
 use Rattle.flux_simulate.specs.declared.runs.Run.{Run}
 use Rattle.flux_simulate.specs.declared.clock.Clock.{Clock}
-use Rattle.flux_simulate.specs.steps.Calls.{AreSmall}
 use Rattle.flux_simulate.specs.steps.Ticking.{one_if, Lasts, AllLast, AllStandStill, Goes, Begins}
 use Rattle.flux_simulate.proofs.Journals.{turns-none}
 use Rattle.flux_simulate.proofs.Tallies.{all-map, count-none}

@@ -1,10 +1,10 @@
 -- The run that stops first, by its place in a list.
-use Rattle.std.proofs.Common.{◌≡◌, ◌<◌, ◌≤◌, ◌⊎◌, inl, inr, ℕ, zero, suc, List, [], ◌∷◌, ◌++◌, length, take, drop, get_or, refl, sym, ap, subst, ◌∙◌, arith}
-use Rattle.std.specs.List.{AllByRecursion, remove}
+use Rattle.std.proofs.Common.{◌≡◌, ◌<◌, ◌≤◌, ◌⊎◌, inl, inr, ℕ, zero, suc, List, [], ◌∷◌, ◌++◌, length, get_or, refl, sym, ap, subst, ◌∙◌, arith}
+use Rattle.std.specs.List.{remove}
 use Rattle.std.proofs.lemmas.Bool.{cases_lt}
 use Rattle.std.proofs.lemmas.List.Elements.{recursion_from_All}
 use Rattle.flux_simulate.specs.declared.runs.Run.{Run}
-use Rattle.flux_simulate.specs.steps.Changes.{StopsBefore, StopsNoLater, IsFirstOf, IsOut, TakesNext}
+use Rattle.flux_simulate.specs.steps.Changes.{StopsBefore, StopsNoLater, IsFirstOf, TakesNext}
 
 -- a run stops no later than itself, and than what stops no later than it
 pub no_later-itself : (run : Run) → StopsNoLater run run

@@ -1,6 +1,6 @@
 -- When all of a tick is done, each live flow is blocked, or its call runs, or waits for a processor.
-use Rattle.std.proofs.Common.{◌≡◌, ◌<◌, ◌≤◌, ◌+◌, ◌⊎◌, inl, inr, ℕ, Bool, true, false, eqb, leb, ◌&&◌, List, [], ◌∷◌, ◌++◌, length, Option, Some, None, refl, sym, ap, subst, ◌∙◌, arith}
-use Rattle.std.specs.List.{AllByRecursion, sum_by}
+use Rattle.std.proofs.Common.{◌≡◌, ◌<◌, ◌≤◌, ◌+◌, ◌⊎◌, inl, inr, ℕ, Bool, true, false, eqb, leb, ◌&&◌, List, ◌++◌, length, Option, Some, None, refl, sym, ap, subst, ◌∙◌, arith}
+use Rattle.std.specs.List.{AllByRecursion}
 use Rattle.std.specs.Option.{is_some}
 use Rattle.std.proofs.lemmas.Bool.{cases_eq, ne_eqb, and_left}
 use Rattle.std.proofs.lemmas.List.Sums.{sum_by-append}
@@ -14,9 +14,9 @@ use Rattle.flow_core.specs.States.{CoreState, setup_in, begun_by, IsKept}
 use Rattle.flow_waits.specs.steps.Waking.{has}
 use Rattle.flux_simulate.specs.declared.runs.Run.{Run}
 use Rattle.flux_simulate.specs.declared.clock.Clock.{Clock}
-use Rattle.flux_simulate.specs.Ticks.{Timed, timed, until}
+use Rattle.flux_simulate.specs.Ticks.{timed, until}
 use Rattle.flux_simulate.specs.Runs.{covers, running_at, running_of, starting_from}
-use Rattle.flux_simulate.specs.Rule.{IsPassedOver, IsSettled}
+use Rattle.flux_simulate.specs.Rule.{IsSettled}
 use Rattle.flux_simulate.specs.steps.Ticking.{IsOn, one_if, runs_of, Rests}
 use Rattle.flux_simulate.proofs.Journals.{until-all}
 use Rattle.flux_simulate.proofs.Tallies.{count_one, all-map, all-both, count-none, covers-on, ended-at, ended-of, ended-from, on-at, on-of}

@@ -9,12 +9,12 @@ use Rattle.flow_state.specs.declared.inputs.Inputs.{Inputs}
 use Rattle.flow_core.specs.States.{CoreState, begun_by, IsKept}
 use Rattle.flux_simulate.specs.declared.runs.Run.{Run}
 use Rattle.flux_simulate.specs.declared.clock.Clock.{Clock}
-use Rattle.flux_simulate.specs.steps.Changes.{IsOut, TakesNext}
+use Rattle.flux_simulate.specs.steps.Changes.{TakesNext}
 use Rattle.flux_simulate.specs.steps.Calls.{EndsBegun}
-use Rattle.flux_simulate.specs.steps.Ticking.{IsOn, AllLast, IsOfNode, RunOrWait, Ticks, Finishes, Rests}
+use Rattle.flux_simulate.specs.steps.Ticking.{IsOn, AllLast, IsOfNode, RunOrWait, Finishes, Rests}
 use Rattle.flux_simulate.proofs.Tallies.{all-taken}
 use Rattle.flux_simulate.proofs.Finishing.{finished-call, finished-last}
-use Rattle.flux_simulate.proofs.Advancing.{at_stop, advanced, advanced-last}
+use Rattle.flux_simulate.proofs.Advancing.{advanced}
 
 -- a begun call is that of a flow that is there
 begun-there : (calls : List (Option Inputs)) (flow : ℕ) → is_some (option_flatten (slice_get calls flow)) ≡ true

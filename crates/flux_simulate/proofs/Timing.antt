@@ -1,5 +1,5 @@
 -- A journal with ticks is kept, with one entry more at the tick.
-use Rattle.std.proofs.Common.{◌≡◌, ◌<◌, ◌≤◌, ◌+◌, ◌-◌, ℕ, List, [], ◌∷◌, ◌++◌, length, length-append, sym, subst, arith}
+use Rattle.std.proofs.Common.{◌≤◌, ◌-◌, ℕ, List, [], ◌∷◌, ◌++◌, length, length-append, sym, subst, arith}
 use Rattle.std.specs.List.{AllByRecursion}
 use Rattle.std.specs.List.Sorted.{IsNonDecreasing}
 use Rattle.std.proofs.lemmas.List.Elements.{All-from_recursion}
@@ -10,7 +10,7 @@ use Rattle.flow_model.specs.declared.journals.Event.{Event}
 use Rattle.flow_model.specs.Setup.{Setup}
 use Rattle.flux_laws.specs.Growth.{IsNoWait}
 use Rattle.flux_laws.proofs.Members.{all-more}
-use Rattle.flux_simulate.specs.Ticks.{Timed, timed}
+use Rattle.flux_simulate.specs.Ticks.{timed}
 use Rattle.flux_simulate.specs.Rule.{IsTurnAt, ComeInTurn}
 use Rattle.flux_simulate.specs.steps.Ticking.{IsTimed}
 use Rattle.flux_simulate.proofs.Journals.{timed-more, turns-more}

@@ -1,6 +1,5 @@
-use Rattle.std.proofs.Common.{ℕ, List, subst, sym, ◌∙◌, ap}
+use Rattle.std.proofs.Common.{subst, sym, ◌∙◌}
 use Rattle.std.specs.List.{AllByRecursion}
-use Rattle.flux_simulate.specs.declared.runs.Run.{Run}
 use Rattle.flux_simulate.specs.declared.clock.Clock.{Clock}
 use Rattle.flux_simulate.specs.steps.Ticking.{AllLast, Lasts, Finishes}
 use Rattle.flux_simulate.proofs.Further.{further-then}

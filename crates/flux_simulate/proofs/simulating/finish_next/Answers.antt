@@ -1,4 +1,4 @@
-use Rattle.std.proofs.Common.{ℕ, List, subst, sym}
+use Rattle.std.proofs.Common.{subst, sym}
 use Rattle.flux_simulate.specs.declared.clock.Clock.{Clock}
 use Rattle.flux_simulate.specs.steps.Ticking.{AllLast, Finishes}
 use Rattle.flux_simulate.proofs.Stopping.{flow-within, arrived-stopped, arrived-last}

@@ -1,4 +1,4 @@
-use Rattle.std.proofs.Common.{subst, sym, ◌∙◌, arith}
+use Rattle.std.proofs.Common.{subst, sym, arith}
 use Rattle.std.proofs.lemmas.Bool.{false≢true}
 use Rattle.flux_simulate.specs.steps.Calls.{AreSmall}
 use Rattle.flux_simulate.specs.steps.Ticking.{IsFurtherTick}
