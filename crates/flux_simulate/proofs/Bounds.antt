@@ -105,15 +105,28 @@ module _ {L : Type 0} (meaning : L → LibraryMeaning) (core : CoreState L) (clo
       let all = few in
       omega (arith, calls, same, most, all)
 
+  took-few : sum_by (λ (run : Run). run.stop - run.start) clock.ended ≤ 1000 * length clock.ended
+  took-few =
+      let all = small.costs_ in
+      sum-most (λ (run : Run). run.stop - run.start) 1000 clock.ended
+      (all-map (Lasts costs) (λ run. run.stop - run.start ≤ 1000)
+      (λ run lasts. let node = run.node in let most = cost-most costs node.0 all.within in omega (arith, lasts, most))
+      clock.ended last.ended)
+
+  -- so is what all calls cost
+  pub costs-small : sum_of_costs costs clock.ended < 9000000000
+  costs-small =
+      let cost = took-cost costs clock.ended last.ended in
+      let took = took-few in
+      let many = ended-few in
+      omega (arith, cost, took, many)
+
   pub tick-small : clock.tick < 9000000000
   tick-small =
       let runs = ticks.runs in
       let busy = runs.busy in
       let all = small.costs_ in
-      let ended = sum-most (λ (run : Run). run.stop - run.start) 1000 clock.ended
-      (all-map (Lasts costs) (λ run. run.stop - run.start ≤ 1000)
-      (λ run lasts. let node = run.node in let most = cost-most costs node.0 all.within in omega (arith, lasts, most))
-      clock.ended last.ended) in
+      let ended = took-few in
       let running = sum-most (λ (run : Run). clock.tick - run.start) 1000 clock.running
       (all-both (Lasts costs) (IsOn clock.tick) (λ run. clock.tick - run.start ≤ 1000)
       (λ run lasts is. let node = run.node in let most = cost-most costs node.0 all.within in let on = is.on in

@@ -1,5 +1,5 @@
 -- What is handed back when all flows have ended.
-use Rattle.std.proofs.Common.{◌≡◌, ◌≤◌, ℕ, List, [], sym, subst, arith}
+use Rattle.std.proofs.Common.{◌≡◌, ◌<◌, ◌≤◌, ℕ, List, [], sym, subst, arith}
 use Rattle.flux_values.specs.Meanings.{LibraryMeaning}
 use Rattle.flow_model.specs.declared.journals.Entry.{Entry}
 use Rattle.flow_model.specs.Setup.{Setup}
@@ -11,9 +11,11 @@ use Rattle.flux_simulate.specs.Ticks.{timed, last_tick}
 use Rattle.flux_simulate.specs.Runs.{NeverMoreRuns, IsOneRunACall, sum_of_costs}
 use Rattle.flux_simulate.specs.Rule.{IsByTheRule}
 use Rattle.flux_simulate.specs.Idle.{NeverIdleForNothing}
+use Rattle.flux_simulate.specs.steps.Calls.{AreSmall}
 use Rattle.flux_simulate.specs.steps.Ticking.{AllLast, Rests, GoesFurther}
 use Rattle.flux_simulate.proofs.Closing.{whole, one-run, by-the-rule, never-more, never-idle, bounded}
-use Rattle.flux_simulate.proofs.Further.{further-setup}
+use Rattle.flux_simulate.proofs.Further.{further-setup, further-small}
+use Rattle.flux_simulate.proofs.Bounds.{costs-small}
 
 module _ {L : Type 0} (meaning : L → LibraryMeaning) (start core done : CoreState L) (clock : Clock)
     (kept : IsKept meaning core) (rests : Rests meaning core clock) (over : clock.running ≡ []) (costs : List ℕ)
@@ -53,6 +55,15 @@ module _ {L : Type 0} (meaning : L → LibraryMeaning) (start core done : CoreSt
   pub done-bound : ticks ≤ sum_of_costs costs runs
   done-bound = put (λ s p es a r t. t ≤ sum_of_costs costs r)
       (bounded meaning core clock kept rests over enough costs last)
+
+  -- sums of what calls cost stay small
+  pub done-small : AreSmall meaning start costs processors → sum_of_costs costs runs < 9000000000
+  done-small small =
+      let begins = rests.begins in
+      put (λ s p es a r t. sum_of_costs costs r < 9000000000)
+      (costs-small meaning core clock costs kept
+      (subst (AreSmall meaning core costs) (sym same)
+      (further-small meaning start core costs processors further small)) begins.ticks last)
 
   pub done-end : GoesToEnd meaning start done
   done-end = subst (λ (c : CoreState L). GoesToEnd meaning start c) (sym core_is) (record {

@@ -45,6 +45,8 @@ pub fn simulate<L: Library>(
     ensures busy { IfOk result (λ done. NeverIdleForNothing (setup_in L.meaning core) processors
         (timed done.at done.core.entries) done.runs done.ticks) }
     ensures bound { IfOk result (λ done. done.ticks ≤ sum_of_costs costs.now done.runs) }
+    // The numbers stay small, so sums of them fit.
+    ensures small { IfOk result (λ done. sum_of_costs costs.now done.runs < 9000000000) }
     ensures err { IfErr result (λ stopped. GoesOnLegally L.meaning core stopped.core) }
 {
     let mut core = core;

@@ -3,7 +3,7 @@ use Rattle.flux_simulate.specs.declared.clock.Clock.{Clock}
 use Rattle.flux_simulate.specs.steps.Calls.{AreSmall}
 use Rattle.flux_simulate.specs.steps.Ticking.{AllLast, Goes}
 use Rattle.flux_simulate.proofs.Opening.{opening-goes, opening-last}
-use Rattle.flux_simulate.proofs.Handing.{done-rule, done-runs, done-few, done-busy, done-bound, done-end}
+use Rattle.flux_simulate.proofs.Handing.{done-rule, done-runs, done-few, done-busy, done-bound, done-small, done-end}
 use Rattle.flux_simulate.proofs.simulating.simulate.Goals as goal
 
 pub all_ticks-requires-clause-goes : goal.all_ticks-requires-clause-goes
@@ -75,6 +75,16 @@ returns-in-Ok-clause-bound g c =
     c.requires.some c.in-Ok.ensures.last c.all_ticks.ensures.further c.simulated.result.at c.simulated.result.runs
     c.simulated.result.ticks c.simulated.ensures.core c.simulated.ensures.at c.simulated.ensures.runs
     c.simulated.ensures.ticks
+
+pub returns-in-Ok-clause-small : goal.returns-in-Ok-clause-small
+returns-in-Ok-clause-small g c =
+    done-small g.L.Meaning.meaning c.args.core c.all_ticks.new.core c.simulated.result.core c.all_ticks.new.clock
+    c.all_ticks.ensures.kept c.in-Ok.ensures.rests c.in-Ok.ensures.over c.args.costs.now c.args.processors
+    (c.all_ticks.ensures.processors ∙ ap (λ (clock : Clock). clock.processors) c.new-clock.ensures)
+    c.requires.some c.in-Ok.ensures.last c.all_ticks.ensures.further c.simulated.result.at c.simulated.result.runs
+    c.simulated.result.ticks c.simulated.ensures.core c.simulated.ensures.at c.simulated.ensures.runs
+    c.simulated.ensures.ticks
+    (record { costs_ = c.requires.costs; sizes = c.requires.sizes; processors_ = c.requires.most })
 
 pub returns-in-Err-clause-err : goal.returns-in-Err-clause-err
 returns-in-Err-clause-err g c =
