@@ -1,0 +1,312 @@
+//! The simulation, tick by tick.
+
+ghost use Rattle.std.specs.Prelude.{◌≡◌, ◌<◌, ◌≤◌, ℕ, List, [], length, None, Some, IsSome, IfOk, IfErr, OnOk};
+ghost use Rattle.std.specs.List.{sum_by};
+ghost use Rattle.flux_laws.specs.Growth.{item_size};
+ghost use Rattle.flow_core.specs.States.{setup_in, begun_by, IsKept};
+ghost use Rattle.flow_core.specs.Runs.{GoesToEnd, GoesOnLegally};
+ghost use Rattle.flow_waits.specs.Idle.{IsFirstIdle};
+ghost use Rattle.flow_waits.specs.Driven.{IsJobOf};
+ghost use Rattle.flux_simulate.specs.Costs.{AreCosts};
+ghost use Rattle.flux_simulate.specs.Ticks.{timed, last_tick};
+ghost use Rattle.flux_simulate.specs.Runs.{IsOneRunACall, NeverMoreRuns, sum_of_costs};
+ghost use Rattle.flux_simulate.specs.Rule.{IsByTheRule};
+ghost use Rattle.flux_simulate.specs.Idle.{NeverIdleForNothing};
+ghost use Rattle.flux_simulate.specs.steps.Ticking.{AllLast, AllStandStill, Finishes, Goes, Begins, Rests, IsFurtherTick, IsNextTick, GoesFurther};
+ghost use Rattle.flux_simulate.specs.steps.Calls.{IsRunOf, EndsBegun, HasStarted, AreSmall};
+
+use crate::clock::Clock;
+use crate::finding::first_idle;
+use crate::runs::{Run, Simulated};
+use flow_core::{Core, Job, Step, Stopped};
+use flux_library::Library;
+use flux_model::FlowNo;
+use flux_values::{List, Memory};
+
+/// Lets a core's flows run on so many processors, where a call of a node takes so many ticks as the node costs.
+pub fn simulate<L: Library>(
+    core: Core<L>,
+    costs: &List<u32>,
+    processors: u32,
+) -> Result<Simulated<L>, Stopped<L>>
+    requires entries { core.entries ≡ [] }
+    requires idle { (flow : ℕ) → begun_by core flow ≡ None }
+    requires costs { AreCosts core.setup.program costs.now }
+    requires some { 1 ≤ processors }
+    requires most { processors ≤ 64 }
+    requires sizes { sum_by (λ item. item_size (setup_in L.meaning core) (Some item)) core.setup.items
+        ≤ 4194304 }
+    ensures rule { IfOk result (λ done. IsByTheRule (setup_in L.meaning core) costs.now processors
+        done.core.entries done.at done.runs done.ticks) }
+    ensures end { IfOk result (λ done. GoesToEnd L.meaning core done.core) }
+    ensures runs { IfOk result (λ done. IsOneRunACall costs.now (timed done.at done.core.entries)
+        done.runs) }
+    ensures few { IfOk result (λ done. NeverMoreRuns processors done.runs) }
+    ensures busy { IfOk result (λ done. NeverIdleForNothing (setup_in L.meaning core) processors
+        (timed done.at done.core.entries) done.runs done.ticks) }
+    ensures bound { IfOk result (λ done. done.ticks ≤ sum_of_costs costs.now done.runs) }
+    // The numbers stay small, so sums of them fit.
+    ensures small { IfOk result (λ done. sum_of_costs costs.now done.runs < 9000000000) }
+    ensures err { IfErr result (λ stopped. GoesOnLegally L.meaning core stopped.core) }
+{
+    let mut core = core;
+    let mut clock = Clock::new(core.alloc(), processors);
+    match all_ticks(&mut core, costs, &mut clock) {
+        Ok(()) => Ok(simulated(core, clock)),
+        Err(Memory) => Err(Stopped { core }),
+    }
+}
+
+/// What was noted, with the last tick.
+fn simulated<L: Library>(core: Core<L>, clock: Clock) -> Simulated<L>
+    ensures core { result.core ≡ core }
+    ensures at { result.at ≡ clock.at }
+    ensures runs { result.runs ≡ clock.ended }
+    ensures ticks { result.ticks ≡ last_tick clock.at }
+{
+    let ticks = clock.at.last().copied().unwrap_or(0);
+    Simulated {
+        core,
+        at: clock.at,
+        runs: clock.ended,
+        ticks,
+    }
+}
+
+/// From the first tick to the last. The journal is legal, also where memory is short.
+fn all_ticks<L: Library>(
+    core: &mut Core<L>,
+    costs: &List<u32>,
+    clock: &mut Clock,
+) -> Result<(), Memory>
+    requires goes { Goes L.meaning core.old clock.old }
+    requires last { AllLast costs.now clock.old }
+    requires small { AreSmall L.meaning core.old costs.now clock.old.processors }
+    ensures rests { OnOk result (Rests L.meaning core.new clock.new) }
+    ensures over { OnOk result (clock.new.running ≡ []) }
+    ensures last { OnOk result (AllLast costs.now clock.new) }
+    ensures kept { IsKept L.meaning core.new }
+    ensures further { GoesFurther core.old core.new }
+    ensures processors { clock.new.processors ≡ clock.old.processors }
+{
+    let done = tick_by_tick(core, costs, clock);
+    // Asked for what it promises: that the journal is legal.
+    let _journal = core.journal();
+    done
+}
+
+/// One tick after another, as long as calls run.
+fn tick_by_tick<L: Library>(
+    core: &mut Core<L>,
+    costs: &List<u32>,
+    clock: &mut Clock,
+) -> Result<(), Memory>
+    requires goes { Goes L.meaning core.old clock.old }
+    requires last { AllLast costs.now clock.old }
+    requires small { AreSmall L.meaning core.old costs.now clock.old.processors }
+    ensures rests { OnOk result (Rests L.meaning core.new clock.new) }
+    ensures over { OnOk result (clock.new.running ≡ []) }
+    ensures last { OnOk result (AllLast costs.now clock.new) }
+    ensures further { GoesFurther core.old core.new }
+    ensures processors { clock.new.processors ≡ clock.old.processors }
+{
+    settle(core, costs, clock)?;
+    let mut more = true;
+    'ticks: while more {
+        more = next_tick(core, costs, clock)?;
+        // Asked for what it promises: that the journal is legal, so not too long.
+        let _journal = core.journal();
+    }
+    Ok(())
+}
+
+/// Goes on to the next tick and does all of it. There is none where no call runs.
+fn next_tick<L: Library>(
+    core: &mut Core<L>,
+    costs: &List<u32>,
+    clock: &mut Clock,
+) -> Result<bool, Memory>
+    requires rests { Rests L.meaning core.old clock.old }
+    requires last { AllLast costs.now clock.old }
+    requires small { AreSmall L.meaning core.old costs.now clock.old.processors }
+    ensures tick { IfOk result (IsNextTick L.meaning core.old core.new clock.new) }
+    ensures last { OnOk result (AllLast costs.now clock.new) }
+    ensures further { GoesFurther core.old core.new }
+    ensures processors { clock.new.processors ≡ clock.old.processors }
+{
+    let stopped = finish_next(core, clock)?;
+    if stopped {
+        settle(core, costs, clock)?;
+        return Ok(true);
+    }
+    Ok(false)
+}
+
+/// Does all of a tick that comes after calls are finished.
+fn settle<L: Library>(
+    core: &mut Core<L>,
+    costs: &List<u32>,
+    clock: &mut Clock,
+) -> Result<(), Memory>
+    requires goes { Goes L.meaning core.old clock.old }
+    requires last { AllLast costs.now clock.old }
+    requires small { AreSmall L.meaning core.old costs.now clock.old.processors }
+    ensures rests { OnOk result (Rests L.meaning core.new clock.new) }
+    ensures last { OnOk result (AllLast costs.now clock.new) }
+    ensures further { GoesFurther core.old core.new }
+    ensures processors { clock.new.processors ≡ clock.old.processors }
+{
+    go_on(core, clock)?;
+    begin(core, costs, clock)
+}
+
+/// Lets the lowest flow that can go on without a call do so, again and again, until there is none.
+fn go_on<L: Library>(core: &mut Core<L>, clock: &mut Clock) -> Result<(), Memory>
+    requires { Goes L.meaning core.old clock.old }
+    ensures goes { OnOk result (Goes L.meaning core.new clock.new) }
+    ensures none { OnOk result (AllStandStill L.meaning core.new) }
+    ensures ended { clock.new.ended ≡ clock.old.ended }
+    ensures running { clock.new.running ≡ clock.old.running }
+    ensures processors { clock.new.processors ≡ clock.old.processors }
+    ensures further { GoesFurther core.old core.new }
+{
+    while let Some(flow) = first_idle(core) {
+        go_one(core, clock, flow)?;
+        // Asked for what it promises: that the journal is legal, so not too long.
+        let _journal = core.journal();
+    }
+    Ok(())
+}
+
+/// Lets a flow make its next event, or begin its call, which then waits.
+fn go_one<L: Library>(core: &mut Core<L>, clock: &mut Clock, flow: FlowNo) -> Result<(), Memory>
+    requires goes { Goes L.meaning core.old clock.old }
+    requires first { IsFirstIdle L.meaning core.old 0 flow }
+    ensures goes { OnOk result (Goes L.meaning core.new clock.new) }
+    ensures less { OnOk result (HasStarted core.old core.new) }
+    ensures ended { clock.new.ended ≡ clock.old.ended }
+    ensures running { clock.new.running ≡ clock.old.running }
+    ensures processors { clock.new.processors ≡ clock.old.processors }
+    ensures further { GoesFurther core.old core.new }
+{
+    // Asked for what it promises: that the journal is legal, and begun calls are next.
+    let _journal = core.journal();
+    match core.step(flow)? {
+        Step::Job(_) => clock.waiting.add(flow),
+        Step::Went => clock.note(),
+        Step::Ended => Ok(()),
+        Step::Calling => Ok(()),
+        Step::Waits { .. } => Ok(()),
+    }
+}
+
+/// Lets the calls of the lowest flows run, as long as a processor is free.
+fn begin<L: Library>(core: &Core<L>, costs: &List<u32>, clock: &mut Clock) -> Result<(), Memory>
+    requires begins { Begins L.meaning core.now clock.old }
+    requires last { AllLast costs.now clock.old }
+    requires small { AreSmall L.meaning core.now costs.now clock.old.processors }
+    ensures rests { OnOk result (Rests L.meaning core.now clock.new) }
+    ensures last { OnOk result (AllLast costs.now clock.new) }
+    ensures processors { clock.new.processors ≡ clock.old.processors }
+{
+    // Asked for what it promises: that the journal is legal, so no tick is too great a number.
+    let _journal = core.journal();
+    while clock.running.len() < clock.processors as usize {
+        let Some(flow) = clock.waiting.take_lowest() else {
+            return Ok(());
+        };
+        let run = run_of(core, costs, clock.tick, flow)?;
+        clock.running.add(run)?;
+    }
+    Ok(())
+}
+
+/// The run of a flow's begun call from a tick on.
+fn run_of<L: Library>(
+    core: &Core<L>,
+    costs: &List<u32>,
+    tick: u64,
+    flow: FlowNo,
+) -> Result<Run, Memory>
+    requires begun { IsSome (begun_by core.now flow.0) }
+    requires costs { AreCosts core.now.setup.program costs.now }
+    requires tick { tick < 9000000000 }
+    ensures { IfOk result (IsRunOf core.now costs.now tick flow) }
+{
+    // Asked for what it promises: that begun calls are next.
+    let _journal = core.journal();
+    let Some(job) = core.recall(flow)? else {
+        unreachable!()
+    };
+    let node = job.node();
+    let Some(cost) = costs.get(node.0 as usize) else {
+        unreachable!()
+    };
+    Ok(Run {
+        flow,
+        node,
+        start: tick,
+        stop: tick + u64::from(*cost),
+    })
+}
+
+/// Lets time pass to where the next call stops, and finishes all that stop then. There is none where none runs.
+fn finish_next<L: Library>(core: &mut Core<L>, clock: &mut Clock) -> Result<bool, Memory>
+    requires { Rests L.meaning core.old clock.old }
+    ensures tick { IfOk result (IsFurtherTick L.meaning core.old core.new clock.new) }
+    ensures last { (costs : List ℕ) → AllLast costs clock.old → OnOk result (AllLast costs clock.new) }
+    ensures further { GoesFurther core.old core.new }
+    ensures processors { clock.new.processors ≡ clock.old.processors }
+{
+    // Asked for what it promises: that begun calls are next.
+    let _journal = core.journal();
+    let Some(run) = clock.running.take_next() else {
+        return Ok(false);
+    };
+    clock.tick = run.stop;
+    finish_call(core, run.flow)?;
+    clock.note_end(run)?;
+    finish_due(core, clock)?;
+    Ok(true)
+}
+
+/// Finishes the calls that stop at this tick, those of the lowest flows first.
+fn finish_due<L: Library>(core: &mut Core<L>, clock: &mut Clock) -> Result<(), Memory>
+    requires { Finishes L.meaning core.old clock.old }
+    ensures goes { OnOk result (Goes L.meaning core.new clock.new) }
+    ensures last { (costs : List ℕ) → AllLast costs clock.old → OnOk result (AllLast costs clock.new) }
+    ensures further { GoesFurther core.old core.new }
+    ensures processors { clock.new.processors ≡ clock.old.processors }
+{
+    while let Some(run) = clock.running.take_due(clock.tick) {
+        // Asked for what it promises: that begun calls are next.
+        let _journal = core.journal();
+        finish_call(core, run.flow)?;
+        clock.note_end(run)?;
+    }
+    Ok(())
+}
+
+/// Runs a flow's begun call, and finishes it.
+fn finish_call<L: Library>(core: &mut Core<L>, flow: FlowNo) -> Result<(), Memory>
+    requires flow { flow.0 < length core.old.setup.items }
+    requires begun { IsSome (begun_by core.old flow.0) }
+    ensures ends { OnOk result (EndsBegun L.meaning core.old core.new flow) }
+    ensures further { GoesFurther core.old core.new }
+{
+    match core.recall(flow)? {
+        Some(job) => finish_job(core, &job),
+        None => Ok(()),
+    }
+}
+
+/// Runs a begun call, and finishes it.
+fn finish_job<L: Library>(core: &mut Core<L>, job: &Job<L>) -> Result<(), Memory>
+    requires { IsJobOf core.old job.now }
+    ensures ends { OnOk result (EndsBegun L.meaning core.old core.new job.now.flow) }
+    ensures further { GoesFurther core.old core.new }
+{
+    let done = job.run(core.alloc())?;
+    let _ = core.finish(&done)?;
+    Ok(())
+}
