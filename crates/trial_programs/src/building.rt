@@ -8,7 +8,6 @@ ghost use Rattle.flux_model.specs.Names.{IsNamed};
 ghost use Rattle.flux_model.specs.Numbered.{IsNumbered};
 ghost use Rattle.flux_model.specs.Soundness.{IsSound};
 
-use crate::troubles::Trouble;
 use flow_core::{Core, Setup};
 use flux_cells::Cells;
 use flux_check::check;
@@ -16,19 +15,21 @@ use flux_compile::compile;
 use flux_faults::CheckFault;
 use flux_hoist::Checked;
 use flux_library::Library;
-use flux_model::{Item, SourceNo};
-use flux_values::{Kind, List, Memory, Value};
+use flux_model::{Item, Program, SourceNo};
+use flux_values::{Kind, List, Value};
+use plain_journals::Given;
 use std::alloc::Global;
 use std::sync::Arc;
+use trial_ends::Trouble;
 
 /// The most flows of a core.
 const FLOW_LIMIT: usize = 4_096;
 
-/// A number that a source gives.
-#[derive(Clone, Copy, Debug)]
-pub struct Given {
-    pub source: u32,
-    pub number: i64,
+/// A core, and its program once more.
+#[derive(Drop)]
+pub struct Opened<L: Library> {
+    pub core: Core<L>,
+    pub program: Arc<Program>,
 }
 
 /// The text's program with what is found of it.
@@ -41,7 +42,7 @@ pub fn checked_of<L: Library>(alloc: Global, text: &[u8], library: &L) -> Result
     match check(alloc, text, library) {
         Ok(checked) => Ok(checked),
         Err(CheckFault::Memory) => Err(Trouble::Memory),
-        Err(CheckFault::Static(_)) => Err(Trouble::Text),
+        Err(CheckFault::Static(_)) => Err(Trouble::Wrong),
     }
 }
 
@@ -50,16 +51,16 @@ fn item_of(alloc: Global, checked: &Checked, given: Given) -> Result<Item, Troub
     ensures { IfOk result (IsItemFor checked.now.program (kinds_at checked.now.sigs.nodes)) }
 {
     let Some(line) = checked.program.sources.get(given.source as usize) else {
-        return Err(Trouble::Text);
+        return Err(Trouble::Wrong);
     };
     let Some(sig) = checked.sigs.nodes.get(line.node.0 as usize) else {
-        return Err(Trouble::Text);
+        return Err(Trouble::Wrong);
     };
     let [out] = sig.outs.as_slice() else {
-        return Err(Trouble::Text);
+        return Err(Trouble::Wrong);
     };
     if out.kind != Kind::Int {
-        return Err(Trouble::Text);
+        return Err(Trouble::Wrong);
     }
     let mut values = List::new(alloc);
     values.add(Value::Int(given.number))?;
@@ -76,7 +77,7 @@ fn items_of(alloc: Global, checked: &Checked, given: &[Given]) -> Result<List<It
     ensures few { IfOk result (λ items. length items ≤ 4096) }
 {
     if given.len() > FLOW_LIMIT {
-        return Err(Trouble::Text);
+        return Err(Trouble::Wrong);
     }
     let mut items = List::new(alloc);
     for one in given {
@@ -86,21 +87,26 @@ fn items_of(alloc: Global, checked: &Checked, given: &[Given]) -> Result<List<It
 }
 
 /// A core of the text's program, with a flow for each number.
-pub fn core_of<L: Library>(
+pub fn open<L: Library>(
     alloc: Global,
     text: &[u8],
     given: &[Given],
     library: L,
-) -> Result<Core<L>, Trouble> {
+) -> Result<Opened<L>, Trouble> {
     let checked = checked_of(alloc, text, &library)?;
     let plans = compile(alloc, &checked)?;
     let items = items_of(alloc, &checked, given)?;
+    let program = Arc::new(alloc, checked.program)?;
+    let kept = Arc::try_clone(&program)?;
     let setup = Setup {
-        program: Arc::new(alloc, checked.program)?,
+        program,
         plans: Arc::new(alloc, plans)?,
         items,
         opening: Cells::new(alloc),
         library: Arc::new(alloc, library)?,
     };
-    Ok(Core::new(alloc, setup)?)
+    Ok(Opened {
+        core: Core::new(alloc, setup)?,
+        program: kept,
+    })
 }
