@@ -1,12 +1,14 @@
 //! From a text and the numbers that its sources give to a core whose flows have done nothing.
 
 ghost use Rattle.std.specs.Prelude.{◌≡◌, ◌≤◌, IfOk, length};
+ghost use Rattle.std.specs.Arc.{arc_value};
 ghost use Rattle.std.specs.List.{AllByRecursion};
 ghost use Rattle.flux_model.specs.Kinds.{kinds_at};
 ghost use Rattle.flux_model.specs.Items.{IsItemFor};
 ghost use Rattle.flux_model.specs.Names.{IsNamed};
 ghost use Rattle.flux_model.specs.Numbered.{IsNumbered};
 ghost use Rattle.flux_model.specs.Soundness.{IsSound};
+ghost use Rattle.flow_state.specs.States.{MayRun};
 
 use flow_core::{Core, Setup};
 use flux_cells::Cells;
@@ -16,7 +18,8 @@ use flux_faults::CheckFault;
 use flux_hoist::Checked;
 use flux_library::Library;
 use flux_model::{Item, Program, SourceNo};
-use flux_values::{Kind, List, Value};
+use flux_plan::VerifiedPlan;
+use flux_values::{Kind, List, Memory, Value};
 use plain_journals::Given;
 use std::alloc::Global;
 use std::sync::Arc;
@@ -86,6 +89,26 @@ fn items_of(alloc: Global, checked: &Checked, given: &[Given]) -> Result<List<It
     Ok(items)
 }
 
+/// A core of a program that may be run.
+fn core_of<L: Library>(
+    alloc: Global,
+    program: Arc<Program>,
+    plans: List<VerifiedPlan>,
+    items: List<Item>,
+    library: L,
+) -> Result<Core<L>, Memory>
+    requires { MayRun (L.meaning library) (arc_value program) plans items }
+{
+    let setup = Setup {
+        program,
+        plans: Arc::new(alloc, plans)?,
+        items,
+        opening: Cells::new(alloc),
+        library: Arc::new(alloc, library)?,
+    };
+    Core::new(alloc, setup)
+}
+
 /// A core of the text's program, with a flow for each number.
 pub fn open<L: Library>(
     alloc: Global,
@@ -98,15 +121,8 @@ pub fn open<L: Library>(
     let items = items_of(alloc, &checked, given)?;
     let program = Arc::new(alloc, checked.program)?;
     let kept = Arc::try_clone(&program)?;
-    let setup = Setup {
-        program,
-        plans: Arc::new(alloc, plans)?,
-        items,
-        opening: Cells::new(alloc),
-        library: Arc::new(alloc, library)?,
-    };
     Ok(Opened {
-        core: Core::new(alloc, setup)?,
+        core: core_of(alloc, program, plans, items, library)?,
         program: kept,
     })
 }
