@@ -57,7 +57,10 @@ fn tell_turn<R: Print>(rt: &R, when: &str, found: Option<usize>) -> Result<(), T
 
 fn answer_hall<R: Wait + Print>(rt: &R, alloc: Global) -> Result<(), Trouble> {
     let tries = two_tries(rt, alloc)?;
-    println!(rt; "hall: the first seat's flow made a step: {}", tries.stepped)?;
+    println!(rt;
+        "hall: the first seat's flow made a step: {}",
+        tries.stepped
+    )?;
     tell_turn(rt, "while another is out", tries.while_out)?;
     tell_turn(rt, "once the other was given", tries.once_given)
 }
