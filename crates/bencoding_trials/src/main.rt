@@ -6,14 +6,13 @@
 
 mod plain;
 mod rows;
-mod troubles;
 
 use bencoding::{BenFault, print_ben, read_ben};
 use plain::{Plain, plain_answer};
-use rows::{ROWS, deep, long};
+use rows::{LARGE, ROWS};
 use std::alloc::Global;
 use std::process::ExitCode;
-use troubles::Trouble;
+use trial_ends::Trouble;
 
 /// The bytes of the short texts.
 const LETTERS: &[u8; 9] = b"01-:ielda";
@@ -24,7 +23,7 @@ fn told(alloc: Global, bytes: &[u8]) -> Result<Plain, Trouble> {
         Ok((value, length)) => {
             let printed = print_ben(alloc, &value)?;
             if length > bytes.len() || printed.as_bytes() != &bytes[..length] {
-                return Err(Trouble::Printed);
+                return Err(Trouble::Wrong);
             }
             Ok(Plain::Read(length))
         }
@@ -67,49 +66,42 @@ fn others(alloc: Global, length: usize) -> Result<usize, Trouble> {
     Ok(count)
 }
 
-fn tell<R: Print>(rt: &R, name: &str, answer: Plain) -> Result<(), Trouble> {
-    match answer {
+/// Tells what comes of a text.
+fn tell<R: Print>(rt: &R, alloc: Global, name: &str, text: &[u8]) -> Result<(), Trouble> {
+    match told(alloc, text)? {
         Plain::Read(length) => println!(rt; "{name}: read {length}")?,
         Plain::Bad(at) => println!(rt; "{name}: bad at {at}")?,
     }
     Ok(())
 }
 
-fn answer<R: Print>(rt: &R, alloc: Global) -> Result<(), Trouble> {
+fn answer_short<R: Print>(rt: &R, alloc: Global) -> Result<(), Trouble> {
     for length in 0..5 {
         let texts = count_of(length);
         let wrong = others(alloc, length)?;
         println!(rt; "texts of {length} bytes: {texts}, told otherwise: {wrong}")?;
     }
-    for (name, bytes) in ROWS {
-        tell(rt, name, told(alloc, bytes)?)?;
-    }
-    tell(
-        rt,
-        "8 lists",
-        told(alloc, deep(alloc, b'l', 8)?.as_slice())?,
-    )?;
-    tell(
-        rt,
-        "9 lists",
-        told(alloc, deep(alloc, b'l', 9)?.as_slice())?,
-    )?;
-    tell(
-        rt,
-        "65,536 bytes",
-        told(alloc, long(alloc, b"65536:", 65_536)?.as_slice())?,
-    )?;
-    tell(
-        rt,
-        "65,537 bytes",
-        told(alloc, long(alloc, b"65537:", 65_537)?.as_slice())?,
-    )?;
-    tell(
-        rt,
-        "one byte less",
-        told(alloc, long(alloc, b"65536:", 65_535)?.as_slice())?,
-    )?;
     Ok(())
+}
+
+fn answer_rows<R: Print>(rt: &R, alloc: Global) -> Result<(), Trouble> {
+    for (name, text) in ROWS {
+        tell(rt, alloc, name, text)?;
+    }
+    Ok(())
+}
+
+fn answer_large<R: Print>(rt: &R, alloc: Global) -> Result<(), Trouble> {
+    for (name, large) in LARGE {
+        tell(rt, alloc, name, large.text(alloc)?.as_slice())?;
+    }
+    Ok(())
+}
+
+fn answer<R: Print>(rt: &R, alloc: Global) -> Result<(), Trouble> {
+    answer_short(rt, alloc)?;
+    answer_rows(rt, alloc)?;
+    answer_large(rt, alloc)
 }
 
 fn main(rt: HostRuntime) -> ExitCode {

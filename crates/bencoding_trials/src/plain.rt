@@ -2,8 +2,8 @@
 //!
 //! It knows no more of keys than that they are strings, which is all that texts of four bytes can show.
 
-use crate::troubles::Trouble;
 use std::alloc::Global;
+use trial_ends::Trouble;
 
 /// What comes of a text: a value of so many bytes, or the first byte at which none goes on.
 #[derive(Clone, Copy, Debug, PartialEq, Eq)]

@@ -1,7 +1,6 @@
 //! Texts by name.
 
-use crate::troubles::Trouble;
-use std::alloc::Global;
+use std::alloc::{AllocError, Global};
 
 /// Short ones.
 pub const ROWS: [(&str, &[u8]); 19] = [
@@ -26,23 +25,45 @@ pub const ROWS: [(&str, &[u8]); 19] = [
     ("a number as a key", b"di1e1:ae"),
 ];
 
-/// So many lists in one another, with their ends.
-pub fn deep(alloc: Global, byte: u8, depth: usize) -> Result<Vec<u8>, Trouble> {
-    let mut text = Vec::new(alloc);
-    for _ in 0..depth {
-        text.push(byte)?;
-    }
-    for _ in 0..depth {
-        text.push(b'e')?;
-    }
-    Ok(text)
+/// A text that is too long to write out.
+#[derive(Clone, Copy)]
+pub enum Large {
+    /// So many lists in one another, with their ends.
+    Lists(usize),
+    /// A head and so many bytes.
+    String(&'static [u8], usize),
 }
 
-/// A head and so many bytes.
-pub fn long(alloc: Global, head: &[u8], length: usize) -> Result<Vec<u8>, Trouble> {
-    let mut text = Vec::from_slice(alloc, head)?;
-    for _ in 0..length {
-        text.push(b'x')?;
+/// Long ones.
+pub const LARGE: [(&str, Large); 5] = [
+    ("8 lists", Large::Lists(8)),
+    ("9 lists", Large::Lists(9)),
+    ("65,536 bytes", Large::String(b"65536:", 65_536)),
+    ("65,537 bytes", Large::String(b"65537:", 65_537)),
+    ("one byte less", Large::String(b"65536:", 65_535)),
+];
+
+impl Large {
+    pub fn text(self, alloc: Global) -> Result<Vec<u8>, AllocError> {
+        let mut text = Vec::new(alloc);
+        match self {
+            Large::Lists(depth) => {
+                push_all(&mut text, b'l', depth)?;
+                push_all(&mut text, b'e', depth)?;
+            }
+            Large::String(head, length) => {
+                text.extend_from_slice(head)?;
+                push_all(&mut text, b'x', length)?;
+            }
+        }
+        Ok(text)
     }
-    Ok(text)
+}
+
+/// A byte comes so many times more.
+fn push_all(text: &mut Vec<u8>, byte: u8, count: usize) -> Result<(), AllocError> {
+    for _ in 0..count {
+        text.push(byte)?;
+    }
+    Ok(())
 }

@@ -3,7 +3,6 @@
 ghost use Rattle.flux_model.specs.Names.{IsNamed};
 ghost use Rattle.flux_model.specs.Numbered.{IsNumbered};
 
-use crate::troubles::Trouble;
 use flow_core::Core;
 use flow_model::Journal;
 use flux_hoist::Checked;
@@ -11,6 +10,7 @@ use flux_journal::{JournalFault, print_journal, read_journal};
 use flux_library::Library;
 use flux_values::{Bytes, Memory};
 use std::alloc::Global;
+use trial_ends::Trouble;
 
 /// A core's journal, of which nothing else is told here: what a core keeps would only burden the proofs of its callers.
 pub fn journal_of<L: Library>(core: &Core<L>) -> &Journal {
@@ -42,8 +42,22 @@ fn read(alloc: Global, checked: &Checked, text: &[u8]) -> Result<Journal, Troubl
 {
     match read_journal(alloc, &checked.program, text) {
         Ok(journal) => Ok(journal),
-        Err(JournalFault::BadLine { .. }) => Err(Trouble::Journal),
+        Err(JournalFault::BadLine { .. }) => Err(Trouble::Wrong),
         Err(JournalFault::Memory) => Err(Trouble::Memory),
+    }
+}
+
+/// What is read of a text has the same text.
+fn read_alike(alloc: Global, checked: &Checked, text: &[u8]) -> Result<(), Trouble>
+    requires numbered { IsNumbered checked.now.program }
+    requires named { IsNamed checked.now.program }
+{
+    let journal = read(alloc, checked, text)?;
+    let again = print_journal(alloc, &checked.program, &journal)?;
+    if again.as_bytes() == text {
+        Ok(())
+    } else {
+        Err(Trouble::Wrong)
     }
 }
 
@@ -56,11 +70,7 @@ pub fn read_again(alloc: Global, checked: &Checked, text: &[u8], times: u32) -> 
         drop(read(alloc, checked, text)?);
     }
     if times > 0 {
-        let journal = read(alloc, checked, text)?;
-        let again = print_journal(alloc, &checked.program, &journal)?;
-        if again.as_bytes() != text {
-            return Err(Trouble::Journal);
-        }
+        read_alike(alloc, checked, text)?;
     }
     Ok(())
 }

@@ -7,84 +7,34 @@
 //! after.
 #![tactic(auto)]
 
-mod building;
 mod journals;
-mod troubles;
 mod turns;
 mod watching;
+mod words;
 
-use building::{Given, checked_of, core_of};
 use flow_core::Core;
-use flow_waits::drain_by;
-use flux_values::{Bytes, List};
+use flux_values::Bytes;
 use journals::{entry_count, journal_of, print_again, read_again};
 use nodes_counter::Counter;
 use std::alloc::Global;
 use std::env;
 use std::io::Write;
 use std::process::ExitCode;
-use troubles::Trouble;
+use trial_ends::Trouble;
+use trial_programs::{NESTED, Watched, checked_of, numbers, open};
 use turns::drive;
-use watching::{Calls, Watched};
-
-/// Nested flows with cases, readers, writers and sessions: 23 events for a number, and 9 for 0.
-const PROGRAM: &[u8] =
-    b"Tick () => (int n);\nPass (int n) => (int n);\nAdd (int n) => (int n);\nBump (int n) => (int n);\ntypedef zero IsZero;\nsource Tick => Load;\nsession Tick => ByNumber;\nLoad:[zero] = Pass;\nLoad:[_] = Visit -> Add;\nVisit = Bump;\natomic Load:{aisle?};\natomic Visit:{zone?};\natomic Bump:{visits(session)};\natomic Add:{counter};\n";
-
-/// The words behind the program's own name.
-#[derive(Clone, Copy)]
-enum Words {
-    Core { flows: u32 },
-    Journal { flows: u32, prints: u32, reads: u32 },
-    Text { flows: u32 },
-    Watch { flows: u32 },
-}
-
-fn number(word: &str) -> Result<u32, Trouble> {
-    word.parse::<u32>().map_err(|_| Trouble::Words)
-}
-
-fn read_words(words: &[String]) -> Result<Words, Trouble> {
-    match words {
-        [_, core, flows] if core.as_str() == "core" => Ok(Words::Core {
-            flows: number(flows.as_str())?,
-        }),
-        [_, journal, flows, prints, reads] if journal.as_str() == "journal" => Ok(Words::Journal {
-            flows: number(flows.as_str())?,
-            prints: number(prints.as_str())?,
-            reads: number(reads.as_str())?,
-        }),
-        [_, text, flows] if text.as_str() == "text" => Ok(Words::Text {
-            flows: number(flows.as_str())?,
-        }),
-        [_, watch, flows] if watch.as_str() == "watch" => Ok(Words::Watch {
-            flows: number(flows.as_str())?,
-        }),
-        _ => Err(Trouble::Words),
-    }
-}
-
-/// The numbers of so many flows: each is seven more than the one before, without its tens.
-fn given(alloc: Global, flows: u32) -> Result<List<Given>, Trouble> {
-    let mut all = List::new(alloc);
-    for flow in 0..flows {
-        all.add(Given {
-            source: 0,
-            number: (3 + 7 * flow as i64) % 10,
-        })?;
-    }
-    Ok(all)
-}
+use watching::{Calls, Refusing, drain_told};
+use words::{Words, read_words};
 
 /// The core of so many flows that have ended.
 fn driven(alloc: Global, flows: u32) -> Result<Core<Counter>, Trouble> {
-    let given = given(alloc, flows)?;
-    let mut core = core_of(alloc, PROGRAM, given.as_slice(), Counter)?;
+    let numbers = numbers(alloc, flows)?;
+    let mut core = open(alloc, NESTED, numbers.as_slice(), Counter)?.core;
     drive(alloc, &mut core)?;
     if core.live() == 0 {
         Ok(core)
     } else {
-        Err(Trouble::Text)
+        Err(Trouble::Wrong)
     }
 }
 
@@ -101,7 +51,7 @@ fn print_and_read(
     prints: u32,
     reads: u32,
 ) -> Result<usize, Trouble> {
-    let checked = checked_of(alloc, PROGRAM, &Counter)?;
+    let checked = checked_of(alloc, NESTED, &Counter)?;
     let text = print_again(alloc, &checked, journal_of(core), prints)?;
     read_again(alloc, &checked, text.as_bytes(), reads)?;
     Ok(text.as_bytes().len())
@@ -115,7 +65,7 @@ fn answer_journal(rt: &HostRuntime, flows: u32, prints: u32, reads: u32) -> Resu
 }
 
 fn print_once(alloc: Global, core: &Core<Counter>) -> Result<Bytes, Trouble> {
-    let checked = checked_of(alloc, PROGRAM, &Counter)?;
+    let checked = checked_of(alloc, NESTED, &Counter)?;
     Ok(print_again(alloc, &checked, journal_of(core), 1)?)
 }
 
@@ -129,17 +79,19 @@ fn answer_text(rt: &HostRuntime, flows: u32) -> Result<(), Trouble> {
 /// How many calls flows make, of which one is refused and made again. Behind the refusal each call was told of, too.
 fn watched_calls(alloc: Global, flows: u32, refused: u32) -> Result<u32, Trouble> {
     let calls = Calls::new();
-    let given = given(alloc, flows)?;
-    let library = Watched {
+    let numbers = numbers(alloc, flows)?;
+    let watcher = Refusing {
         calls: &calls,
         refused,
     };
-    let mut core = core_of(alloc, PROGRAM, given.as_slice(), library)?;
-    if drain_by(&mut core, &calls).is_err() {
-        let _ = calls.count().ok_or(Trouble::Calls)?;
-        drain_by(&mut core, &calls)?;
+    let mut core = open(alloc, NESTED, numbers.as_slice(), Watched { watcher })?.core;
+    if !drain_told(&mut core, &calls) {
+        let _ = calls.count()?;
+        if !drain_told(&mut core, &calls) {
+            return Err(Trouble::Memory);
+        }
     }
-    calls.count().ok_or(Trouble::Calls)
+    calls.count()
 }
 
 fn answer_watch(rt: &HostRuntime, flows: u32) -> Result<(), Trouble> {
@@ -147,7 +99,7 @@ fn answer_watch(rt: &HostRuntime, flows: u32) -> Result<(), Trouble> {
     let whole = watched_calls(rt.alloc(), flows, u32::MAX)?;
     for refused in 0..whole {
         if watched_calls(rt.alloc(), flows, refused)? != whole.saturating_add(1) {
-            return Err(Trouble::Calls);
+            return Err(Trouble::Wrong);
         }
     }
     println!(rt; "calls {whole}")?;
@@ -156,7 +108,7 @@ fn answer_watch(rt: &HostRuntime, flows: u32) -> Result<(), Trouble> {
 
 fn answer(rt: &HostRuntime) -> Result<(), Trouble> {
     let words: Vec<String> = env::args(rt)?.collect(rt.alloc())?;
-    match read_words(words.as_slice())? {
+    match read_words(rt.alloc(), words.as_slice())? {
         Words::Core { flows } => answer_core(rt, flows),
         Words::Journal {
             flows,

@@ -1,6 +1,6 @@
 //! Flow after flow makes one step: a call is run and finished at once, and who waits is passed over until it may go on.
 
-ghost use Rattle.std.specs.Prelude.{◌≡◌, ◌<◌, length};
+ghost use Rattle.std.specs.Prelude.{◌<◌, length};
 
 use flow_core::{Core, Step};
 use flow_model::{Event, Key};
@@ -27,7 +27,6 @@ pub fn take_turn<L: Library>(
     flow: FlowNo,
 ) -> Result<Turn, Memory>
     requires { flow.0 < length core.old.setup.items }
-    ensures { core.new.setup.program ≡ core.old.setup.program }
 {
     match core.step(flow)? {
         Step::Went => Ok(Turn::Went),

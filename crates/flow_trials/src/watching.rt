@@ -1,12 +1,12 @@
 //! Calls of nodes that are watched from both sides: by a gate, which is told of each, and by the library that makes them.
 
-use flow_core::Gate;
+use flow_core::{Core, Gate};
+use flow_waits::drain_by;
 use flux_library::Library;
 use flux_model::{FlowNo, NodeNo};
-use flux_values::{Answer, Cell, Kind, List, Meaning, Memory, Sig, Value};
-use nodes_counter::Counter;
-use std::alloc::Global;
 use std::sync::atomic::{AtomicBool, AtomicU32, Ordering};
+use trial_ends::Trouble;
+use trial_programs::Watcher;
 
 /// The calls so far. Each is told of, made once, and told of again.
 #[derive(Drop)]
@@ -40,13 +40,13 @@ impl Calls {
         self.ended.load(Ordering::SeqCst)
     }
 
-    /// How many calls there were; none where one was not told of before and after, was made twice, or has no end yet.
-    pub fn count(&self) -> Option<u32> {
+    /// How many calls there were. It is wrong where one was not told of before and after, was made twice, or has no end yet.
+    pub fn count(&self) -> Result<u32, Trouble> {
         let open = self.told.load(Ordering::SeqCst) || self.made.load(Ordering::SeqCst);
         if open || self.mixed_up.load(Ordering::SeqCst) {
-            None
+            Err(Trouble::Wrong)
         } else {
-            Some(self.ended.load(Ordering::SeqCst))
+            Ok(self.ended.load(Ordering::SeqCst))
         }
     }
 }
@@ -65,59 +65,21 @@ impl Gate for Calls {
     }
 }
 
-/// The library `Counter`, whose calls are watched. One of them it refuses, as if memory were short.
+/// Tells of each call that is made, and refuses one.
 #[derive(Drop)]
-pub struct Watched<'a> {
+pub struct Refusing<'a> {
     pub calls: &'a Calls,
     /// The call that is refused, by the number of those before it.
     pub refused: u32,
 }
 
-impl<'a> Meaning for Watched<'a> {
-    ghost use Rattle.nodes_counter.specs.Counters.{counter_meaning};
-
-    ghost meaning = { λ _. counter_meaning };
+impl<'a> Watcher for Refusing<'a> {
+    fn refuses(&self) -> bool {
+        self.calls.make() == self.refused
+    }
 }
 
-impl<'a> Library for Watched<'a> {
-    ghost use Rattle.nodes_counter.specs.laws.Counters.{counter_lawful};
-
-    fn kind(&self, ty: &[u8]) -> Option<Kind> {
-        Counter.kind(ty)
-    }
-
-    fn node(&self, alloc: Global, name: &[u8]) -> Result<Option<Sig>, Memory> {
-        Counter.node(alloc, name)
-    }
-
-    fn predicate(&self, name: &[u8]) -> Option<Kind> {
-        Counter.predicate(name)
-    }
-
-    fn session(&self, alloc: Global, name: &[u8]) -> Result<Option<List<Kind>>, Memory> {
-        Counter.session(alloc, name)
-    }
-
-    fn call(
-        &self,
-        alloc: Global,
-        name: &[u8],
-        args: &[Value],
-        cells: &[Cell],
-    ) -> Result<Answer, Memory> {
-        if self.calls.make() == self.refused {
-            return Err(Memory);
-        }
-        Counter.call(alloc, name, args, cells)
-    }
-
-    fn test(&self, name: &[u8], arg: &Value) -> bool {
-        Counter.test(name, arg)
-    }
-
-    fn id(&self, name: &[u8], args: &[Value]) -> u64 {
-        Counter.id(name, args)
-    }
-
-    ghost lawful = { counter_lawful };
+/// Drives a core by the loop of the runtimes, with its gate told. It says whether no call was refused.
+pub fn drain_told<L: Library>(core: &mut Core<L>, calls: &Calls) -> bool {
+    drain_by(core, calls).is_ok()
 }

@@ -1,15 +1,15 @@
 //! Many flows at once.
 
-use crate::building::Opened;
-use crate::runs::{Driver, driven, given};
-use crate::troubles::Trouble;
+use crate::runs::{Driver, run};
 use flow_core::OpenGate;
 use flow_model::{Entry, Event};
-use flux_values::Value;
+use flux_values::{Put, Value};
 use std::alloc::Global;
 use std::marker::Sync;
 use std::sync::Wait;
 use std::thread::Threads;
+use trial_ends::Trouble;
+use trial_programs::numbers;
 
 /// What came of a crowd.
 #[derive(Clone, Copy, Debug)]
@@ -20,15 +20,23 @@ pub struct Crowd {
     pub greatest: i64,
 }
 
-/// The greatest number that an entry's call puts into a cell, or 0.
-fn greatest_put(entry: &Entry) -> i64 {
-    let Event::Call(call) = &entry.event else {
-        return 0;
-    };
-    let mut greatest = 0;
-    for put in call.answer.puts.as_slice() {
+/// The greatest of a number and those that are put.
+fn greatest_put(so_far: i64, puts: &[Put]) -> i64 {
+    let mut greatest = so_far;
+    for put in puts {
         if let Some(Value::Int(number)) = &put.value {
             greatest = greatest.max(*number);
+        }
+    }
+    greatest
+}
+
+/// The greatest number that a call of the entries put into a cell, or 0.
+fn greatest_in(entries: &[Entry]) -> i64 {
+    let mut greatest = 0;
+    for entry in entries {
+        if let Event::Call(call) = &entry.event {
+            greatest = greatest_put(greatest, call.answer.puts.as_slice());
         }
     }
     greatest
@@ -42,13 +50,10 @@ pub fn drive_crowd<R: Threads + Wait + Sync>(
     text: &[u8],
     flows: u32,
 ) -> Result<Crowd, Trouble> {
-    let given = given(alloc, flows)?;
-    let Opened { core, program: _ } = driven(rt, alloc, driver, text, given.as_slice(), &OpenGate)?;
-    let ended = core.flows().saturating_sub(core.live());
-    let (journal, _) = core.into_parts();
-    let mut greatest = 0;
-    for entry in journal.entries.as_slice() {
-        greatest = greatest.max(greatest_put(entry));
-    }
-    Ok(Crowd { ended, greatest })
+    let given = numbers(alloc, flows)?;
+    let run = run(rt, alloc, driver, text, given.as_slice(), &OpenGate)?;
+    Ok(Crowd {
+        ended: run.ended,
+        greatest: greatest_in(run.journal.entries.as_slice()),
+    })
 }

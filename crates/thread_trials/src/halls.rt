@@ -3,9 +3,6 @@
 ghost use Rattle.std.specs.Prelude.{◌≡◌};
 ghost use Rattle.flow_core.specs.Runs.{GoesOn};
 
-use crate::building::{Opened, open};
-use crate::programs::FREE;
-use crate::troubles::Trouble;
 use flow_core::Core;
 use flow_hall::{Hall, HallSeat, HallTurn};
 use flux_model::FlowNo;
@@ -13,6 +10,8 @@ use nodes_counter::Counter;
 use plain_journals::Given;
 use std::alloc::Global;
 use std::sync::Wait;
+use trial_ends::Trouble;
+use trial_programs::{FREE, open};
 
 /// What two seats got.
 #[derive(Clone, Copy, Debug)]
@@ -100,7 +99,7 @@ fn tries_at<R: Wait>(rt: &R, hall: Hall<Counter>, seat: HallSeat<Counter>) -> Re
     let (one, other) = hall.split(seat);
     let (tries, seat) = try_both(&hall, one, other);
     let _core = hall.close(rt, seat);
-    tries.ok_or(Trouble::Turn)
+    tries.ok_or(Trouble::Wrong)
 }
 
 /// Two seats try at a hall with a core of one flow.
@@ -109,7 +108,7 @@ pub fn two_tries<R: Wait>(rt: &R, alloc: Global) -> Result<Tries, Trouble> {
         source: 0,
         number: 5,
     }];
-    let Opened { core, program: _ } = open(alloc, FREE, &given, Counter)?;
+    let core = open(alloc, FREE, &given, Counter)?.core;
     match Hall::new(alloc, core) {
         Ok((hall, seat)) => tries_at(rt, hall, seat),
         Err(_) => Err(Trouble::Memory),

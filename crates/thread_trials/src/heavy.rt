@@ -1,15 +1,14 @@
 //! Flows whose calls take long.
 
-use crate::building::{Opened, open};
-use crate::libraries::Burdened;
-use crate::programs::FREE;
-use crate::runs::{Driver, drive, given};
-use crate::troubles::Trouble;
+use crate::burdens::Burden;
+use crate::runs::{Driver, drive, ended_in};
 use flow_core::OpenGate;
 use std::alloc::Global;
 use std::marker::Sync;
 use std::sync::Wait;
 use std::thread::Threads;
+use trial_ends::Trouble;
+use trial_programs::{FREE, Watched, numbers, open};
 
 /// How many of so many flows, each with one call of so many rounds, have ended.
 pub fn heavy_ended<R: Threads + Wait + Sync>(
@@ -19,11 +18,11 @@ pub fn heavy_ended<R: Threads + Wait + Sync>(
     flows: u32,
     rounds: u64,
 ) -> Result<u32, Trouble> {
-    let given = given(alloc, flows)?;
-    let library = Burdened::slow(rounds);
-    let Opened { core, program: _ } = open(alloc, FREE, given.as_slice(), library)?;
+    let given = numbers(alloc, flows)?;
+    let watcher = Burden::slow(rounds);
+    let core = open(alloc, FREE, given.as_slice(), Watched { watcher })?.core;
     match drive(rt, driver, core, &OpenGate) {
-        Ok(core) => Ok(core.flows().saturating_sub(core.live())),
+        Ok(core) => Ok(ended_in(&core)),
         Err(_) => Err(Trouble::Memory),
     }
 }

@@ -4,23 +4,20 @@
 //! `heavy RUNTIME FLOWS ROUNDS` it drives flows of heavy calls, for the benches.
 #![tactic(auto)]
 
-mod building;
+mod burdens;
 mod crowds;
 mod gates;
 mod halls;
 mod heavy;
-mod libraries;
-mod programs;
 mod queues;
 mod refusals;
 mod runs;
 mod threads;
-mod troubles;
+mod words;
 
 use crowds::drive_crowd;
 use halls::two_tries;
 use heavy::heavy_ended;
-use programs::{COUNTING, READING, SESSIONS};
 use queues::takes;
 use refusals::driven_twice;
 use runs::{Driver, calls_held, kept, nested_kept};
@@ -32,23 +29,15 @@ use std::rt::Files;
 use std::sync::Wait;
 use std::thread::Threads;
 use threads::{none_left, thread_count};
-use troubles::Trouble;
+use trial_ends::Trouble;
+use trial_programs::{COUNTING, READING, SESSIONS};
+use words::{DRIVERS, Words, read_words};
 
 /// So many random programs are driven by each runtime.
 const SEEDS: u32 = 10;
 
 /// So often each of them is driven.
 const TIMES: u32 = 20;
-
-/// The runtimes that are tried, and their names.
-const DRIVERS: &[(Driver, &str)] = &[
-    (Driver::Event, "event"),
-    (Driver::PerFlow, "perflow"),
-    (Driver::Pool(1), "pool=1"),
-    (Driver::Pool(2), "pool=2"),
-    (Driver::Pool(4), "pool=4"),
-    (Driver::Pool(16), "pool=16"),
-];
 
 /// The programs of the crowds, and what their flows do.
 const CROWDS: &[(&[u8], &str)] = &[
@@ -57,21 +46,23 @@ const CROWDS: &[(&[u8], &str)] = &[
     (READING, "readers"),
 ];
 
+/// What a try for a turn found.
+fn tell_turn<R: Print>(rt: &R, when: &str, found: Option<usize>) -> Result<(), Trouble> {
+    match found {
+        Some(entries) => println!(rt; "hall: a turn {when}, entries {entries}")?,
+        None => println!(rt; "hall: no turn {when}")?,
+    }
+    Ok(())
+}
+
 fn answer_hall<R: Wait + Print>(rt: &R, alloc: Global) -> Result<(), Trouble> {
     let tries = two_tries(rt, alloc)?;
     println!(rt;
         "hall: the first seat's flow made a step: {}",
         tries.stepped
     )?;
-    match tries.while_out {
-        Some(entries) => println!(rt; "hall: a turn while another is out, entries {entries}")?,
-        None => println!(rt; "hall: no turn while another is out")?,
-    }
-    match tries.once_given {
-        Some(entries) => println!(rt; "hall: a turn once the other was given, entries {entries}")?,
-        None => println!(rt; "hall: no turn once the other was given")?,
-    }
-    Ok(())
+    tell_turn(rt, "while another is out", tries.while_out)?;
+    tell_turn(rt, "once the other was given", tries.once_given)
 }
 
 fn answer_queue<R: Wait + Print>(rt: &R, alloc: Global) -> Result<(), Trouble> {
@@ -84,8 +75,8 @@ fn answer_queue<R: Wait + Print>(rt: &R, alloc: Global) -> Result<(), Trouble> {
     Ok(())
 }
 
-/// Programs that are driven to their ends.
-fn answer_programs<R: Threads + Wait + Sync + Print>(
+/// Random programs that are driven to their ends.
+fn answer_seeds<R: Threads + Wait + Sync + Print>(
     rt: &R,
     alloc: Global,
     driver: Driver,
@@ -93,6 +84,16 @@ fn answer_programs<R: Threads + Wait + Sync + Print>(
 ) -> Result<(), Trouble> {
     let kept = kept(rt, alloc, driver, SEEDS, TIMES)?;
     println!(rt; "{name}: {SEEDS} programs, {TIMES} times each: {kept} journals keep each rule")?;
+    Ok(())
+}
+
+/// Flows through nested nodes.
+fn answer_nested<R: Threads + Wait + Sync + Print>(
+    rt: &R,
+    alloc: Global,
+    driver: Driver,
+    name: &str,
+) -> Result<(), Trouble> {
     for flows in [0, 1, 65] {
         let nested = nested_kept(rt, alloc, driver, flows)?;
         println!(rt; "{name}: {flows} flows through nested nodes keep each rule: {nested}")?;
@@ -149,7 +150,8 @@ fn answer_crowds<R: Threads + Wait + Sync + Print>(
 /// The trials of each runtime.
 fn answer_drivers<R: Threads + Wait + Sync + Print>(rt: &R, alloc: Global) -> Result<(), Trouble> {
     for (driver, name) in DRIVERS {
-        answer_programs(rt, alloc, *driver, name)?;
+        answer_seeds(rt, alloc, *driver, name)?;
+        answer_nested(rt, alloc, *driver, name)?;
         answer_refusals(rt, alloc, *driver, name)?;
     }
     Ok(())
@@ -179,41 +181,6 @@ fn answer_all<R: Threads + Wait + Sync + Print + Files + Alloc>(
     answer_threads(rt, alloc)?;
     println!(rt; "no thread is left: {}", none_left(rt, threads))?;
     Ok(())
-}
-
-/// The words behind the program's own name.
-#[derive(Clone, Copy)]
-enum Words {
-    Trials,
-    Heavy {
-        driver: Driver,
-        flows: u32,
-        rounds: u64,
-    },
-}
-
-fn driver_of(word: &str) -> Result<Driver, Trouble> {
-    match word.as_bytes() {
-        b"event" => Ok(Driver::Event),
-        b"perflow" => Ok(Driver::PerFlow),
-        b"pool=1" => Ok(Driver::Pool(1)),
-        b"pool=2" => Ok(Driver::Pool(2)),
-        b"pool=4" => Ok(Driver::Pool(4)),
-        b"pool=16" => Ok(Driver::Pool(16)),
-        _ => Err(Trouble::Words),
-    }
-}
-
-fn read_words(words: &[String]) -> Result<Words, Trouble> {
-    match words {
-        [_] => Ok(Words::Trials),
-        [_, heavy, driver, flows, rounds] if heavy.as_str() == "heavy" => Ok(Words::Heavy {
-            driver: driver_of(driver.as_str())?,
-            flows: flows.as_str().parse::<u32>().map_err(|_| Trouble::Words)?,
-            rounds: rounds.as_str().parse::<u64>().map_err(|_| Trouble::Words)?,
-        }),
-        _ => Err(Trouble::Words),
-    }
 }
 
 fn words_of(rt: &HostRuntime) -> Result<Words, Trouble> {

@@ -1,16 +1,16 @@
 //! A library that answers want of memory once.
 
-use crate::building::{Opened, open};
-use crate::libraries::Burdened;
-use crate::programs::COUNTING;
-use crate::runs::{Driver, drive};
-use crate::troubles::Trouble;
-use flow_core::OpenGate;
+use crate::burdens::Burden;
+use crate::runs::{Driver, drive, ended_in};
+use flow_core::{Core, OpenGate};
+use flux_library::Library;
 use plain_journals::Given;
 use std::alloc::Global;
-use std::marker::Sync;
+use std::marker::{Send, Sync};
 use std::sync::Wait;
 use std::thread::Threads;
+use trial_ends::Trouble;
+use trial_programs::{COUNTING, Watched, open};
 
 /// What came of two drives.
 #[derive(Clone, Copy, Debug)]
@@ -18,6 +18,18 @@ pub struct Drives {
     pub first_stopped: bool,
     /// How many flows have ended behind the second.
     pub ended: u32,
+}
+
+/// Drives a core, and says whether it stopped before its end.
+fn drive_on<L: Library + Send + Sync, R: Threads + Wait + Sync>(
+    rt: &R,
+    driver: Driver,
+    core: Core<L>,
+) -> (bool, Core<L>) {
+    match drive(rt, driver, core, &OpenGate) {
+        Ok(core) => (false, core),
+        Err(stopped) => (true, stopped.core),
+    }
 }
 
 /// Drives four flows, of which one call is refused, and then drives the core again.
@@ -31,17 +43,15 @@ pub fn driven_twice<R: Threads + Wait + Sync>(
         source: 0,
         number: 1,
     }; 4];
-    let library = Burdened::refusing(call);
-    let Opened { core, program: _ } = open(alloc, COUNTING, &given, library)?;
-    let (first_stopped, core) = match drive(rt, driver, core, &OpenGate) {
-        Ok(core) => (false, core),
-        Err(stopped) => (true, stopped.core),
-    };
-    match drive(rt, driver, core, &OpenGate) {
-        Ok(core) => Ok(Drives {
-            first_stopped,
-            ended: core.flows().saturating_sub(core.live()),
-        }),
-        Err(_) => Err(Trouble::Memory),
+    let watcher = Burden::refusing(call);
+    let core = open(alloc, COUNTING, &given, Watched { watcher })?.core;
+    let (first_stopped, core) = drive_on(rt, driver, core);
+    let (second_stopped, core) = drive_on(rt, driver, core);
+    if second_stopped {
+        return Err(Trouble::Memory);
     }
+    Ok(Drives {
+        first_stopped,
+        ended: ended_in(&core),
+    })
 }

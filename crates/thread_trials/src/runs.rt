@@ -1,12 +1,10 @@
 //! Cores that are driven by threads.
 
-use crate::building::{Opened, open};
 use crate::gates::Holding;
-use crate::programs::{Dice, FREE, NESTED, text_of};
-use crate::troubles::Trouble;
 use flow_core::{Core, Gate, OpenGate, Stopped};
+use flow_model::Journal;
 use flux_library::Library;
-use flux_values::List;
+use flux_model::Program;
 use nodes_counter::Counter;
 use plain_journals::{Given, check_journal};
 use rt_event::EventLoop;
@@ -14,8 +12,10 @@ use rt_perflow::PerFlow;
 use rt_pool::Pool;
 use std::alloc::Global;
 use std::marker::{Send, Sync};
-use std::sync::Wait;
+use std::sync::{Arc, Wait};
 use std::thread::Threads;
+use trial_ends::Trouble;
+use trial_programs::{FREE, NESTED, Opened, numbers, numbers_of, open, text_of};
 
 /// Which runtime.
 #[derive(Clone, Copy, Debug)]
@@ -43,53 +43,57 @@ pub fn drive<L: Library + Send + Sync, G: Gate + Sync, R: Threads + Wait + Sync>
     }
 }
 
-/// A core of the text's program with a flow for each number, driven to its end.
-pub fn driven<G: Gate + Sync, R: Threads + Wait + Sync>(
+/// How many flows of a core have ended.
+pub fn ended_in<L: Library>(core: &Core<L>) -> u32 {
+    core.flows().saturating_sub(core.live())
+}
+
+/// What came of flows that were driven to their ends.
+#[derive(Drop)]
+pub struct Run {
+    pub journal: Journal,
+    pub program: Arc<Program>,
+    /// How many flows have ended.
+    pub ended: u32,
+}
+
+fn run_of<L: Library>(core: Core<L>, program: Arc<Program>) -> Run {
+    let ended = ended_in(&core);
+    let (journal, _) = core.into_parts();
+    Run {
+        journal,
+        program,
+        ended,
+    }
+}
+
+/// A core of the text's program with a flow for each number is driven to its end.
+pub fn run<G: Gate + Sync, R: Threads + Wait + Sync>(
     rt: &R,
     alloc: Global,
     driver: Driver,
     text: &[u8],
     given: &[Given],
     gate: &G,
-) -> Result<Opened<Counter>, Trouble> {
+) -> Result<Run, Trouble> {
     let Opened { core, program } = open(alloc, text, given, Counter)?;
     match drive(rt, driver, core, gate) {
-        Ok(core) => Ok(Opened { core, program }),
+        Ok(core) => Ok(run_of(core, program)),
         Err(_) => Err(Trouble::Memory),
     }
 }
 
-/// The journal of driven flows is what plain lists say that it must be.
-fn keeps_rules(alloc: Global, opened: Opened<Counter>, given: &[Given]) -> bool {
-    let Opened { core, program } = opened;
-    let (journal, _) = core.into_parts();
-    check_journal(alloc, &program, given, journal.entries.as_slice()).is_ok()
-}
-
-/// The numbers of so many flows: each is seven more than the one before, without its tens.
-pub fn given(alloc: Global, flows: u32) -> Result<List<Given>, Trouble> {
-    let mut all = List::new(alloc);
-    for flow in 0..flows {
-        all.add(Given {
-            source: 0,
-            number: (3 + 7 * flow as i64) % 10,
-        })?;
-    }
-    Ok(all)
-}
-
-/// The numbers of a seed's flows: up to eight, of four sessions.
-fn given_of(alloc: Global, seed: u32) -> Result<List<Given>, Trouble> {
-    let mut dice = Dice::of(seed);
-    let flows = 1 + dice.roll(8);
-    let mut all = List::new(alloc);
-    for _flow in 0..flows {
-        all.add(Given {
-            source: 0,
-            number: dice.roll(4) as i64,
-        })?;
-    }
-    Ok(all)
+/// Whether the journal of driven flows is what plain lists say that it must be.
+fn keeps_rules<R: Threads + Wait + Sync>(
+    rt: &R,
+    alloc: Global,
+    driver: Driver,
+    text: &[u8],
+    given: &[Given],
+) -> Result<bool, Trouble> {
+    let run = run(rt, alloc, driver, text, given, &OpenGate)?;
+    let entries = run.journal.entries.as_slice();
+    Ok(check_journal(alloc, &run.program, given, entries).is_ok())
 }
 
 /// Of so many drives of a seed's program, how many made a journal that keeps each rule.
@@ -101,12 +105,10 @@ fn kept_of<R: Threads + Wait + Sync>(
     times: u32,
 ) -> Result<u32, Trouble> {
     let text = text_of(alloc, seed)?;
-    let given = given_of(alloc, seed)?;
+    let given = numbers_of(alloc, seed)?;
     let mut kept: u32 = 0;
     for _time in 0..times {
-        let text = text.as_bytes();
-        let opened = driven(rt, alloc, driver, text, given.as_slice(), &OpenGate)?;
-        if keeps_rules(alloc, opened, given.as_slice()) {
+        if keeps_rules(rt, alloc, driver, text.as_bytes(), given.as_slice())? {
             kept = kept.saturating_add(1);
         }
     }
@@ -135,9 +137,8 @@ pub fn nested_kept<R: Threads + Wait + Sync>(
     driver: Driver,
     flows: u32,
 ) -> Result<bool, Trouble> {
-    let given = given(alloc, flows)?;
-    let opened = driven(rt, alloc, driver, NESTED, given.as_slice(), &OpenGate)?;
-    Ok(keeps_rules(alloc, opened, given.as_slice()))
+    let given = numbers(alloc, flows)?;
+    keeps_rules(rt, alloc, driver, NESTED, given.as_slice())
 }
 
 /// Whether the first call of two flows was held until the other flow called.
@@ -146,8 +147,8 @@ pub fn calls_held<R: Threads + Wait + Sync>(
     alloc: Global,
     driver: Driver,
 ) -> Result<bool, Trouble> {
-    let given = given(alloc, 2)?;
+    let given = numbers(alloc, 2)?;
     let gate = Holding::new();
-    driven(rt, alloc, driver, FREE, given.as_slice(), &gate)?;
+    drop(run(rt, alloc, driver, FREE, given.as_slice(), &gate)?);
     Ok(gate.was_seen())
 }

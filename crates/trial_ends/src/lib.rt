@@ -1,27 +1,31 @@
-//! Why a trial came to no end.
+//! Why a program for trials came to no end, and the status that it ends with then.
+#![tactic(auto)]
+
+ghost use Rattle.std.specs.Prelude.{◌<◌};
 
 use flux_values::Memory;
 use std::alloc::{AllocError, AllocFailed};
 use std::io::{self, ErrorKind};
 
+/// Why a trial came to no end.
 #[derive(Clone, Copy, Debug, PartialEq, Eq)]
 pub enum Trouble {
+    /// What is tried isn't as it must be, or can't be tried.
+    Wrong,
     /// The words are none that are known.
     Words,
-    /// The text has a fault, there is no such source, or there are too many flows.
-    Text,
-    /// A free turn, or the first number of a queue, was not got.
-    Turn,
     /// Words or output failed.
     System,
     Memory,
 }
 
 impl Trouble {
-    /// The status that the program ends with.
-    pub fn code(self) -> u8 {
+    /// The status that the program ends with, which is never that of success.
+    pub fn code(self) -> u8
+        ensures { 0 < result }
+    {
         match self {
-            Trouble::Text | Trouble::Turn => 1,
+            Trouble::Wrong => 1,
             Trouble::Words => 2,
             Trouble::System => 6,
             Trouble::Memory => 12,

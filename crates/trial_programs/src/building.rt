@@ -1,14 +1,15 @@
 //! From a text and the numbers that its sources give to a core whose flows have done nothing.
 
 ghost use Rattle.std.specs.Prelude.{◌≡◌, ◌≤◌, IfOk, length};
+ghost use Rattle.std.specs.Arc.{arc_value};
 ghost use Rattle.std.specs.List.{AllByRecursion};
 ghost use Rattle.flux_model.specs.Kinds.{kinds_at};
 ghost use Rattle.flux_model.specs.Items.{IsItemFor};
 ghost use Rattle.flux_model.specs.Names.{IsNamed};
 ghost use Rattle.flux_model.specs.Numbered.{IsNumbered};
 ghost use Rattle.flux_model.specs.Soundness.{IsSound};
+ghost use Rattle.flow_state.specs.States.{MayRun};
 
-use crate::troubles::Trouble;
 use flow_core::{Core, Setup};
 use flux_cells::Cells;
 use flux_check::check;
@@ -16,19 +17,22 @@ use flux_compile::compile;
 use flux_faults::CheckFault;
 use flux_hoist::Checked;
 use flux_library::Library;
-use flux_model::{Item, SourceNo};
+use flux_model::{Item, Program, SourceNo};
+use flux_plan::VerifiedPlan;
 use flux_values::{Kind, List, Memory, Value};
+use plain_journals::Given;
 use std::alloc::Global;
 use std::sync::Arc;
+use trial_ends::Trouble;
 
 /// The most flows of a core.
 const FLOW_LIMIT: usize = 4_096;
 
-/// A number that a source gives.
-#[derive(Clone, Copy, Debug)]
-pub struct Given {
-    pub source: u32,
-    pub number: i64,
+/// A core, and its program once more.
+#[derive(Drop)]
+pub struct Opened<L: Library> {
+    pub core: Core<L>,
+    pub program: Arc<Program>,
 }
 
 /// The text's program with what is found of it.
@@ -41,7 +45,7 @@ pub fn checked_of<L: Library>(alloc: Global, text: &[u8], library: &L) -> Result
     match check(alloc, text, library) {
         Ok(checked) => Ok(checked),
         Err(CheckFault::Memory) => Err(Trouble::Memory),
-        Err(CheckFault::Static(_)) => Err(Trouble::Text),
+        Err(CheckFault::Static(_)) => Err(Trouble::Wrong),
     }
 }
 
@@ -50,16 +54,16 @@ fn item_of(alloc: Global, checked: &Checked, given: Given) -> Result<Item, Troub
     ensures { IfOk result (IsItemFor checked.now.program (kinds_at checked.now.sigs.nodes)) }
 {
     let Some(line) = checked.program.sources.get(given.source as usize) else {
-        return Err(Trouble::Text);
+        return Err(Trouble::Wrong);
     };
     let Some(sig) = checked.sigs.nodes.get(line.node.0 as usize) else {
-        return Err(Trouble::Text);
+        return Err(Trouble::Wrong);
     };
     let [out] = sig.outs.as_slice() else {
-        return Err(Trouble::Text);
+        return Err(Trouble::Wrong);
     };
     if out.kind != Kind::Int {
-        return Err(Trouble::Text);
+        return Err(Trouble::Wrong);
     }
     let mut values = List::new(alloc);
     values.add(Value::Int(given.number))?;
@@ -76,7 +80,7 @@ fn items_of(alloc: Global, checked: &Checked, given: &[Given]) -> Result<List<It
     ensures few { IfOk result (λ items. length items ≤ 4096) }
 {
     if given.len() > FLOW_LIMIT {
-        return Err(Trouble::Text);
+        return Err(Trouble::Wrong);
     }
     let mut items = List::new(alloc);
     for one in given {
@@ -85,22 +89,40 @@ fn items_of(alloc: Global, checked: &Checked, given: &[Given]) -> Result<List<It
     Ok(items)
 }
 
-/// A core of the text's program, with a flow for each number.
-pub fn core_of<L: Library>(
+/// A core of a program that may be run.
+fn core_of<L: Library>(
     alloc: Global,
-    text: &[u8],
-    given: &[Given],
+    program: Arc<Program>,
+    plans: List<VerifiedPlan>,
+    items: List<Item>,
     library: L,
-) -> Result<Core<L>, Trouble> {
-    let checked = checked_of(alloc, text, &library)?;
-    let plans = compile(alloc, &checked)?;
-    let items = items_of(alloc, &checked, given)?;
+) -> Result<Core<L>, Memory>
+    requires { MayRun (L.meaning library) (arc_value program) plans items }
+{
     let setup = Setup {
-        program: Arc::new(alloc, checked.program)?,
+        program,
         plans: Arc::new(alloc, plans)?,
         items,
         opening: Cells::new(alloc),
         library: Arc::new(alloc, library)?,
     };
-    Ok(Core::new(alloc, setup)?)
+    Core::new(alloc, setup)
+}
+
+/// A core of the text's program, with a flow for each number.
+pub fn open<L: Library>(
+    alloc: Global,
+    text: &[u8],
+    given: &[Given],
+    library: L,
+) -> Result<Opened<L>, Trouble> {
+    let checked = checked_of(alloc, text, &library)?;
+    let plans = compile(alloc, &checked)?;
+    let items = items_of(alloc, &checked, given)?;
+    let program = Arc::new(alloc, checked.program)?;
+    let kept = Arc::try_clone(&program)?;
+    Ok(Opened {
+        core: core_of(alloc, program, plans, items, library)?,
+        program: kept,
+    })
 }

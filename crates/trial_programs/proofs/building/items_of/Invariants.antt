@@ -2,7 +2,7 @@ use Rattle.std.proofs.Common.{◌≡◌, length}
 use Rattle.std.specs.List.{AllByRecursion}
 use Rattle.flux_model.specs.Kinds.{kinds_at}
 use Rattle.flux_model.specs.Items.{IsItemFor}
-use Rattle.thread_trials.proofs.building.items_of.Given as goal
+use Rattle.trial_programs.proofs.building.items_of.Given as goal
 
 -- so many items, each of its source
 abbrev pub invariant-loop-one : goal.invariant-loop-one

@@ -1,27 +1,11 @@
-//! The programs of the trials.
+//! Random programs, each made of a seed.
 
 ghost use Rattle.std.specs.Prelude.{◌<◌};
 
+use flux_values::List;
+use plain_journals::Given;
 use std::alloc::{AllocError, Global};
-
-/// Flows that take nothing.
-pub const FREE: &[u8] = b"Tick () => (int n);\nPass (int n) => (int n);\nsource Tick => Pass;\n";
-
-/// All flows count in one cell.
-pub const COUNTING: &[u8] =
-    b"Tick () => (int n);\nAdd (int n) => (int n);\nsource Tick => Add;\natomic Add:{counter};\n";
-
-/// Each flow counts in the cell of its session.
-pub const SESSIONS: &[u8] =
-    b"Tick () => (int n);\nBump (int n) => (int n);\nsource Tick => Bump;\nsession Tick => ByNumber;\natomic Bump:{visits(session)};\n";
-
-/// All flows read one cell.
-pub const READING: &[u8] =
-    b"Tick () => (int n);\nRead (int n) => (int n);\nsource Tick => Read;\natomic Read:{counter?};\n";
-
-/// Nested flows with cases, readers, writers and sessions, and a counter that all share.
-pub const NESTED: &[u8] =
-    b"Tick () => (int n);\nPass (int n) => (int n);\nAdd (int n) => (int n);\nBump (int n) => (int n);\ntypedef zero IsZero;\nsource Tick => Load;\nsession Tick => ByNumber;\nLoad:[zero] = Pass;\nLoad:[_] = Visit -> Add;\nVisit = Bump;\natomic Load:{aisle?};\natomic Visit:{zone?};\natomic Bump:{visits(session)};\natomic Add:{counter};\n";
+use trial_ends::Trouble;
 
 /// What the texts of seeds begin with.
 const HEAD: &str =
@@ -32,18 +16,18 @@ const LEVELS: u32 = 4;
 
 /// Numbers that a seed leads to.
 #[derive(Drop)]
-pub struct Dice {
+struct Dice {
     state: u64,
 }
 
 impl Dice {
-    pub fn of(seed: u32) -> Dice {
+    fn of(seed: u32) -> Dice {
         Dice {
             state: 1_000_003u64.wrapping_mul(u64::from(seed)),
         }
     }
 
-    pub fn roll(&mut self, sides: u64) -> u64
+    fn roll(&mut self, sides: u64) -> u64
         requires { 0 < sides }
         ensures { result < sides }
     {
@@ -55,6 +39,7 @@ impl Dice {
     }
 }
 
+/// A node without cases.
 fn node_of(roll: u64) -> &'static str {
     match roll {
         0 => "Pass",
@@ -94,4 +79,18 @@ pub fn text_of(alloc: Global, seed: u32) -> Result<String, AllocError> {
     let last = format!(in alloc; "Level{LEVELS} = {};\n", node_of(dice.roll(4)))?;
     text.push_str(last.as_str())?;
     Ok(text)
+}
+
+/// The numbers of a seed's flows: up to eight, of four sessions.
+pub fn numbers_of(alloc: Global, seed: u32) -> Result<List<Given>, Trouble> {
+    let mut dice = Dice::of(seed);
+    let flows = 1 + dice.roll(8);
+    let mut all = List::new(alloc);
+    for _flow in 0..flows {
+        all.add(Given {
+            source: 0,
+            number: dice.roll(4) as i64,
+        })?;
+    }
+    Ok(all)
 }

@@ -1,5 +1,0 @@
-use Rattle.flux_compile.proofs.Apart.{sound_apart}
-use Rattle.flow_trials.proofs.building.core_of.Goals as goal
-
-pub compile-requires : goal.compile-requires
-compile-requires g c = record { apart = sound_apart _ _ _ c.in_ok-checked.ensures.sound }

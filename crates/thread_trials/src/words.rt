@@ -1,0 +1,51 @@
+//! What the words behind the program's own name ask for.
+
+use crate::runs::Driver;
+use trial_ends::Trouble;
+
+/// The runtimes that are tried, and their names.
+pub const DRIVERS: &[(Driver, &str)] = &[
+    (Driver::Event, "event"),
+    (Driver::PerFlow, "perflow"),
+    (Driver::Pool(1), "pool=1"),
+    (Driver::Pool(2), "pool=2"),
+    (Driver::Pool(4), "pool=4"),
+    (Driver::Pool(16), "pool=16"),
+];
+
+#[derive(Clone, Copy)]
+pub enum Words {
+    Trials,
+    Heavy {
+        driver: Driver,
+        flows: u32,
+        rounds: u64,
+    },
+}
+
+fn driver_of(word: &str) -> Result<Driver, Trouble> {
+    for (driver, name) in DRIVERS {
+        if *name == word {
+            return Ok(*driver);
+        }
+    }
+    Err(Trouble::Words)
+}
+
+fn heavy_of(driver: &str, flows: &str, rounds: &str) -> Result<Words, Trouble> {
+    Ok(Words::Heavy {
+        driver: driver_of(driver)?,
+        flows: flows.parse::<u32>().map_err(|_| Trouble::Words)?,
+        rounds: rounds.parse::<u64>().map_err(|_| Trouble::Words)?,
+    })
+}
+
+pub fn read_words(words: &[String]) -> Result<Words, Trouble> {
+    match words {
+        [_] => Ok(Words::Trials),
+        [_, heavy, driver, flows, rounds] if heavy.as_str() == "heavy" => {
+            heavy_of(driver.as_str(), flows.as_str(), rounds.as_str())
+        }
+        _ => Err(Trouble::Words),
+    }
+}
