@@ -31,16 +31,17 @@ module _ {L : Type 0} (see : L → Seen) (wanted : ℕ) (some : 0 < wanted) wher
     batches = [];
     mid = sight;
     served = refl;
-    ended = (some, inl (record { came = []; backs = []; formed = inr refl; back = back_none sight.taken_back; unwritten = tt; steady = refl; log_ = refl }));
+    ended = (some, inl (record { came = []; backs = []; formed = inr (refl, refl, refl); size = omega arith; back = back_none sight.taken_back; unwritten = tt; steady = refl; log_ = refl }));
   }
 
   -- the door failed to open
-  pub unopened : (service : Service) (before after : Sight L) → Rose before.faults after.faults → after.taken_back ≡ before.taken_back → after.log ≡ before.log → HasServed see service wanted before after Door
-  unopened service before after rose back log_ = record {
+  pub unopened : (service : Service) (before after : Sight L) → Rose before.faults after.faults → after.taken_back ≡ before.taken_back → after.log ≡ before.log → after.to_come ≡ before.to_come
+      → after.late ≡ before.late → HasServed see service wanted before after Door
+  unopened service before after rose back log_ come late = record {
     batches = [];
     mid = before;
     served = refl;
-    ended = (some, (rose, back, log_));
+    ended = (some, (rose, back, log_, come, late));
   }
 
 -- ---- the same service, from the same sight

@@ -11,6 +11,7 @@ returns-in-Err-clause-served g c = unplanned _ _ c.requires.some _ _
 
 pub returns-in-Err-open-clause-served : goal.returns-in-Err-open-clause-served
 returns-in-Err-open-clause-served g c = unopened _ _ c.requires.some _ _ _ (let cause = c.in-Err-open.ensures.cause in cause.failed) c.open.ensures.kept.1 refl
+    c.open.ensures.kept.0 c.open.ensures.late
 
 pub returns-in-Err-clause-opened : goal.returns-in-Err-clause-opened
 returns-in-Err-clause-opened g c = inr (tt, refl)
