@@ -3,7 +3,7 @@
 ghost use Rattle.std.specs.Prelude.{◌≡◌, IfOk};
 ghost use Rattle.flux_doors.specs.Memory.{door_out};
 
-use crate::parts::{files_of, store_with};
+use crate::parts::{Parts, files_of, folder_with, store_with};
 use crate::watched::WatchedStore;
 use case_files::Case;
 use flux_doors::MemoryDoor;
@@ -37,7 +37,7 @@ pub fn audit_words(alloc: Global, words: &[Bytes]) -> Result<List<Bytes>, Memory
 }
 
 /// The files of a case, and the journal.
-pub fn audit_store(alloc: Global, case: &Case, journal: &[u8]) -> Result<WatchedStore, Memory> {
+fn audit_store(alloc: Global, case: &Case, journal: &[u8]) -> Result<WatchedStore, Memory> {
     let mut files = files_of(alloc, case)?;
     files.add(FileBytes {
         name: Bytes::copy(alloc, JOURNAL)?,
@@ -47,13 +47,26 @@ pub fn audit_store(alloc: Global, case: &Case, journal: &[u8]) -> Result<Watched
 }
 
 /// A stream with room for a verdict.
-pub fn verdict_sink(alloc: Global) -> Result<MemorySink, Memory> {
+fn verdict_sink(alloc: Global) -> Result<MemorySink, Memory> {
     MemorySink::new(alloc, ROOM, ROOM, List::new(alloc))
 }
 
 /// A door that nobody comes to.
-pub fn empty_door(alloc: Global) -> Result<MemoryDoor, Memory>
+fn empty_door(alloc: Global) -> Result<MemoryDoor, Memory>
     ensures { IfOk result (λ door. door_out door ≡ 0) }
 {
     MemoryDoor::new(alloc, List::new(alloc), List::new(alloc))
+}
+
+/// The parts of a world with a case's files and documents and the journal, in which nothing fails.
+pub fn audit_parts(alloc: Global, case: &Case, journal: &[u8]) -> Result<Parts, Memory>
+    ensures { IfOk result (λ parts. door_out parts.door ≡ 0) }
+{
+    Ok(Parts {
+        store: audit_store(alloc, case, journal)?,
+        folder: folder_with(alloc, case, List::new(alloc))?,
+        out: verdict_sink(alloc)?,
+        err: verdict_sink(alloc)?,
+        door: empty_door(alloc)?,
+    })
 }

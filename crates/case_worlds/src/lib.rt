@@ -11,9 +11,8 @@ mod comparing;
 mod parts;
 mod watched;
 
-pub use audits::{audit_store, audit_words, empty_door, verdict_sink};
+pub use audits::{audit_parts, audit_words};
 pub use calls::{CountingGate, is_command};
-pub use clients::door_of;
 pub use comparing::{compare_gains, compare_links, compare_names, compare_told};
-pub use parts::{err_of, folder_of, folder_with, out_of, store_of};
+pub use parts::{Parts, parts_of};
 pub use watched::{WatchedFolder, WatchedStore};

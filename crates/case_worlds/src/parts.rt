@@ -1,13 +1,41 @@
 //! The parts of the world in memory that a case speaks of.
 
+ghost use Rattle.std.specs.Prelude.{◌≡◌, IfOk};
+ghost use Rattle.flux_doors.specs.Memory.{door_out};
+
+use crate::clients::door_of;
 use crate::watched::{Names, WatchedFolder, WatchedStore};
 use case_files::{Case, Entry, Part, Shape, Stream};
+use flux_doors::MemoryDoor;
 use flux_outside::{FileBytes, MemoryFolder, MemorySink, MemoryStore};
 use flux_values::{Bytes, List, Memory};
 use std::alloc::Global;
 
 /// How many bytes a stream has room for, and takes a call, where a case says nothing of it.
 const ROOM: usize = 16_777_216;
+
+/// A store and a folder, which are watched, two streams, and a door.
+#[derive(Drop)]
+pub struct Parts {
+    pub store: WatchedStore,
+    pub folder: WatchedFolder,
+    pub out: MemorySink,
+    pub err: MemorySink,
+    pub door: MemoryDoor,
+}
+
+/// The parts of the world that a case's command line meets. No link of its door is out yet.
+pub fn parts_of(alloc: Global, case: &Case) -> Result<Parts, Memory>
+    ensures { IfOk result (λ parts. door_out parts.door ≡ 0) }
+{
+    Ok(Parts {
+        store: store_of(alloc, case)?,
+        folder: folder_of(alloc, case)?,
+        out: out_of(alloc, case)?,
+        err: err_of(alloc, case)?,
+        door: door_of(alloc, case)?,
+    })
+}
 
 /// The files that are there.
 pub fn files_of(alloc: Global, case: &Case) -> Result<List<FileBytes>, Memory> {
@@ -32,17 +60,13 @@ pub fn store_with(alloc: Global, files: List<FileBytes>, fails: List<u64>) -> Wa
 }
 
 /// The store of a case.
-pub fn store_of(alloc: Global, case: &Case) -> Result<WatchedStore, Memory> {
+fn store_of(alloc: Global, case: &Case) -> Result<WatchedStore, Memory> {
     let fails = case.fails(alloc, Part::Store)?;
     Ok(store_with(alloc, files_of(alloc, case)?, fails))
 }
 
 /// The folder that is there, of which these calls fail.
-pub fn folder_with(
-    alloc: Global,
-    case: &Case,
-    fails: List<u64>,
-) -> Result<WatchedFolder, Memory> {
+pub fn folder_with(alloc: Global, case: &Case, fails: List<u64>) -> Result<WatchedFolder, Memory> {
     let mut docs = List::new(alloc);
     for line in case.own.iter().chain(case.shared) {
         if let Entry::Documents(documents) = &line.entry {
@@ -58,7 +82,7 @@ pub fn folder_with(
 }
 
 /// The folder of a case.
-pub fn folder_of(alloc: Global, case: &Case) -> Result<WatchedFolder, Memory> {
+fn folder_of(alloc: Global, case: &Case) -> Result<WatchedFolder, Memory> {
     folder_with(alloc, case, case.fails(alloc, Part::Folder)?)
 }
 
@@ -69,11 +93,19 @@ fn sink(alloc: Global, shape: Shape, fails: List<u64>) -> Result<MemorySink, Mem
 }
 
 /// The output of a case.
-pub fn out_of(alloc: Global, case: &Case) -> Result<MemorySink, Memory> {
-    sink(alloc, case.out, case.fails(alloc, Part::Stream(Stream::Out))?)
+fn out_of(alloc: Global, case: &Case) -> Result<MemorySink, Memory> {
+    sink(
+        alloc,
+        case.out,
+        case.fails(alloc, Part::Stream(Stream::Out))?,
+    )
 }
 
 /// The error stream of a case.
-pub fn err_of(alloc: Global, case: &Case) -> Result<MemorySink, Memory> {
-    sink(alloc, case.err, case.fails(alloc, Part::Stream(Stream::Err))?)
+fn err_of(alloc: Global, case: &Case) -> Result<MemorySink, Memory> {
+    sink(
+        alloc,
+        case.err,
+        case.fails(alloc, Part::Stream(Stream::Err))?,
+    )
 }

@@ -2,11 +2,11 @@
 
 ghost use Rattle.std.specs.Prelude.{◌≡◌};
 
-use crate::worlds::{Memories, audit_world, world_of};
+use crate::worlds::{Memories, world_from};
 use case_files::{Case, Differences, Entry, Line, Report, Trouble};
 use case_worlds::{
-    CountingGate, audit_words, compare_gains, compare_links, compare_names, compare_told,
-    is_command,
+    CountingGate, audit_parts, audit_words, compare_gains, compare_links, compare_names,
+    compare_told, is_command, parts_of,
 };
 use flux_doors::Door;
 use flux_driver::{World, needs_threads, top};
@@ -117,7 +117,7 @@ fn judge_words<Rt: Threads + Wait + Sync>(
     words: &[Bytes],
     differences: &mut Differences,
 ) -> Result<(), Memory> {
-    let mut world = world_of(alloc, case)?;
+    let mut world = world_from(parts_of(alloc, case)?);
     let gate = CountingGate::new();
     let status = answer(rt, alloc, words, &mut world, &gate);
     differences.compare_status(status, case.status.unwrap_or(0))?;
@@ -152,7 +152,7 @@ fn audit<Rt: Threads + Wait + Sync>(
     differences: &mut Differences,
 ) -> Result<(), Memory> {
     let words = audit_words(alloc, words)?;
-    let mut world = audit_world(alloc, case, journal)?;
+    let mut world = world_from(audit_parts(alloc, case, journal)?);
     let gate = CountingGate::new();
     let status = answer(rt, alloc, words.as_slice(), &mut world, &gate);
     if status == 0 && world.out.written().starts_with(b"ok ") {
