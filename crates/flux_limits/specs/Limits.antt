@@ -7,7 +7,9 @@ use Rattle.flux_lexer.specs.declared.reading.TheConstants.{PROGRAM_LIMIT}
 use Rattle.flux_library.specs.declared.documents.TheConstants.{BODY_LIMIT}
 use Rattle.flux_items.specs.declared.rules.TheConstants.{ITEM_LIMIT, SIZE_LIMIT}
 use Rattle.flux_docs.specs.declared.reading.TheConstants.{DOC_LIMIT, BODIES_LIMIT}
+use Rattle.flux_doors.specs.declared.doors.TheConstants.{OUT_LIMIT}
 use Rattle.flux_words.specs.declared.values.TheConstants.{DIGIT_LIMIT, NUMBER_LIMIT, WORKER_LIMIT}
+use Rattle.flux_words.specs.declared.values.TheConstants.{PORT_LIMIT, BATCHES_LIMIT}
 use Rattle.flux_words.specs.declared.loads.TheConstants.{LOAD_LIMIT, FIRST_LIMIT}
 use Rattle.flux_driver.specs.declared.files.TheConstants.{PROGRAM_FILE_LIMIT, ITEMS_FILE_LIMIT, JOURNAL_FILE_LIMIT}
 use Rattle.nodes_cache.specs.declared.entries.TheConstants.{NAME_LIMIT, ENTRY_LIMIT}
@@ -37,16 +39,23 @@ pub record AreValueLimits : Type 0 where
   pub place : PLACE_LIMIT ≡ 4294967295
 
 -- in the words of a command: digits of a number, the highest number of a flow, the most workers of a
--- pool, the most items of a load and the highest number that they may be made from
+-- pool, the most items of a load and the highest number that they may be made from, the highest port,
+-- the most batches
 pub record AreWordLimits : Type 0 where
   pub digits : DIGIT_LIMIT ≡ 10
   pub flow : NUMBER_LIMIT ≡ 4095
   pub workers : WORKER_LIMIT ≡ 16
   pub load : LOAD_LIMIT ≡ 4096
   pub first : FIRST_LIMIT ≡ 4294967295
+  pub port : PORT_LIMIT ≡ 65535
+  pub batches : BATCHES_LIMIT ≡ 4294967295
 
 -- in nodes: bytes of a cached name, entries of a cache, fields of a request's head
 pub record AreNodeLimits : Type 0 where
   pub name : NAME_LIMIT ≡ 1024
   pub entries : ENTRY_LIMIT ≡ 8
   pub fields : FIELD_LIMIT ≡ 64
+
+-- at a door: links that are out
+pub record AreDoorLimits : Type 0 where
+  pub out : OUT_LIMIT ≡ 4096

@@ -1,0 +1,4 @@
+pub mod Doors
+pub mod Links
+pub mod Replies
+pub mod Serving

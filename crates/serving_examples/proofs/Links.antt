@@ -1,0 +1,31 @@
+-- Why these links fit, or don't.
+use Rattle.std.proofs.Common.{◌≡◌, ℕ, List, [], ◌∷◌, length, ap, refl, arith}
+use Rattle.serving_examples.specs.Links.{LinksFit, LinksMisfit}
+use Rattle.serving_examples.proofs.Doors.{rose}
+
+-- the first byte
+abbrev pub byte_of : List ℕ → ℕ
+byte_of [] = 0
+byte_of (b ∷ bytes) = b
+
+pub fit : LinksFit
+fit = record {
+  line = refl;
+  rest = refl;
+  head = refl;
+  sent = (refl, refl, refl);
+  failed = (rose, refl);
+  short = (refl, refl);
+  held = ((refl, refl, refl), refl);
+  items = refl;
+}
+
+pub misfit : LinksMisfit
+misfit = record {
+  line = λ is. let same : 5 ≡ 6 = ap length is in omega (arith, same);
+  sent = λ is. let same : 98 ≡ 97 = ap byte_of is.0 in omega (arith, same);
+  short = λ is. let same : 1 ≡ 0 = is.0 in omega (arith, same);
+  turned = λ are. let one = are.0 in let same : 98 ≡ 97 = ap byte_of one.0 in omega (arith, same);
+  lost = λ are. let same : 1 ≡ 0 = ap length are.1 in omega (arith, same);
+  items = λ is. let same : 0 ≡ 1 = ap length is in omega (arith, same);
+}

@@ -1,0 +1,5 @@
+pub mod Small
+pub mod Doors
+pub mod Links
+pub mod Replies
+pub mod Serving

@@ -1,0 +1,30 @@
+//! The examples, as the contracts of functions that do nothing.
+
+ghost use Rattle.serving_examples.specs.Doors.{DoorsFit, DoorsMisfit};
+ghost use Rattle.serving_examples.specs.Links.{LinksFit, LinksMisfit};
+ghost use Rattle.serving_examples.specs.Replies.{RepliesFit, RepliesMisfit};
+ghost use Rattle.serving_examples.specs.Serving.{ServingFits, ServingMisfits};
+
+/// What doors give, and which links make a batch.
+pub fn doors_by_example()
+    ensures fit { DoorsFit }
+    ensures misfit { DoorsMisfit }
+{}
+
+/// What links send, and which items that makes.
+pub fn links_by_example()
+    ensures fit { LinksFit }
+    ensures misfit { LinksMisfit }
+{}
+
+/// What links are written.
+pub fn replies_by_example()
+    ensures fit { RepliesFit }
+    ensures misfit { RepliesMisfit }
+{}
+
+/// Which programs are served, and how serving ends.
+pub fn serving_by_example()
+    ensures fit { ServingFits }
+    ensures misfit { ServingMisfits }
+{}
