@@ -1,6 +1,6 @@
 //! Many flows at once.
 
-use crate::runs::{Driver, run};
+use crate::runs::{Driver, run_text};
 use flow_core::OpenGate;
 use flow_model::{Entry, Event};
 use flux_values::{Put, Value};
@@ -51,7 +51,7 @@ pub fn drive_crowd<R: Threads + Wait + Sync>(
     flows: u32,
 ) -> Result<Crowd, Trouble> {
     let given = numbers(alloc, flows)?;
-    let run = run(rt, alloc, driver, text, given.as_slice(), &OpenGate)?;
+    let run = run_text(rt, alloc, driver, text, given.as_slice(), &OpenGate)?;
     Ok(Crowd {
         ended: run.ended,
         greatest: greatest_in(run.journal.entries.as_slice()),

@@ -68,7 +68,7 @@ fn run_of<L: Library>(core: Core<L>, program: Arc<Program>) -> Run {
 }
 
 /// A core of the text's program with a flow for each number is driven to its end.
-pub fn run<G: Gate + Sync, R: Threads + Wait + Sync>(
+pub fn run_text<G: Gate + Sync, R: Threads + Wait + Sync>(
     rt: &R,
     alloc: Global,
     driver: Driver,
@@ -91,7 +91,7 @@ fn keeps_rules<R: Threads + Wait + Sync>(
     text: &[u8],
     given: &[Given],
 ) -> Result<bool, Trouble> {
-    let run = run(rt, alloc, driver, text, given, &OpenGate)?;
+    let run = run_text(rt, alloc, driver, text, given, &OpenGate)?;
     let entries = run.journal.entries.as_slice();
     Ok(check_journal(alloc, &run.program, given, entries).is_ok())
 }
@@ -149,6 +149,6 @@ pub fn calls_held<R: Threads + Wait + Sync>(
 ) -> Result<bool, Trouble> {
     let given = numbers(alloc, 2)?;
     let gate = Holding::new();
-    drop(run(rt, alloc, driver, FREE, given.as_slice(), &gate)?);
+    drop(run_text(rt, alloc, driver, FREE, given.as_slice(), &gate)?);
     Ok(gate.was_seen())
 }
