@@ -1,5 +1,5 @@
 -- Cores that are opened with what a setup is made of.
-use Rattle.std.proofs.Common.{◌≡◌, ℕ, zero, suc, List, [], ◌∷◌, map, None, refl, sym, ap, subst, ◌∙◌}
+use Rattle.std.proofs.Common.{◌≡◌, ℕ, zero, suc, List, [], ◌∷◌, map, Option, None, refl, sym, ap, subst, ◌∙◌}
 use Rattle.std.specs.List.{slice_get}
 use Rattle.std.specs.Option.{option_flatten}
 use Rattle.std.specs.Arc.{arc_value}
@@ -13,8 +13,11 @@ use Rattle.flow_state.specs.States.{MayRun}
 use Rattle.flow_core.specs.States.{CoreState, begun_by, opened}
 use Rattle.simulation_trials.specs.Ready.{IsMadeOf, IsOpened}
 
-none-begun : (items : List Item) (flow : ℕ)
-    → option_flatten (slice_get (map (λ (item : Item). None {A = Inputs}) items) flow) ≡ None
+-- where no call is begun
+abbrev no_calls : List Item → List (Option Inputs)
+no_calls items = map (λ item. None) items
+
+none-begun : (items : List Item) (flow : ℕ) → option_flatten (slice_get (no_calls items) flow) ≡ None
 none-begun [] flow = refl
 none-begun (item ∷ items) zero = refl
 none-begun (item ∷ items) (suc flow) = none-begun items flow
