@@ -12,7 +12,10 @@ use flux_outside::{Folder, RealFolder, RealSink, RealStore, Sink, Store};
 use flux_values::{Bytes, List, Memory};
 use std::alloc::Global;
 use std::io::{ErrorKind, Stderr, Stdout};
+use std::marker::Sync;
 use std::process::ExitCode;
+use std::sync::Wait;
+use std::thread::Threads;
 use std::{env, io};
 
 /// The files, the folders, the two streams of the system, which differ in type, and its sockets.
@@ -76,18 +79,19 @@ fn exit_code(status: Status) -> ExitCode
 }
 
 /// Does what the words say in a world, whatever it is made of.
-fn answer_in<S: Store, F: Folder, O: Sink, E: Sink, D: Door>(
-    rt: &HostRuntime,
+fn answer_in<S: Store, F: Folder, O: Sink, E: Sink, D: Door, Rt: Threads + Wait + Sync>(
+    rt: &Rt,
+    alloc: Global,
     words: Result<List<Bytes>, Memory>,
     world: &mut Result<World<S, F, O, E, D>, Memory>,
 ) -> ExitCode
     requires { IfOk world.old (λ before. D.out before.door ≡ 0) }
 {
-    exit_code(answer(rt, rt.alloc(), words, world, &OpenGate))
+    exit_code(answer(rt, alloc, words, world, &OpenGate))
 }
 
 fn main(rt: HostRuntime) -> ExitCode {
     let words = read_words(rt.alloc(), &arguments(&rt));
     let mut world = outside(&rt);
-    answer_in(&rt, words, &mut world)
+    answer_in(&rt, rt.alloc(), words, &mut world)
 }
