@@ -1,0 +1,6 @@
+mod Cuts
+mod Numbers
+mod HashBytes
+mod Trees
+mod Places
+mod Yielded
