@@ -9,7 +9,7 @@ use flux_values::{Answer, CallResult, Put, Value};
 use std::alloc::Global;
 
 /// What a call comes to: a number, nothing or more, or a code.
-#[derive(Clone, Copy, Debug, PartialEq, Eq)]
+#[derive(Clone, Copy, PartialEq)]
 enum Comes {
     Number(i64),
     Nothing,
@@ -18,7 +18,7 @@ enum Comes {
 }
 
 /// What a call comes to, and the number that it puts.
-#[derive(Clone, Copy, Debug, PartialEq, Eq)]
+#[derive(Clone, Copy, PartialEq)]
 struct Answered {
     comes: Comes,
     put: Option<i64>,
@@ -28,16 +28,22 @@ struct Answered {
 fn expected(name: &[u8], given: i64, kept: i64) -> Option<Answered> {
     if name == b"Add".as_slice() {
         let sum = kept.checked_add(given);
-        let comes = sum.map_or(Comes::Code(1), Comes::Number);
-        Some(Answered { comes, put: sum })
+        Some(counted(sum, sum))
     } else if name == b"Bump".as_slice() {
-        let more = kept.checked_add(1);
-        let comes = more.map_or(Comes::Code(1), |_| Comes::Number(given));
-        Some(Answered { comes, put: more })
+        Some(counted(kept.checked_add(1), Some(given)))
     } else {
         let comes = expected_alone(name, given, kept)?;
         Some(Answered { comes, put: None })
     }
+}
+
+/// What a node comes to that puts a number, unless that is past all numbers.
+fn counted(put: Option<i64>, gives: Option<i64>) -> Answered {
+    let comes = match (put, gives) {
+        (Some(_), Some(number)) => Comes::Number(number),
+        _ => Comes::Code(1),
+    };
+    Answered { comes, put }
 }
 
 /// The same of a node that puts nothing.
@@ -107,10 +113,13 @@ struct Kept {
 
 impl Kept {
     fn at(&self, key: Option<Key>) -> i64 {
-        self.numbers
-            .iter()
-            .rfind(|(other, _)| Some(*other) == key)
-            .map_or(0, |(_, number)| *number)
+        let mut last = 0;
+        for (other, number) in &self.numbers {
+            if Some(*other) == key {
+                last = *number;
+            }
+        }
+        last
     }
 
     /// A call of a node that has a library name.

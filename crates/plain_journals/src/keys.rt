@@ -8,7 +8,7 @@ use flux_model::{ClassNo, FlowNo, Mode, NodeNo};
 use std::alloc::Global;
 
 /// A key that a flow holds, waits for or has in a section, and how.
-#[derive(Clone, Copy, Debug, PartialEq, Eq)]
+#[derive(Clone, Copy)]
 struct Claim {
     flow: FlowNo,
     key: Key,
@@ -24,12 +24,34 @@ impl Claim {
     }
 }
 
+/// Whether one of some claims keeps another from being had.
+fn are_barring(claims: &[Claim], claim: &Claim) -> bool {
+    for other in claims {
+        if other.bars(claim) {
+            return true;
+        }
+    }
+    false
+}
+
+/// Whether one of some claims is a flow's.
+fn have_flow(claims: &[Claim], flow: FlowNo) -> bool {
+    for claim in claims {
+        if claim.flow == flow {
+            return true;
+        }
+    }
+    false
+}
+
 /// What flows hold, which of them wait in the order of coming, which sections are open, and who has ended.
 #[derive(Drop)]
 struct Seen {
     held: Vec<Claim>,
     waiting: Vec<Claim>,
-    open: Vec<(NodeNo, Claim)>,
+    /// The nodes of the sections, and what each has, place by place.
+    inside: Vec<NodeNo>,
+    open: Vec<Claim>,
     ended: Vec<FlowNo>,
 }
 
@@ -51,30 +73,43 @@ impl Seen {
         Seen {
             held: Vec::new(alloc),
             waiting: Vec::new(alloc),
+            inside: Vec::new(alloc),
             open: Vec::new(alloc),
             ended: Vec::new(alloc),
         }
     }
 
     fn holds(&self, claim: &Claim) -> bool {
-        self.held
-            .iter()
-            .any(|held| held.flow == claim.flow && held.key == claim.key)
+        self.place_held(claim.flow, claim.key).is_some()
+    }
+
+    /// Where a flow's last hold of a key stands.
+    fn place_held(&self, flow: FlowNo, key: Key) -> Option<usize> {
+        let mut last = None;
+        for (place, held) in self.held.iter().enumerate() {
+            if held.flow == flow && held.key == key {
+                last = Some(place);
+            }
+        }
+        last
     }
 
     /// Whether another flow's hold keeps a claim from being taken.
     fn is_held_against(&self, claim: &Claim) -> bool {
-        self.held.iter().any(|held| held.bars(claim))
+        are_barring(&self.held, claim)
     }
 
     /// Whether another flow waits for the key and came first; whoever holds the key needn't care.
     fn is_late(&self, claim: &Claim) -> bool {
-        let is_behind = self
-            .waiting
-            .iter()
-            .take_while(|waiting| waiting.flow != claim.flow)
-            .any(|waiting| waiting.bars(claim));
-        is_behind && !self.holds(claim)
+        for waiting in &self.waiting {
+            if waiting.flow == claim.flow {
+                return false;
+            }
+            if waiting.bars(claim) {
+                return !self.holds(claim);
+            }
+        }
+        false
     }
 
     fn is_blocked(&self, claim: &Claim) -> bool {
@@ -82,7 +117,12 @@ impl Seen {
     }
 
     fn place_in_line(&self, flow: FlowNo) -> Option<usize> {
-        self.waiting.iter().position(|waiting| waiting.flow == flow)
+        for (place, waiting) in self.waiting.iter().enumerate() {
+            if waiting.flow == flow {
+                return Some(place);
+            }
+        }
+        None
     }
 
     fn take(&mut self, claim: Claim) -> Result<(), Wrong> {
@@ -92,7 +132,8 @@ impl Seen {
             && place < self.waiting.len()
         {
             let waiting = self.waiting.remove(place);
-            check_that(waiting == claim, Rule::TakeElsewhere)?;
+            let is_same = waiting.key == claim.key && waiting.mode == claim.mode;
+            check_that(is_same, Rule::TakeElsewhere)?;
         }
         Ok(self.held.push(claim)?)
     }
@@ -104,11 +145,7 @@ impl Seen {
     }
 
     fn drop_key(&mut self, flow: FlowNo, key: Key) -> Result<(), Wrong> {
-        let place = self
-            .held
-            .iter()
-            .rposition(|held| held.flow == flow && held.key == key);
-        match place {
+        match self.place_held(flow, key) {
             Some(place) if place < self.held.len() => {
                 let _ = self.held.remove(place);
                 Ok(())
@@ -118,9 +155,9 @@ impl Seen {
     }
 
     fn open(&mut self, node: NodeNo, claim: Claim) -> Result<(), Wrong> {
-        let is_barred = self.open.iter().any(|(_, open)| open.bars(&claim));
-        check_that(!is_barred, Rule::Section)?;
-        Ok(self.open.push((node, claim))?)
+        check_that(!are_barring(&self.open, &claim), Rule::Section)?;
+        self.inside.push(node)?;
+        Ok(self.open.push(claim)?)
     }
 
     /// A flow comes into a node: a section is open on each key of the constraints that the node itself declares.
@@ -136,14 +173,23 @@ impl Seen {
         Ok(())
     }
 
+    /// A flow leaves a node: its sections there are over.
     fn exit(&mut self, flow: FlowNo, node: NodeNo) {
-        self.open
-            .retain(|(entered, claim)| *entered != node || claim.flow != flow);
+        for place in (0..self.open.len()).rev() {
+            if place < self.inside.len()
+                && place < self.open.len()
+                && self.inside[place] == node
+                && self.open[place].flow == flow
+            {
+                let _ = self.inside.swap_remove(place);
+                let _ = self.open.swap_remove(place);
+            }
+        }
     }
 
     fn end(&mut self, flow: FlowNo) -> Result<(), Wrong> {
-        let holds = self.held.iter().any(|held| held.flow == flow);
-        let is_inside = self.open.iter().any(|(_, open)| open.flow == flow);
+        let holds = have_flow(&self.held, flow);
+        let is_inside = have_flow(&self.open, flow);
         check_that(!holds && !is_inside, Rule::End)?;
         Ok(self.ended.push(flow)?)
     }

@@ -19,7 +19,7 @@ pub use rules::{Rule, Wrong};
 use std::alloc::Global;
 
 /// A number that a source gives to a flow.
-#[derive(Clone, Copy, Debug)]
+#[derive(Clone, Copy)]
 pub struct Given {
     pub source: u32,
     pub number: i64,
@@ -35,10 +35,13 @@ struct Plain<'a> {
 
 /// Whether classes stand by name, and of one name the program-wide one first.
 fn is_rising(classes: &[Class]) -> bool {
-    classes.windows(2).all(|pair| match pair {
-        [a, b] => (a.name.as_bytes(), a.session) < (b.name.as_bytes(), b.session),
-        _ => false,
-    })
+    for pair in classes.windows(2) {
+        match pair {
+            [a, b] if (a.name.as_bytes(), a.session) < (b.name.as_bytes(), b.session) => {}
+            _ => return false,
+        }
+    }
+    true
 }
 
 /// Whether the entries are a whole and legal journal of the program's flows.

@@ -89,20 +89,20 @@ fn declared_by_all(nodes: &[Node], node: &Node, marks: &[bool], class: ClassNo) 
     mode
 }
 
+/// One more than the greatest class that a node declares, or 0.
+fn class_count(node: &Node) -> u32 {
+    let mut count: u32 = 0;
+    for hold in node.declared.as_slice() {
+        count = count.max(hold.class.0.saturating_add(1));
+    }
+    count
+}
+
 /// The locks of a node, in the order of classes.
 fn locks_of(alloc: Global, nodes: &[Node], node: &Node) -> Result<Vec<Hold>, Memory> {
     let mut locks = Vec::new(alloc);
-    let Some(greatest) = node
-        .declared
-        .as_slice()
-        .iter()
-        .map(|hold| hold.class.0)
-        .max()
-    else {
-        return Ok(locks);
-    };
     let marks = below(alloc, nodes, node)?;
-    for number in 0..=greatest {
+    for number in 0..class_count(node) {
         let class = ClassNo(number);
         if let Some(mode) = declared_by_all(nodes, node, marks.as_slice(), class) {
             locks.push(Hold { class, mode })?;

@@ -4,7 +4,7 @@ use flux_values::Memory;
 use std::alloc::{AllocError, AllocFailed};
 
 /// What is wrong with a journal.
-#[derive(Clone, Copy, Debug, PartialEq, Eq)]
+#[derive(Clone, Copy)]
 pub enum Rule {
     /// The program's classes don't stand by name.
     ClassOrder,
@@ -35,7 +35,7 @@ pub enum Rule {
 }
 
 /// A broken rule, or want of memory.
-#[derive(Clone, Copy, Debug, PartialEq, Eq)]
+#[derive(Clone, Copy)]
 pub enum Wrong {
     Breaks(Rule),
     Memory,

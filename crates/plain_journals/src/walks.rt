@@ -14,7 +14,7 @@ use std::alloc::Global;
 const DEPTH: u32 = 64;
 
 /// How a node came out, and the number that it gave, if it came out well and gave one.
-#[derive(Clone, Copy, Debug)]
+#[derive(Clone, Copy)]
 struct Way {
     outcome: Outcome,
     number: i64,
@@ -52,10 +52,17 @@ fn is_match(plain: Plain, case: &Case, given: i64) -> bool {
 
 /// The handler of a code: the first that names it, or else the first that names none.
 fn handler_of(arms: &[HandleArm], code: u16) -> Option<NodeNo> {
-    arms.iter()
-        .find(|arm| arm.codes.as_slice().contains(&code))
-        .or_else(|| arms.iter().find(|arm| arm.codes.is_empty()))
-        .map(|arm| arm.node)
+    for arm in arms {
+        if arm.codes.as_slice().contains(&code) {
+            return Some(arm.node);
+        }
+    }
+    for arm in arms {
+        if arm.codes.is_empty() {
+            return Some(arm.node);
+        }
+    }
+    None
 }
 
 fn way_of(found: &CallResult, given: i64) -> Way {
@@ -233,9 +240,10 @@ impl<'a> Walker<'a> {
 
 /// The flow's own events are its target's walk, and its end.
 fn check_walk(alloc: Global, plain: Plain, entries: &[Entry], flow: FlowNo) -> Result<(), Wrong> {
-    let given = plain.given.get(flow.0 as usize);
-    let line = given.and_then(|given| plain.program.sources.get(given.source as usize));
-    let (Some(given), Some(line)) = (given, line) else {
+    let Some(given) = plain.given.get(flow.0 as usize) else {
+        return Err(Wrong::Breaks(Rule::Flow));
+    };
+    let Some(line) = plain.program.sources.get(given.source as usize) else {
         return Err(Wrong::Breaks(Rule::Flow));
     };
     let mut walker = Walker {
@@ -250,9 +258,12 @@ fn check_walk(alloc: Global, plain: Plain, entries: &[Entry], flow: FlowNo) -> R
 
 /// Each flow's own events are one whole walk, and there are no other flows.
 pub fn check_walks(alloc: Global, plain: Plain, entries: &[Entry]) -> Result<(), Wrong> {
-    let flows = u32::try_from(plain.given.len()).map_err(|_| Wrong::Breaks(Rule::Flow))?;
-    let are_flows = entries.iter().all(|entry| entry.flow.0 < flows);
-    check_that(are_flows, Rule::Flow)?;
+    let Ok(flows) = u32::try_from(plain.given.len()) else {
+        return Err(Wrong::Breaks(Rule::Flow));
+    };
+    for entry in entries {
+        check_that(entry.flow.0 < flows, Rule::Flow)?;
+    }
     for flow in 0..flows {
         check_walk(alloc, plain, entries, FlowNo(flow))?;
     }
