@@ -1,7 +1,7 @@
 use Rattle.std.proofs.Common.{◌∙◌, sym, refl}
 use Rattle.flux_table.specs.Tables.{holders_of}
-use Rattle.table_trials.proofs.Lines.{only_at, enough_from, free_from, some_none}
-use Rattle.table_trials.proofs.tests.tables.may_take.Goals as goal
+use Rattle.call_trials.proofs.Lines.{only_at, enough_from, free_from, some_none}
+use Rattle.call_trials.proofs.tests.tables.may_take.Goals as goal
 
 pub returns-in-Some : goal.returns-in-Some
 returns-in-Some c = λ enough. record {

@@ -15,7 +15,7 @@ use Rattle.flux_table.specs.declared.tables.Taken.TheVariants.{Got, Busy}
 use Rattle.flux_table.specs.Tables.{Locks, lines_of}
 use Rattle.flux_table.specs.Blockers.{StandsOnlyAt}
 use Rattle.flux_table.specs.Changes.{line_without, Takes, Waits, Follows}
-use Rattle.table_trials.specs.Stood.{HaveStood}
+use Rattle.call_trials.specs.Stood.{HaveStood}
 use Rattle.flow_model.proofs.Keys.{same_key_is}
 use Rattle.flux_table.proofs.Orderly.{contains_without}
 

@@ -1,7 +1,7 @@
 use Rattle.std.proofs.Common.{subst, sym}
-use Rattle.table_trials.specs.Stood.{HaveStood}
-use Rattle.table_trials.proofs.Lines.{stood_wait}
-use Rattle.table_trials.proofs.tests.tables.must_wait.Goals as goal
+use Rattle.call_trials.specs.Stood.{HaveStood}
+use Rattle.call_trials.proofs.Lines.{stood_wait}
+use Rattle.call_trials.proofs.tests.tables.must_wait.Goals as goal
 
 pub may_wait-requires : goal.may_wait-requires
 may_wait-requires g c = subst (HaveStood c.args.table.now) (sym c.deref.ensures.value) c.requires

@@ -4,7 +4,7 @@ ghost use Rattle.std.specs.Prelude.{◌≡◌, ◌≢◌, IsTrue, IsSome, OnOk};
 ghost use Rattle.std.specs.List.{All};
 ghost use Rattle.flux_table.specs.Tables.{holders_of, lines_of};
 ghost use Rattle.flux_table.specs.Blockers.{MayTake, MayWait};
-ghost use Rattle.table_trials.specs.Stood.{HaveStood};
+ghost use Rattle.call_trials.specs.Stood.{HaveStood};
 
 use flow_model::Key;
 use flux_model::{ClassNo, FlowNo, Mode, at_least};
@@ -14,7 +14,7 @@ use std::process::Abort;
 use std::test::Fail;
 
 /// A call, with what it must answer.
-#[derive(Clone, Copy, Debug)]
+#[derive(Clone, Copy)]
 enum Step {
     Got(u32, Key, Mode),
     Busy(u32, Key, Mode, u32),
@@ -98,8 +98,7 @@ fn must_take(
     assert!(rt; may_take(table, stood, flow, key, mode));
     let named = table.holder(flow, key, mode);
     let taken = table.try_take(flow, key, mode)?;
-    assert_eq!(rt; taken, wanted, "{step:?}");
-    assert_eq!(rt; named, holder_in(taken), "{step:?}");
+    assert!(rt; taken == wanted && named == holder_in(taken));
     Ok(())
 }
 
@@ -164,98 +163,80 @@ fn play(
             Ok(())
         }
         Step::Holds(flow, key, mode) => {
-            assert_eq!(rt; table.holds(FlowNo(flow), key), mode);
+            assert!(rt; table.holds(FlowNo(flow), key) == mode);
             Ok(())
         }
     }
 }
 
+/// The one key of the calls.
+const KEY: Key = Key {
+    class: ClassNo(0),
+    id: None,
+};
+
+fn mode_of(word: &str) -> Mode {
+    if word == "r" {
+        Mode::Reader
+    } else {
+        Mode::Writer
+    }
+}
+
+/// A flow's number, which has one digit.
+fn flow_of(word: &str) -> u32 {
+    let digit = word.as_bytes().first().copied().unwrap_or(b'0');
+    u32::from(digit.saturating_sub(b'0'))
+}
+
+/// `0 gets r` and `1 finds 0 r`, what a try comes to; `1 waits r`, `0 gives -`, and `0 has w` or `0 has -`.
+fn step_of(words: &[&str]) -> Option<Step> {
+    match words {
+        [flow, "gets", mode] => Some(Step::Got(flow_of(flow), KEY, mode_of(mode))),
+        [flow, "finds", holder, mode] => Some(Step::Busy(
+            flow_of(flow),
+            KEY,
+            mode_of(mode),
+            flow_of(holder),
+        )),
+        [flow, "waits", mode] => Some(Step::Wait(flow_of(flow), KEY, mode_of(mode))),
+        [flow, "gives", _] => Some(Step::Release(flow_of(flow), KEY)),
+        [flow, "has", "-"] => Some(Step::Holds(flow_of(flow), KEY, None)),
+        [flow, "has", mode] => Some(Step::Holds(flow_of(flow), KEY, Some(mode_of(mode)))),
+        _ => None,
+    }
+}
+
 /// Plays the calls on a new table.
-fn play_all(rt: &impl Abort, alloc: Global, steps: &[Step]) -> Result<(), Fail> {
+fn play_all(rt: &impl Abort, alloc: Global, steps: &str) -> Result<(), Fail> {
     let mut table = Table::new(alloc);
     let mut stood = Vec::new(alloc);
-    for step in steps {
-        play(rt, &mut table, &mut stood, *step)?;
+    for line in steps.split(", ") {
+        let words: Vec<&str> = line.split(' ').collect(alloc)?;
+        let Some(step) = step_of(words.as_slice()) else {
+            return Err(Fail::from("no step"));
+        };
+        play(rt, &mut table, &mut stood, step)?;
     }
     Ok(())
 }
 
-const READER: Mode = Mode::Reader;
+/// A key is held until its last take is released.
+const HELD: &str =
+    "0 gets w, 1 finds 0 r, 0 gets r, 0 has w, 0 gives -, 0 has w, 1 finds 0 r, 0 gives -, 0 has -, 1 gets r";
 
-const WRITER: Mode = Mode::Writer;
+/// Who comes first is served first: a reader stands behind a writer that waits, and who holds the key passes.
+const LINE: &str =
+    "0 gets r, 1 finds 0 w, 1 waits w, 2 finds 1 r, 2 waits r, 2 finds 1 r, 0 gets r, 0 gives -, 1 finds 0 w, 0 gives -, 2 finds 1 r, 1 gets w, 2 finds 1 r, 1 gives -, 2 gets r";
 
-fn key(class: u32, id: Option<u64>) -> Key {
-    Key {
-        class: ClassNo(class),
-        id,
+/// The lowest blocker is named. Readers don't block readers, and those behind a flow don't block it.
+const LOWEST: &str =
+    "5 gets r, 3 gets r, 7 finds 3 w, 7 waits w, 2 waits w, 1 waits r, 9 finds 2 r, 9 finds 1 w, 1 finds 2 r, 2 finds 3 w, 3 gives -, 7 finds 5 w, 5 gives -, 7 gets w, 7 gives -, 1 finds 2 r, 2 gets w";
+
+#[test]
+fn each_call_is_answered_so(rt: HostRuntime) -> Result<(), Fail> {
+    for steps in [HELD, LINE, LOWEST] {
+        play_all(&rt, rt.alloc(), steps)?;
     }
-}
-
-#[test]
-fn a_key_is_held_until_its_last_take_is_released(rt: HostRuntime) -> Result<(), Fail> {
-    let k = key(0, None);
-    let steps = [
-        Step::Got(0, k, WRITER),
-        Step::Busy(1, k, READER, 0),
-        Step::Got(0, k, READER),
-        Step::Holds(0, k, Some(WRITER)),
-        Step::Release(0, k),
-        Step::Holds(0, k, Some(WRITER)),
-        Step::Busy(1, k, READER, 0),
-        Step::Release(0, k),
-        Step::Holds(0, k, None),
-        Step::Got(1, k, READER),
-    ];
-    play_all(&rt, rt.alloc(), &steps)
-}
-
-#[test]
-fn who_comes_first_is_served_first(rt: HostRuntime) -> Result<(), Fail> {
-    let k = key(0, None);
-    let steps = [
-        Step::Got(0, k, READER),
-        Step::Busy(1, k, WRITER, 0),
-        Step::Wait(1, k, WRITER),
-        // A reader beside a reader, but behind a writer that waits.
-        Step::Busy(2, k, READER, 1),
-        Step::Wait(2, k, READER),
-        Step::Busy(2, k, READER, 1),
-        // Who holds the key passes.
-        Step::Got(0, k, READER),
-        Step::Release(0, k),
-        Step::Busy(1, k, WRITER, 0),
-        Step::Release(0, k),
-        Step::Busy(2, k, READER, 1),
-        Step::Got(1, k, WRITER),
-        Step::Busy(2, k, READER, 1),
-        Step::Release(1, k),
-        Step::Got(2, k, READER),
-    ];
-    play_all(&rt, rt.alloc(), &steps)
-}
-
-#[test]
-fn the_lowest_blocker_is_named(rt: HostRuntime) -> Result<(), Fail> {
-    let k = key(0, None);
-    let steps = [
-        Step::Got(5, k, READER),
-        Step::Got(3, k, READER),
-        Step::Busy(7, k, WRITER, 3),
-        Step::Wait(7, k, WRITER),
-        Step::Wait(2, k, WRITER),
-        Step::Wait(1, k, READER),
-        // Readers don't block readers; those behind a flow don't block it.
-        Step::Busy(9, k, READER, 2),
-        Step::Busy(9, k, WRITER, 1),
-        Step::Busy(1, k, READER, 2),
-        Step::Busy(2, k, WRITER, 3),
-        Step::Release(3, k),
-        Step::Busy(7, k, WRITER, 5),
-        Step::Release(5, k),
-        Step::Got(7, k, WRITER),
-        Step::Release(7, k),
-        Step::Busy(1, k, READER, 2),
-        Step::Got(2, k, WRITER),
-    ];
-    play_all(&rt, rt.alloc(), &steps)
+    Ok(())
 }

@@ -1,4 +1,6 @@
 //! Rows of calls.
 
 mod cells;
+mod classes;
+mod graphs;
 mod tables;

@@ -1,7 +1,7 @@
 use Rattle.std.proofs.Common.{◌∙◌, ap, refl, not}
 use Rattle.flux_table.specs.Tables.{holders_of}
-use Rattle.table_trials.proofs.Lines.{nowhere, free_from_none}
-use Rattle.table_trials.proofs.tests.tables.may_wait.Goals as goal
+use Rattle.call_trials.proofs.Lines.{nowhere, free_from_none}
+use Rattle.call_trials.proofs.tests.tables.may_wait.Goals as goal
 
 pub returns-then-stood_nowhere : goal.returns-then-stood_nowhere
 returns-then-stood_nowhere c = λ none. record {

@@ -1,8 +1,8 @@
 use Rattle.std.proofs.Common.{subst, sym}
 use Rattle.std.proofs.lemmas.Result.{on_ok_weaker}
 use Rattle.std.specs.List.{Contains}
-use Rattle.table_trials.specs.Stood.{HaveStood}
-use Rattle.table_trials.proofs.tests.tables.play.Goals as goal
+use Rattle.call_trials.specs.Stood.{HaveStood}
+use Rattle.call_trials.proofs.tests.tables.play.Goals as goal
 
 pub must_take-requires : goal.must_take-requires
 must_take-requires g c = subst (HaveStood c.args.table.now) (sym c.deref.ensures.value) c.requires
