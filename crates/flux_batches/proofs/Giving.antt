@@ -5,7 +5,7 @@ use Rattle.std.proofs.lemmas.List.{append-nil}
 use Rattle.flow_model.specs.declared.journals.Entry.{Entry}
 use Rattle.flux_batches.specs.declared.reading.Held.{Held}
 use Rattle.flux_batches.specs.declared.reading.Sent.{Sent}
-use Rattle.flux_batches.specs.Links.{Seen}
+use Rattle.flux_batches.specs.Links.{Seen, IsSame}
 use Rattle.flux_batches.specs.Replies.{IsAnswered, AreAnswered, flow_behind, TakesBack, AreAllAnswered}
 
 pub back_none : {L : Type 0} → (before : Option (List L)) → TakesBack before before []
@@ -56,27 +56,29 @@ unfolding flow_after
 answered_none see entries helds before = record { backs = []; taken = back_none before; answered = refl; next = refl }
 
 are_more : {K : Type 0} → (see : K → Seen) (entries : List Entry) (flow : ℕ) (helds : List (Held K)) (backs : List K) (held : Held K) (left : List (Held K)) (back : K)
-    → AreAnswered see entries flow helds backs (held ∷ left) → IsAnswered entries (flow_after flow helds backs) (see held.link) (see back) held.sent → AreAnswered see entries flow helds (backs ++ back ∷ []) left
+    → AreAnswered see entries flow helds backs (held ∷ left) → IsSame (see held.link) (see back) → IsAnswered entries (flow_after flow helds backs) (see held.link) (see back) held.sent
+    → AreAnswered see entries flow helds (backs ++ back ∷ []) left
 unfolding flow_after
-are_more {K} see entries flow helds [] held left back is one =
-    let P : List (Held K) → Type 0 = λ l. AreAnswered see entries flow l (back ∷ []) left in subst P (sym is) (one, refl)
-are_more see entries flow [] (first ∷ backs) held left back is one = absurd is
-are_more see entries flow (h ∷ helds) (first ∷ backs) held left back is one = (is.0, are_more see entries (flow_behind flow h.sent) helds backs held left back is.1 one)
+are_more {K} see entries flow helds [] held left back is same one =
+    let P : List (Held K) → Type 0 = λ l. AreAnswered see entries flow l (back ∷ []) left in subst P (sym is) (same, one, refl)
+are_more see entries flow [] (first ∷ backs) held left back is same one = absurd is
+are_more see entries flow (h ∷ helds) (first ∷ backs) held left back is same one =
+    (is.0, is.1, are_more see entries (flow_behind flow h.sent) helds backs held left back is.2 same one)
 
 flow_more : {K : Type 0} → (see : K → Seen) (entries : List Entry) (flow : ℕ) (helds : List (Held K)) (backs : List K) (held : Held K) (left : List (Held K)) (back : K)
     → AreAnswered see entries flow helds backs (held ∷ left) → flow_after flow helds (backs ++ back ∷ []) ≡ flow_behind (flow_after flow helds backs) held.sent
 unfolding flow_after
 flow_more {K} see entries flow helds [] held left back is = ap (λ (l : List (Held K)). flow_after flow l (back ∷ [])) is
 flow_more see entries flow [] (first ∷ backs) held left back is = absurd is
-flow_more see entries flow (h ∷ helds) (first ∷ backs) held left back is = flow_more see entries (flow_behind flow h.sent) helds backs held left back is.1
+flow_more see entries flow (h ∷ helds) (first ∷ backs) held left back is = flow_more see entries (flow_behind flow h.sent) helds backs held left back is.2
 
 pub answered_more : {K : Type 0} → (see : K → Seen) (entries : List Entry) (helds : List (Held K)) (before mid after : Option (List K)) (held : Held K) (left : List (Held K)) (flow flow' : ℕ) (back : K)
-    → Answered see entries helds before mid (held ∷ left) flow → IsAnswered entries flow (see held.link) (see back) held.sent → TakesBack mid after (back ∷ []) → flow' ≡ flow_behind flow held.sent
+    → Answered see entries helds before mid (held ∷ left) flow → IsSame (see held.link) (see back) → IsAnswered entries flow (see held.link) (see back) held.sent → TakesBack mid after (back ∷ []) → flow' ≡ flow_behind flow held.sent
     → Answered see entries helds before after left flow'
-answered_more see entries helds before mid after held left flow flow' back a one more now = record {
+answered_more see entries helds before mid after held left flow flow' back a same one more now = record {
   backs = a.backs ++ back ∷ [];
   taken = back_more before mid after a.backs back a.taken more;
-  answered = are_more see entries 0 helds a.backs held left back a.answered (rw a.next one);
+  answered = are_more see entries 0 helds a.backs held left back a.answered same (rw a.next one);
   next = flow_more see entries 0 helds a.backs held left back a.answered ∙ ap (λ f. flow_behind f held.sent) a.next ∙ sym now;
 }
 

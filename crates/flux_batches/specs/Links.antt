@@ -12,12 +12,27 @@ use Rattle.flux_batches.specs.declared.reading.Sent.TheVariants.{Text, Failed, M
 use Rattle.flux_batches.specs.declared.reading.Held.{Held}
 use Rattle.flux_batches.specs.Texts.{text_of}
 
--- what is seen of a link: the bytes left to read and all bytes written, where they are told, and
--- its count of faults
+-- what is seen of a link: all that its client sends, the bytes left to read and all bytes written,
+-- where they are told, and its count of faults
 pub record Seen : Type 0 where
+  pub had : Option (List ℕ)
   pub left : Option (List ℕ)
   pub written : Option (List ℕ)
   pub faults : ℕ
+
+-- the same by what a link tells
+abbrev pub seen_by : {K : Type 0} → (K → Option (List ℕ)) → (K → Option (List ℕ))
+    → (K → Option (List ℕ)) → (K → ℕ) → K → Seen
+seen_by had left written faults link = record {
+  had = had link;
+  left = left link;
+  written = written link;
+  faults = faults link;
+}
+
+-- one link, before and after: its client sends the same
+abbrev pub IsSame : Seen → Seen → Type 0
+IsSame before after = after.had ≡ before.had
 
 -- the stream that its client is written
 abbrev pub stream_of : Seen → Stream
@@ -34,12 +49,13 @@ IsSent framing before after Failed =
 IsSent framing before after Memory =
     (after.faults ≡ before.faults) × (after.written ≡ before.written)
 
--- links were read in order, and these are left to read
+-- links were read in order, each at its place, and these are left to read
 abbrev pub AreHeld : {K : Type 0} → (K → Seen) → Framing → List K → List (Held K) → List K → Type 0
 AreHeld see framing links [] left = links ≡ left
 AreHeld see framing [] (held ∷ rest) left = ⊥
 AreHeld see framing (link ∷ links) (held ∷ rest) left =
-    IsSent framing (see link) (see held.link) held.sent × AreHeld see framing links rest left
+    IsSame (see link) (see held.link) × IsSent framing (see link) (see held.link) held.sent
+    × AreHeld see framing links rest left
 
 -- ---- items
 

@@ -9,7 +9,7 @@ use Rattle.flux_outside.specs.Streams.{WroteOrBroke}
 use Rattle.flux_batches.specs.declared.reading.Sent.{Sent}
 use Rattle.flux_batches.specs.declared.reading.Sent.TheVariants.{Text, Failed, Memory}
 use Rattle.flux_batches.specs.declared.reading.Held.{Held}
-use Rattle.flux_batches.specs.Links.{Seen, stream_of}
+use Rattle.flux_batches.specs.Links.{Seen, IsSame, stream_of}
 
 -- what an event emits: a call what it answers, and no other anything
 abbrev pub emitted : Event → List ℕ
@@ -42,13 +42,14 @@ flow_behind flow (Text text) = flow + 1
 flow_behind flow Failed = flow
 flow_behind flow Memory = flow
 
--- links were answered in order, from a flow on, and given back as these; those are left
+-- links were answered in order, from a flow on, and given back as these, each at its place; those
+-- are left
 abbrev pub AreAnswered : {K : Type 0} → (K → Seen) → List Entry → ℕ → List (Held K) → List K
     → List (Held K) → Type 0
 AreAnswered see entries flow helds [] left = helds ≡ left
 AreAnswered see entries flow [] (back ∷ backs) left = ⊥
 AreAnswered see entries flow (held ∷ rest) (back ∷ backs) left =
-    IsAnswered entries flow (see held.link) (see back) held.sent
+    IsSame (see held.link) (see back) × IsAnswered entries flow (see held.link) (see back) held.sent
     × AreAnswered see entries (flow_behind flow held.sent) rest backs left
 
 -- a door has taken back these links beside those before, where it tells them

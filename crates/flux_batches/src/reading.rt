@@ -4,7 +4,7 @@ ghost use Rattle.std.specs.Prelude.{◌≡◌, ◌≤◌, [], length, take, IfOk
 ghost use Rattle.flux_outside.specs.Causes.{HasCause};
 ghost use Rattle.flux_batches.specs.Texts.{ends, least_front, trimmed, limit_of, text_of};
 ghost use Rattle.std.specs.VecDeque.{deque_len};
-ghost use Rattle.flux_batches.specs.Links.{IsSent, AreHeld};
+ghost use Rattle.flux_batches.specs.Links.{seen_by, IsSent, AreHeld};
 
 use crate::framing::Framing;
 use flux_doors::Link;
@@ -39,6 +39,7 @@ fn fill<K: Link>(link: &mut K, framing: Framing, buffer: &mut [u8]) -> Result<us
     ensures bound { IfOk result (λ count. count ≤ length buffer.new) }
     ensures text { IfSome (K.left link.old) (λ left. IfOk result (λ count.
         trimmed framing (least_front (ends framing) (take count buffer.new)) ≡ text_of framing left)) }
+    ensures had { K.had link.new ≡ K.had link.old }
     ensures written { K.written link.new ≡ K.written link.old }
     ensures cause { HasCause (K.faults link.old) (K.faults link.new) result }
 {
@@ -58,9 +59,9 @@ fn fill<K: Link>(link: &mut K, framing: Framing, buffer: &mut [u8]) -> Result<us
 
 /// Reads a link.
 fn read_link<K: Link>(alloc: Global, link: &mut K, framing: Framing) -> Sent
-    ensures { IsSent framing
-        (record { left = K.left link.old; written = K.written link.old; faults = K.faults link.old })
-        (record { left = K.left link.new; written = K.written link.new; faults = K.faults link.new }) result }
+    ensures same { K.had link.new ≡ K.had link.old }
+    ensures sent { IsSent framing (seen_by K.had K.left K.written K.faults link.old)
+        (seen_by K.had K.left K.written K.faults link.new) result }
 {
     let mut buffer = [0u8; BUFFER];
     let window = &mut buffer[..framing.limit()];
@@ -79,8 +80,7 @@ pub fn read_links<K: Link + Drop>(
     links: VecDeque<K>,
     framing: Framing,
 ) -> Result<VecDeque<Held<K>>, VecDeque<K>>
-    ensures held { IfOk result (λ held. AreHeld
-        (λ link. record { left = K.left link; written = K.written link; faults = K.faults link })
+    ensures held { IfOk result (λ held. AreHeld (seen_by K.had K.left K.written K.faults)
         framing links.items held.items []) }
     ensures count { IfOk result (λ held. deque_len held ≡ deque_len links) }
     ensures unread { IfErr result (λ back. (back.items ≡ links.items) × (deque_len back ≡ deque_len links)) }

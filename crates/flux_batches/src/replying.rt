@@ -3,6 +3,7 @@
 ghost use Rattle.std.specs.Prelude.{◌≡◌, ◌+◌, ◌<◌, ◌≤◌, [], nat_eq, if◌then◌else◌, OnOk, OnErr};
 ghost use Rattle.std.specs.VecDeque.{deque_len};
 ghost use Rattle.flux_outside.specs.Streams.{Wrote, Broke, WroteOrBroke};
+ghost use Rattle.flux_batches.specs.Links.{seen_by};
 ghost use Rattle.flux_batches.specs.Replies.{emitted, reply_of, IsAnswered, flow_behind, AreAllAnswered};
 
 use crate::gathering::LINK_LIMIT;
@@ -15,6 +16,7 @@ use std::collections::VecDeque;
 
 /// Writes all of the bytes to a link, in as many calls as it needs.
 fn send<K: Link>(link: &mut K, bytes: &[u8]) -> Result<(), Failed>
+    ensures same { K.had link.new ≡ K.had link.old }
     ensures wrote { OnOk result (Wrote
         (record { written = K.written link.old; faults = K.faults link.old })
         (record { written = K.written link.new; faults = K.faults link.new }) bytes.now) }
@@ -46,7 +48,8 @@ fn emission_of(entry: &Entry, flow: FlowNo) -> &[u8]
 
 /// Writes a flow's reply to its link: what its calls emit, in order, until that fails.
 fn reply<K: Link>(link: &mut K, entries: &[Entry], flow: FlowNo)
-    ensures { WroteOrBroke
+    ensures same { K.had link.new ≡ K.had link.old }
+    ensures wrote { WroteOrBroke
         (record { written = K.written link.old; faults = K.faults link.old })
         (record { written = K.written link.new; faults = K.faults link.new })
         (reply_of flow.0 entries.now) }
@@ -62,9 +65,9 @@ fn reply<K: Link>(link: &mut K, entries: &[Entry], flow: FlowNo)
 /// Answers a link, if it has an item; and the flow of the next link that has one.
 fn answer<K: Link + Drop>(held: Held<K>, entries: &[Entry], flow: u32) -> (K, u32)
     requires { flow < LINK_LIMIT }
-    ensures answered { IsAnswered entries.now flow
-        (record { left = K.left held.link; written = K.written held.link; faults = K.faults held.link })
-        (record { left = K.left result.0; written = K.written result.0; faults = K.faults result.0 }) held.sent }
+    ensures same { K.had result.0 ≡ K.had held.link }
+    ensures answered { IsAnswered entries.now flow (seen_by K.had K.left K.written K.faults held.link)
+        (seen_by K.had K.left K.written K.faults result.0) held.sent }
     ensures next { result.1 ≡ flow_behind flow held.sent }
     ensures bound { result.1 ≤ flow + 1 }
 {
@@ -84,8 +87,7 @@ pub fn answer_links<D: Door>(door: &mut D, links: VecDeque<Held<D::Link>>, entri
     requires out { D.out door.old ≡ deque_len links }
     requires few { deque_len links ≤ LINK_LIMIT }
     ensures out { D.out door.new ≡ 0 }
-    ensures answered { AreAllAnswered
-        (λ link. record { left = D.Link.left link; written = D.Link.written link; faults = D.Link.faults link })
+    ensures answered { AreAllAnswered (seen_by D.Link.had D.Link.left D.Link.written D.Link.faults)
         entries.now links.items (D.taken_back door.old) (D.taken_back door.new) }
     ensures kept { D.to_come door.new ≡ D.to_come door.old }
     ensures open { D.open_at door.new ≡ D.open_at door.old }

@@ -9,6 +9,10 @@ use Rattle.flux_doors.specs.declared.memory_doors.MemoryDoor.{MemoryDoor}
 
 -- ---- the link
 
+-- all that its client sends
+abbrev pub link_had : MemoryLink → List ℕ
+link_had link = link.input
+
 -- the bytes left to read
 abbrev pub link_left : MemoryLink → List ℕ
 link_left link = drop link.given link.input

@@ -10,6 +10,9 @@ use flux_outside::Failed;
 
 /// Gives the bytes that a client sends, and takes those of the reply.
 pub trait Link {
+    /// All that its client sends, where it is told. No call changes it: so links are told from each other.
+    ghost had: { Self → Option (List ℕ) };
+
     /// The bytes left to read, where they are told.
     ghost left: { Self → Option (List ℕ) };
 
@@ -24,6 +27,7 @@ pub trait Link {
     fn read(&mut self, buffer: &mut [u8]) -> Result<usize, Failed>
         ensures bound { ReadsAtMost result buffer.new }
         ensures bytes { ReadConsumes (left self.old) (left self.new) result buffer.new }
+        ensures had { had self.new ≡ had self.old }
         ensures written { written self.new ≡ written self.old }
         ensures cause { HasCause (faults self.old) (faults self.new) result };
 
@@ -31,6 +35,7 @@ pub trait Link {
     fn write(&mut self, bytes: &[u8]) -> Result<usize, Failed>
         ensures bound { TakesSome result bytes.now }
         ensures bytes { written self.new ≡ gained (written self.old) result bytes.now }
+        ensures had { had self.new ≡ had self.old }
         ensures left { left self.new ≡ left self.old }
         ensures cause { HasCause (faults self.old) (faults self.new) result };
 }

@@ -22,12 +22,13 @@ pub struct MemoryLink {
 impl MemoryLink {
     ghost use Rattle.std.specs.Prelude.{◌≡◌};
     ghost use Rattle.flux_outside.specs.Memory.{sink_bytes};
-    ghost use Rattle.flux_doors.specs.Memory.{link_left, link_written, link_faults, IsNewLink};
+    ghost use Rattle.flux_doors.specs.Memory.{link_had, link_left, link_written, link_faults, IsNewLink};
 
     /// A link that gives these bytes, at most `piece` a call. The reads whose numbers stand in `fails`, counted from 1,
     /// fail; a write fails where the sink's does.
     pub fn new(input: Bytes, piece: usize, written: MemorySink, fails: List<u64>) -> MemoryLink
         requires { 0 < piece }
+        ensures had { link_had result ≡ input }
         ensures left { link_left result ≡ input }
         ensures written { link_written result ≡ sink_bytes written }
         ensures faultless { link_faults result ≡ 0 }
@@ -57,7 +58,9 @@ impl Link for MemoryLink {
     ghost use Rattle.std.specs.Io.KnownBytes.{ReadConsumes};
     ghost use Rattle.flux_outside.specs.Causes.{HasCause};
     ghost use Rattle.flux_outside.specs.Sinks.{TakesSome, gained};
-    ghost use Rattle.flux_doors.specs.Memory.{link_left, link_written, link_faults, piece_left, LinkReads, LinkWasRead, LinkWrites, LinkWasWritten};
+    ghost use Rattle.flux_doors.specs.Memory.{link_had, link_left, link_written, link_faults, piece_left, LinkReads, LinkWasRead, LinkWrites, LinkWasWritten};
+
+    ghost had = { λ link. Some (link_had link) };
 
     ghost left = { λ link. Some (link_left link) };
 
@@ -68,6 +71,7 @@ impl Link for MemoryLink {
     fn read(&mut self, buffer: &mut [u8]) -> Result<usize, Failed>
         ensures bound { ReadsAtMost result buffer.new }
         ensures bytes { ReadConsumes (Some (link_left self.old)) (Some (link_left self.new)) result buffer.new }
+        ensures had { Some (link_had self.new) ≡ Some (link_had self.old) }
         ensures written { Some (link_written self.new) ≡ Some (link_written self.old) }
         ensures cause { HasCause (link_faults self.old) (link_faults self.new) result }
         // It gives a piece, unless the call is to fail.
@@ -88,6 +92,7 @@ impl Link for MemoryLink {
     fn write(&mut self, bytes: &[u8]) -> Result<usize, Failed>
         ensures bound { TakesSome result bytes.now }
         ensures bytes { Some (link_written self.new) ≡ gained (Some (link_written self.old)) result bytes.now }
+        ensures had { Some (link_had self.new) ≡ Some (link_had self.old) }
         ensures left { Some (link_left self.new) ≡ Some (link_left self.old) }
         ensures cause { HasCause (link_faults self.old) (link_faults self.new) result }
         // It fails where its sink does.

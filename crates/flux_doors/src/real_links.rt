@@ -99,6 +99,8 @@ impl<R: Net + Clock + Copy> RealLink<R> {
 impl<R: Net + Clock + Copy> Link for RealLink<R> {
     ghost use Rattle.std.specs.Prelude.{None};
 
+    ghost had = { λ _. None };
+
     ghost left = { λ _. None };
 
     ghost written = { λ _. None };

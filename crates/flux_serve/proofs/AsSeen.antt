@@ -65,7 +65,7 @@ module _ {L : Type 0} (see : L → Seen) where
   unwritten_seen [] [] un = tt
   unwritten_seen [] (back ∷ backs) un = absurd un
   unwritten_seen (link ∷ links) [] un = absurd un
-  unwritten_seen (link ∷ links) (back ∷ backs) un = (un.0, unwritten_seen links backs un.1)
+  unwritten_seen (link ∷ links) (back ∷ backs) un = (un.0, un.1, unwritten_seen links backs un.2)
 
   -- ---- links that were read
 
@@ -75,7 +75,7 @@ module _ {L : Type 0} (see : L → Seen) where
   read_seen : (framing : Framing) (links : List L) (helds : List (Held L)) → AreHeld see framing links helds [] → AreHeld itself framing (map see links) (map held_seen helds) []
   read_seen framing links [] read = ap (map see) read
   read_seen framing [] (held ∷ helds) read = absurd read
-  read_seen framing (link ∷ links) (held ∷ helds) read = (read.0, read_seen framing links helds read.1)
+  read_seen framing (link ∷ links) (held ∷ helds) read = (read.0, read.1, read_seen framing links helds read.2)
 
   each_seen : (helds : List (Held L)) → AreRead helds → AreRead (map held_seen helds)
   each_seen [] each = tt
@@ -88,7 +88,7 @@ module _ {L : Type 0} (see : L → Seen) where
   answered_seen : (entries : List Entry) (flow : ℕ) (helds : List (Held L)) (backs : List L) → AreAnswered see entries flow helds backs [] → AreAnswered itself entries flow (map held_seen helds) (map see backs) []
   answered_seen entries flow helds [] a = ap (map held_seen) a
   answered_seen entries flow [] (back ∷ backs) a = absurd a
-  answered_seen entries flow (held ∷ helds) (back ∷ backs) a = (a.0, answered_seen entries (flow_behind flow held.sent) helds backs a.1)
+  answered_seen entries flow (held ∷ helds) (back ∷ backs) a = (a.0, a.1, answered_seen entries (flow_behind flow held.sent) helds backs a.2)
 
   -- ---- a batch
 

@@ -9,7 +9,7 @@ use Rattle.flux_serve.specs.Ends.{AreUnwritten}
 
 pub unwritten_same : {L : Type 0} → (see : L → Seen) (links : List L) → AreUnwritten see links links
 unwritten_same see [] = tt
-unwritten_same see (link ∷ links) = (refl, unwritten_same see links)
+unwritten_same see (link ∷ links) = (refl, refl, unwritten_same see links)
 
 sent_unwritten : (framing : Framing) (before after : Seen) (sent : Sent) → IsSent framing before after sent → after.written ≡ before.written
 sent_unwritten framing before after (Text text) is = is.2
@@ -19,7 +19,8 @@ sent_unwritten framing before after Memory is = is.1
 pub unwritten_held : {L : Type 0} → (see : L → Seen) (framing : Framing) (links : List L) (helds : List (Held L)) → AreHeld see framing links helds [] → AreUnwritten see links (map (λ held. held.link) helds)
 unwritten_held {L} see framing links [] is = let P : List L → Type 0 = λ l. AreUnwritten see l [] in subst P (sym is) tt
 unwritten_held see framing [] (held ∷ helds) is = absurd is
-unwritten_held see framing (link ∷ links) (held ∷ helds) is = (sent_unwritten framing (see link) (see held.link) held.sent is.0, unwritten_held see framing links helds is.1)
+unwritten_held see framing (link ∷ links) (held ∷ helds) is =
+    (is.0, sent_unwritten framing (see link) (see held.link) held.sent is.1, unwritten_held see framing links helds is.2)
 
 few_sent : (number : ℕ) (sent : Sent) → length (item_sent number sent) ≤ 1
 few_sent number (Text text) = omega arith

@@ -6,7 +6,7 @@ use Rattle.flow_model.specs.Keys.{Cells}
 use Rattle.flux_outside.specs.Causes.{Rose}
 use Rattle.flux_outside.specs.Streams.{Stream, Wrote, Broke}
 use Rattle.flux_doors.specs.Doors.{waiting, first_link}
-use Rattle.flux_batches.specs.Links.{Seen}
+use Rattle.flux_batches.specs.Links.{Seen, IsSame}
 use Rattle.flux_batches.specs.Replies.{TakesBack}
 use Rattle.flux_batches.specs.Gathered.{AreGathered}
 use Rattle.flux_serve.specs.declared.batches.ServeEnd.{ServeEnd}
@@ -70,12 +70,12 @@ number_at_end number (batch ∷ batches) = number_at_end (number_behind number b
 
 -- ---- the end
 
--- links went back with nothing written on them
+-- links went back, each at its place, with nothing written on them
 abbrev pub AreUnwritten : {L : Type 0} → (L → Seen) → List L → List L → Type 0
 AreUnwritten see [] [] = Unit {0}
 AreUnwritten see (link ∷ links) (back ∷ backs) =
     let old = see link in let new = see back in
-    (new.written ≡ old.written) × AreUnwritten see links backs
+    IsSame old new × (new.written ≡ old.written) × AreUnwritten see links backs
 AreUnwritten see [] (back ∷ backs) = ⊥
 AreUnwritten see (link ∷ links) [] = ⊥
 

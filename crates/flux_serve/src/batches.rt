@@ -8,7 +8,7 @@ ghost use Rattle.flow_model.specs.Legal.{IsLegal, IsWhole};
 ghost use Rattle.flux_cells.specs.Kept.{cells_of};
 ghost use Rattle.flux_outside.specs.Streams.{Stream, Wrote, Broke};
 ghost use Rattle.flux_journal.specs.Logs.{printed_batch};
-ghost use Rattle.flux_batches.specs.Links.{AreRead, items_from};
+ghost use Rattle.flux_batches.specs.Links.{seen_by, AreRead, items_from};
 ghost use Rattle.flux_serve.specs.Served.{CanServe};
 ghost use Rattle.flux_serve.specs.Batches.{Service, batch_setup};
 ghost use Rattle.flux_serve.specs.steps.Batches.{IsTaken, IsNone, HasFinished, HasPassed};
@@ -63,7 +63,7 @@ fn take<D: Door>(
 ) -> Result<VecDeque<Held<D::Link>>, ServeEnd>
     requires { D.out door.old ≡ 0 }
     ensures taken { IfOk result (λ held. IsTaken
-        (λ link. record { left = D.Link.left link; written = D.Link.written link; faults = D.Link.faults link })
+        (seen_by D.Link.had D.Link.left D.Link.written D.Link.faults)
         framing (D.to_come door.old) (D.to_come door.new) (D.late door.old) (D.late door.new) held.items) }
     ensures out { IfOk result (λ held. (D.out door.new ≡ deque_len held) × (deque_len held ≤ 64)) }
     ensures back { OnOk result (D.taken_back door.new ≡ D.taken_back door.old) }
@@ -72,7 +72,7 @@ fn take<D: Door>(
     ensures none_out { OnErr result (D.out door.new ≡ 0) }
     ensures later { (D.faults door.old ≤ D.faults door.new) × (D.late door.old ≤ D.late door.new) }
     ensures none { (log : Stream) → IfErr result (λ end. IsNone
-        (λ link. record { left = D.Link.left link; written = D.Link.written link; faults = D.Link.faults link })
+        (seen_by D.Link.had D.Link.left D.Link.written D.Link.faults)
         (record {
           to_come = D.to_come door.old;
           taken_back = D.taken_back door.old;
@@ -192,7 +192,7 @@ pub fn serve_batch<L: Library, D: Door, O: Sink, R: Runtime, G: Gate, Rt: Thread
     ensures bound { IfOk result (λ next. next.1 ≤ number + 64) }
     ensures passed { let service : Service = (record { program = arc_value served.now.program; framing = served.now.framing; meaning = L.meaning (arc_value served.now.library) }) in
         IfOk result (λ next. HasPassed
-        (λ link. record { left = D.Link.left link; written = D.Link.written link; faults = D.Link.faults link })
+        (seen_by D.Link.had D.Link.left D.Link.written D.Link.faults)
         service (cells_of opening) count number
         (record {
           to_come = D.to_come door.old;
@@ -211,7 +211,7 @@ pub fn serve_batch<L: Library, D: Door, O: Sink, R: Runtime, G: Gate, Rt: Thread
         (cells_of next.0) next.1) }
     ensures stopped { let service : Service = (record { program = arc_value served.now.program; framing = served.now.framing; meaning = L.meaning (arc_value served.now.library) }) in
         IfErr result (HasStopped
-        (λ link. record { left = D.Link.left link; written = D.Link.written link; faults = D.Link.faults link })
+        (seen_by D.Link.had D.Link.left D.Link.written D.Link.faults)
         service (cells_of opening) count number
         (record {
           to_come = D.to_come door.old;

@@ -2,6 +2,7 @@
 
 ghost use Rattle.std.specs.Prelude.{◌≡◌, ◌≤◌};
 ghost use Rattle.std.specs.Arc.{arc_value};
+ghost use Rattle.flux_batches.specs.Links.{seen_by};
 ghost use Rattle.flux_serve.specs.Served.{CanServe};
 ghost use Rattle.flux_serve.specs.Batches.{Service};
 ghost use Rattle.flux_serve.specs.Ends.{HasServed};
@@ -42,7 +43,7 @@ pub fn serve<L: Library, D: Door, O: Sink, R: Runtime, G: Gate, Rt: Threads + Wa
     ensures later_log { O.faults log.old ≤ O.faults log.new }
     ensures served { let service : Service = (record { program = arc_value served.now.program; framing = served.now.framing; meaning = L.meaning (arc_value served.now.library) }) in
         HasServed
-        (λ link. record { left = D.Link.left link; written = D.Link.written link; faults = D.Link.faults link })
+        (seen_by D.Link.had D.Link.left D.Link.written D.Link.faults)
         service batches
         (record {
           to_come = D.to_come door.old;

@@ -1,5 +1,5 @@
 -- Why these links fit, or don't.
-use Rattle.std.proofs.Common.{◌≡◌, ℕ, List, [], ◌∷◌, length, ap, refl, arith}
+use Rattle.std.proofs.Common.{◌≡◌, ℕ, List, [], ◌∷◌, length, Option, Some, None, ap, refl, arith}
 use Rattle.serving_examples.specs.Links.{LinksFit, LinksMisfit}
 use Rattle.serving_examples.proofs.Doors.{rose}
 
@@ -7,6 +7,11 @@ use Rattle.serving_examples.proofs.Doors.{rose}
 abbrev pub byte_of : List ℕ → ℕ
 byte_of [] = 0
 byte_of (b ∷ bytes) = b
+
+-- the first byte that is told
+abbrev pub told_byte : Option (List ℕ) → ℕ
+told_byte None = 0
+told_byte (Some bytes) = byte_of bytes
 
 pub fit : LinksFit
 fit = record {
@@ -16,7 +21,7 @@ fit = record {
   sent = (refl, refl, refl);
   failed = (rose, refl);
   short = (refl, refl);
-  held = ((refl, refl, refl), refl);
+  held = (refl, (refl, refl, refl), refl);
   items = refl;
 }
 
@@ -25,7 +30,8 @@ misfit = record {
   line = λ is. let same : 5 ≡ 6 = ap length is in omega (arith, same);
   sent = λ is. let same : 98 ≡ 97 = ap byte_of is.0 in omega (arith, same);
   short = λ is. let same : 1 ≡ 0 = is.0 in omega (arith, same);
-  turned = λ are. let one = are.0 in let same : 98 ≡ 97 = ap byte_of one.0 in omega (arith, same);
-  lost = λ are. let same : 1 ≡ 0 = ap length are.1 in omega (arith, same);
+  turned = λ are. let one = are.1 in let same : 98 ≡ 97 = ap byte_of one.0 in omega (arith, same);
+  exchanged = λ are. let same : 98 ≡ 97 = ap told_byte are.0 in omega (arith, same);
+  lost = λ are. let same : 1 ≡ 0 = ap length are.2 in omega (arith, same);
   items = λ is. let same : 0 ≡ 1 = ap length is in omega (arith, same);
 }

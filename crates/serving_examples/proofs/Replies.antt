@@ -3,9 +3,10 @@ use Rattle.std.proofs.Common.{◌≡◌, ℕ, List, [], ◌∷◌, codes, length
 use Rattle.flux_outside.specs.Streams.{Stream}
 use Rattle.flux_batches.specs.declared.reading.Sent.TheVariants.{Text}
 use Rattle.flux_batches.specs.Replies.{IsAnswered}
-use Rattle.serving_examples.specs.Small.{link, spoken}
+use Rattle.serving_examples.specs.Small.{link, told, spoken, echoed}
 use Rattle.serving_examples.specs.Replies.{RepliesFit, RepliesMisfit}
 use Rattle.serving_examples.proofs.Doors.{rose, stands}
+use Rattle.serving_examples.proofs.Links.{told_byte}
 
 -- how many bytes are told
 abbrev count_of : Option (List ℕ) → ℕ
@@ -17,6 +18,11 @@ not_one : (byte : ℕ) → IsAnswered spoken 0 (link [] [] 0) (link [] (byte ∷
 not_one byte (inl wrote) = let same : 1 ≡ 2 = ap count_of wrote.gains in omega (arith, same)
 not_one byte (inr broke) = stands broke.rose
 
+-- a link with no fault that was written another byte wasn't either
+not_other : IsAnswered echoed 0 (told (codes "a") []) (told (codes "a") (codes "q")) (Text (codes "a")) → ⊥
+not_other (inl wrote) = let same : 113 ≡ 112 = ap told_byte wrote.gains in omega (arith, same)
+not_other (inr broke) = stands broke.rose
+
 pub fit : RepliesFit
 fit = record {
   first = refl;
@@ -24,6 +30,11 @@ fit = record {
   whole = inl (record { gains = refl; steady = refl });
   front = inr (record { front = codes "a"; rest = codes "c"; is = refl; left = λ none. let same : 1 ≡ 0 = ap length none in omega (arith, same); gains = refl; rose = rose });
   nothing = refl;
+  each = (
+    refl,
+    inl (record { gains = refl; steady = refl }),
+    (refl, inl (record { gains = refl; steady = refl }), refl),
+  );
   next = refl;
   same = refl;
 }
@@ -33,4 +44,6 @@ misfit = record {
   front = not_one 97;
   other = not_one 98;
   failed = λ is. let same : 2 ≡ 0 = ap (λ (s : Stream). count_of s.written) is in omega (arith, same);
+  crossed = λ are. not_other are.1;
+  exchanged = λ are. let same : 98 ≡ 97 = ap told_byte are.0 in omega (arith, same);
 }

@@ -4,7 +4,7 @@ use Rattle.flux_batches.specs.declared.framing.Framing.TheVariants.{Head, Line}
 use Rattle.flux_batches.specs.declared.reading.Sent.TheVariants.{Text, Failed, Memory}
 use Rattle.flux_batches.specs.Texts.{text_of}
 use Rattle.flux_batches.specs.Links.{Seen, IsSent, AreHeld, link_item, items_from}
-use Rattle.serving_examples.specs.Small.{link, itself, read}
+use Rattle.serving_examples.specs.Small.{link, told, itself, read}
 
 -- CR LF
 abbrev pub crlf : List ℕ
@@ -15,8 +15,8 @@ abbrev pub fresh : List ℕ → Seen
 fresh bytes = link bytes [] 0
 
 -- one that has none left
-abbrev pub spent : Seen
-spent = link [] [] 0
+abbrev pub spent : List ℕ → Seen
+spent bytes = told bytes []
 
 pub record LinksFit : Type 0 where
   -- a line goes up to its end, which it loses, or is all that comes
@@ -25,29 +25,32 @@ pub record LinksFit : Type 0 where
   -- a head goes up to its empty line, which it keeps
   pub head : text_of Head (codes "GET" ++ crlf ++ crlf ++ codes "x") ≡ codes "GET" ++ crlf ++ crlf
   -- a link was read; or it failed, and its count rose; or memory was short, and its count stands
-  pub sent : IsSent Line (fresh (codes "a")) spent (Text (codes "a"))
+  pub sent : IsSent Line (fresh (codes "a")) (spent (codes "a")) (Text (codes "a"))
   pub failed : IsSent Line (fresh (codes "a")) (link (codes "a") [] 1) Failed
-  pub short : IsSent Line (fresh (codes "a")) spent Memory
+  pub short : IsSent Line (fresh (codes "a")) (spent (codes "a")) Memory
   -- of two links the first was read, and the other is left
   pub held : AreHeld itself Line (fresh (codes "a") ∷ fresh (codes "b") ∷ [])
-      (read spent (Text (codes "a")) ∷ []) (fresh (codes "b") ∷ [])
+      (read (spent (codes "a")) (Text (codes "a")) ∷ []) (fresh (codes "b") ∷ [])
   -- each link has a number, and one that failed has no item
   pub items : items_from 7
-      (read spent (Text (codes "a")) ∷ read spent Failed ∷ read spent (Text (codes "b")) ∷ [])
+      (read (spent []) (Text (codes "a")) ∷ read (spent []) Failed ∷ read (spent []) (Text (codes "b")) ∷ [])
       ≡ link_item 7 (codes "a") ∷ link_item 9 (codes "b") ∷ []
 
 pub record LinksMisfit : Type 0 where
   -- a line doesn't keep its CR
   pub line : text_of Line (codes "add 5" ++ crlf) ≡ codes "add 5" ++ 13 ∷ [] → ⊥
   -- another text than came
-  pub sent : IsSent Line (fresh (codes "a")) spent (Text (codes "b")) → ⊥
+  pub sent : IsSent Line (fresh (codes "a")) (spent (codes "a")) (Text (codes "b")) → ⊥
   -- a link that failed isn't told as want of memory
   pub short : IsSent Line (fresh (codes "a")) (link (codes "a") [] 1) Memory → ⊥
-  -- two links don't change places
+  -- two texts don't change places
   pub turned : AreHeld itself Line (fresh (codes "a") ∷ fresh (codes "b") ∷ [])
-      (read spent (Text (codes "b")) ∷ read spent (Text (codes "a")) ∷ []) [] → ⊥
+      (read (spent (codes "a")) (Text (codes "b")) ∷ read (spent (codes "b")) (Text (codes "a")) ∷ []) [] → ⊥
+  -- nor two links whose texts stay
+  pub exchanged : AreHeld itself Line (fresh (codes "a") ∷ fresh (codes "b") ∷ [])
+      (read (spent (codes "b")) (Text (codes "a")) ∷ read (spent (codes "a")) (Text (codes "b")) ∷ []) [] → ⊥
   -- and none is lost
   pub lost : AreHeld itself Line (fresh (codes "a") ∷ fresh (codes "b") ∷ [])
-      (read spent (Text (codes "a")) ∷ []) [] → ⊥
+      (read (spent (codes "a")) (Text (codes "a")) ∷ []) [] → ⊥
   -- a link that failed has no empty item
-  pub items : items_from 7 (read spent Failed ∷ []) ≡ link_item 7 [] ∷ [] → ⊥
+  pub items : items_from 7 (read (spent []) Failed ∷ []) ≡ link_item 7 [] ∷ [] → ⊥

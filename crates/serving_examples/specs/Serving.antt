@@ -1,5 +1,5 @@
 -- Which programs are served, and how serving ends.
-use Rattle.std.specs.Prelude.{ℕ, List, [], ◌∷◌, codes}
+use Rattle.std.specs.Prelude.{List, [], ◌∷◌, codes}
 use Rattle.flux_values.specs.declared.meanings.Role.TheVariants.{HeadSource, Plain}
 use Rattle.flux_batches.specs.declared.framing.Framing.TheVariants.{Head, Line}
 use Rattle.flux_batches.specs.Links.{Seen}

@@ -4,7 +4,6 @@ use Rattle.flux_values.specs.declared.answers.CallResult.TheVariants as results
 use Rattle.flux_values.specs.declared.meanings.Role.{Role}
 use Rattle.flux_values.specs.declared.meanings.Sig.{Sig}
 use Rattle.flux_values.specs.Meanings.{LibraryMeaning}
-use Rattle.flux_model.specs.declared.items.FlowNo.{FlowNo}
 use Rattle.flux_model.specs.declared.programs.NodeNo.{NodeNo}
 use Rattle.flux_model.specs.declared.programs.Body.TheVariants.{Concrete}
 use Rattle.flux_model.specs.declared.programs.Program.{Program}
@@ -18,9 +17,22 @@ use Rattle.flux_serve.specs.Ends.{Sight}
 
 -- ---- links, told by what is seen of them
 
--- a link with bytes left to read, bytes written, and a count of faults
+-- a link whose client sends some bytes, with bytes left to read, bytes written, and a count of faults
+abbrev pub link_of : List ℕ → List ℕ → List ℕ → ℕ → Seen
+link_of had left written faults = record {
+  had = Some had;
+  left = Some left;
+  written = Some written;
+  faults = faults;
+}
+
+-- one of which nothing was read yet
 abbrev pub link : List ℕ → List ℕ → ℕ → Seen
-link left written faults = record { left = Some left; written = Some written; faults = faults }
+link left written faults = link_of left left written faults
+
+-- one that was read whole and hasn't failed, with bytes written
+abbrev pub told : List ℕ → List ℕ → Seen
+told had written = link_of had [] written 0
 
 -- what is seen of it is the link itself
 abbrev pub itself : Seen → Seen
@@ -50,6 +62,10 @@ says flow bytes = record {
 -- two flows: the first emits `a` and `c`, and the second `b` between these
 abbrev pub spoken : List Entry
 spoken = says 0 (codes "a") ∷ says 1 (codes "b") ∷ says 0 (codes "c") ∷ []
+
+-- two flows, each of which emits one byte
+abbrev pub echoed : List Entry
+echoed = says 0 (codes "p") ∷ says 1 (codes "q") ∷ []
 
 -- ---- programs
 

@@ -13,6 +13,7 @@ reads-preserved g c =
       filled-fits c.reads.buffer c.read.new.buffer _ c.reads.filled c.in_ok-count.count before.1 read.bound.0,
       read.written ∙ before.2,
       read.cause.steady ∙ before.3,
+      c.read.ensures.had ∙ before.4,
     )
 
 pub returns-then-ends_in-clause-text : goal.returns-then-ends_in-clause-text

@@ -7,6 +7,7 @@ abbrev pub invariant-reads : goal.invariant-reads
 invariant-reads g l =
     Consumes (g.K.Link.left l.fn.link) (g.K.Link.left l.link) (take l.filled l.buffer) × (l.filled ≤ length l.buffer)
     × (g.K.Link.written l.link ≡ g.K.Link.written l.fn.link) × (g.K.Link.faults l.link ≡ g.K.Link.faults l.fn.link)
+    × (g.K.Link.had l.link ≡ g.K.Link.had l.fn.link)
 
 abbrev pub decreases-reads : goal.decreases-reads
 decreases-reads g l = length l.buffer - l.filled

@@ -6,7 +6,7 @@ use Rattle.flow_model.specs.CellsAfter.{cells_after}
 use Rattle.flux_cells.specs.Kept.{cells_of}
 use Rattle.flux_outside.specs.Streams.{Stream, Wrote}
 use Rattle.flux_journal.specs.Logs.{printed_batch}
-use Rattle.flux_batches.specs.Links.{Seen}
+use Rattle.flux_batches.specs.Links.{Seen, seen_by}
 use Rattle.flux_batches.specs.Replies.{TakesBack, AreAllAnswered}
 use Rattle.flux_batches.specs.Gathered.{AreGathered}
 use Rattle.flux_serve.specs.Batches.{Service, batch_setup}
@@ -18,7 +18,7 @@ use Rattle.flux_serve.proofs.batches.serve_batch.Goals as goal
 
 pub returns-in-Err-clause-stopped : goal.returns-in-Err-clause-stopped
 returns-in-Err-clause-stopped g c =
-    let see : g.row.D-Link.Denot → Seen = λ link. record { left = g.D.Link.Link.left link; written = g.D.Link.Link.written link; faults = g.D.Link.Link.faults link } in
+    let see : g.row.D-Link.Denot → Seen = seen_by g.D.Link.Link.had g.D.Link.Link.left g.D.Link.Link.written g.D.Link.Link.faults in
     let service : Service = record { program = arc_value c.args.served.now.program; framing = c.args.served.now.framing; meaning = g.L.Meaning.meaning (arc_value c.args.served.now.library) } in
     let before : Sight g.row.D-Link.Denot = record {
       to_come = g.D.Door.to_come c.args.door.now;
@@ -39,7 +39,7 @@ returns-in-Err-clause-stopped g c =
 
 pub returns-in-Err-run_links-clause-stopped : goal.returns-in-Err-run_links-clause-stopped
 returns-in-Err-run_links-clause-stopped g c =
-    let see : g.row.D-Link.Denot → Seen = λ link. record { left = g.D.Link.Link.left link; written = g.D.Link.Link.written link; faults = g.D.Link.Link.faults link } in
+    let see : g.row.D-Link.Denot → Seen = seen_by g.D.Link.Link.had g.D.Link.Link.left g.D.Link.Link.written g.D.Link.Link.faults in
     let service : Service = record { program = arc_value c.args.served.now.program; framing = c.args.served.now.framing; meaning = g.L.Meaning.meaning (arc_value c.args.served.now.library) } in
     let before : Sight g.row.D-Link.Denot = record {
       to_come = g.D.Door.to_come c.args.door.now;
@@ -66,7 +66,7 @@ returns-in-Err-run_links-clause-stopped g c =
 
 pub returns-in-Ok-write_batch-clause-passed : goal.returns-in-Ok-write_batch-clause-passed
 returns-in-Ok-write_batch-clause-passed g c =
-    let see : g.row.D-Link.Denot → Seen = λ link. record { left = g.D.Link.Link.left link; written = g.D.Link.Link.written link; faults = g.D.Link.Link.faults link } in
+    let see : g.row.D-Link.Denot → Seen = seen_by g.D.Link.Link.had g.D.Link.Link.left g.D.Link.Link.written g.D.Link.Link.faults in
     let service : Service = record { program = arc_value c.args.served.now.program; framing = c.args.served.now.framing; meaning = g.L.Meaning.meaning (arc_value c.args.served.now.library) } in
     let before : Sight g.row.D-Link.Denot = record {
       to_come = g.D.Door.to_come c.args.door.now;
@@ -111,7 +111,7 @@ returns-in-Ok-write_batch-clause-passed g c =
 
 pub returns-in-Err-write_batch-clause-stopped : goal.returns-in-Err-write_batch-clause-stopped
 returns-in-Err-write_batch-clause-stopped g c =
-    let see : g.row.D-Link.Denot → Seen = λ link. record { left = g.D.Link.Link.left link; written = g.D.Link.Link.written link; faults = g.D.Link.Link.faults link } in
+    let see : g.row.D-Link.Denot → Seen = seen_by g.D.Link.Link.had g.D.Link.Link.left g.D.Link.Link.written g.D.Link.Link.faults in
     let service : Service = record { program = arc_value c.args.served.now.program; framing = c.args.served.now.framing; meaning = g.L.Meaning.meaning (arc_value c.args.served.now.library) } in
     let before : Sight g.row.D-Link.Denot = record {
       to_come = g.D.Door.to_come c.args.door.now;

@@ -1,5 +1,5 @@
 use Rattle.std.proofs.Common.{ℕ, [], List, Option, refl, sym, ◌∙◌, subst, inl, inr, arith}
-use Rattle.flux_batches.specs.Links.{Seen}
+use Rattle.flux_batches.specs.Links.{Seen, seen_by}
 use Rattle.flux_batches.specs.Replies.{TakesBack}
 use Rattle.flux_batches.specs.Gathered.{AreGathered}
 use Rattle.flux_batches.proofs.Giving.{back_none}
@@ -20,7 +20,7 @@ returns-in-Err-Memory-clause-none g c log = record {
 
 pub returns-in-Err-clause-none : goal.returns-in-Err-clause-none
 returns-in-Err-clause-none g c log =
-    let see : g.row.D-Link.Denot → Seen = λ link. record { left = g.D.Link.Link.left link; written = g.D.Link.Link.written link; faults = g.D.Link.Link.faults link } in
+    let see : g.row.D-Link.Denot → Seen = seen_by g.D.Link.Link.had g.D.Link.Link.left g.D.Link.Link.written g.D.Link.Link.faults in
     let P : Option (List g.row.D-Link.Denot) → Type 0 = λ b. TakesBack b (g.D.Door.taken_back c.give_back.new.door) c.in-Err.links.items in
     let came = c.in-Err.links.items in
     let G : List g.row.D-Link.Denot → Type 0 = λ l. AreGathered (g.D.Door.to_come c.args.door.now) (g.D.Door.to_come c.gather.new.door) (g.D.Door.late c.args.door.now) (g.D.Door.late c.gather.new.door) l in

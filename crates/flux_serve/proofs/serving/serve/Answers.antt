@@ -1,7 +1,7 @@
 use Rattle.std.proofs.Common.{refl, sym, ◌∙◌, subst, arith}
 use Rattle.std.specs.Arc.{arc_value}
 use Rattle.flux_cells.specs.Kept.{Kept, cells_of}
-use Rattle.flux_batches.specs.Links.{Seen}
+use Rattle.flux_batches.specs.Links.{Seen, seen_by}
 use Rattle.flux_serve.specs.Batches.{Service}
 use Rattle.flux_serve.specs.Ends.{Sight}
 use Rattle.flux_serve.proofs.OneByOne.{SoFar, so_far_none, so_far_more, served_some}
@@ -9,7 +9,7 @@ use Rattle.flux_serve.proofs.serving.serve.Goals as goal
 
 pub batches-init : goal.batches-init
 batches-init g c =
-    let see : g.row.D-Link.Denot → Seen = λ link. record { left = g.D.Link.Link.left link; written = g.D.Link.Link.written link; faults = g.D.Link.Link.faults link } in
+    let see : g.row.D-Link.Denot → Seen = seen_by g.D.Link.Link.had g.D.Link.Link.left g.D.Link.Link.written g.D.Link.Link.faults in
     let service : Service = record { program = arc_value c.args.served.now.program; framing = c.args.served.now.framing; meaning = g.L.Meaning.meaning (arc_value c.args.served.now.library) } in
     let before : Sight g.row.D-Link.Denot = record {
       to_come = g.D.Door.to_come c.args.door.now;
@@ -23,7 +23,7 @@ batches-init g c =
 
 pub returns-in-Err-clause-served : goal.returns-in-Err-clause-served
 returns-in-Err-clause-served g c =
-    let see : g.row.D-Link.Denot → Seen = λ link. record { left = g.D.Link.Link.left link; written = g.D.Link.Link.written link; faults = g.D.Link.Link.faults link } in
+    let see : g.row.D-Link.Denot → Seen = seen_by g.D.Link.Link.had g.D.Link.Link.left g.D.Link.Link.written g.D.Link.Link.faults in
     let service : Service = record { program = arc_value c.args.served.now.program; framing = c.args.served.now.framing; meaning = g.L.Meaning.meaning (arc_value c.args.served.now.library) } in
     let before : Sight g.row.D-Link.Denot = record {
       to_come = g.D.Door.to_come c.args.door.now;
@@ -50,7 +50,7 @@ returns-in-Err-clause-served g c =
 
 pub batches-preserved : goal.batches-preserved
 batches-preserved g c =
-    let see : g.row.D-Link.Denot → Seen = λ link. record { left = g.D.Link.Link.left link; written = g.D.Link.Link.written link; faults = g.D.Link.Link.faults link } in
+    let see : g.row.D-Link.Denot → Seen = seen_by g.D.Link.Link.had g.D.Link.Link.left g.D.Link.Link.written g.D.Link.Link.faults in
     let service : Service = record { program = arc_value c.args.served.now.program; framing = c.args.served.now.framing; meaning = g.L.Meaning.meaning (arc_value c.args.served.now.library) } in
     let before : Sight g.row.D-Link.Denot = record {
       to_come = g.D.Door.to_come c.args.door.now;

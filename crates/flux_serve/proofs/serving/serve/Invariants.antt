@@ -1,13 +1,14 @@
 use Rattle.std.proofs.Common.{◌≡◌, ◌*◌, ◌≤◌}
 use Rattle.std.specs.Arc.{arc_value}
 use Rattle.flux_cells.specs.Kept.{cells_of}
+use Rattle.flux_batches.specs.Links.{seen_by}
 use Rattle.flux_serve.proofs.OneByOne.{SoFar}
 use Rattle.flux_serve.proofs.serving.serve.Given as goal
 
 -- the batches so far were served
 abbrev pub invariant-batches : goal.invariant-batches
 invariant-batches g l =
-    SoFar (λ link. record { left = g.D.Link.Link.left link; written = g.D.Link.Link.written link; faults = g.D.Link.Link.faults link })
+    SoFar (seen_by g.D.Link.Link.had g.D.Link.Link.left g.D.Link.Link.written g.D.Link.Link.faults)
     (record { program = arc_value l.served.program; framing = l.served.framing; meaning = g.L.Meaning.meaning (arc_value l.served.library) })
     (record {
       to_come = g.D.Door.to_come l.fn.door;
