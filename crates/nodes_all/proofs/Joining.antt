@@ -9,8 +9,9 @@ use Rattle.flux_library.specs.Types.{kind_spelled}
 use Rattle.nodes_counter.specs.Counters.{counter_meaning}
 use Rattle.nodes_web.specs.Webs.{web_meaning}
 use Rattle.nodes_cache.specs.Cachings.{caching_meaning}
+use Rattle.nodes_tracker.specs.Trackers.{tracker_meaning}
 use Rattle.nodes_all.specs.Joined.{joined, Has}
-use Rattle.nodes_all.specs.Alls.{HasCounter, HasWeb, HasCaching}
+use Rattle.nodes_all.specs.Alls.{HasCounter, HasWeb, HasCaching, HasTracker}
 
 -- ---- joined libraries
 
@@ -21,7 +22,8 @@ AgreeOn a c f h = IfSome c (λ x. IfSome a (λ y. (y ≡ x) × (f ≡ h)))
 record Agree (first : LibraryMeaning) (part : LibraryMeaning) : Type 0 where
   kinds : (ty : List ℕ) → IfSome (part.kind ty) (λ x. IfSome (first.kind ty) (λ y. y ≡ x))
   nodes : (name : List ℕ) → AgreeOn (first.node name) (part.node name) (first.call name) (part.call name)
-  predicates : (name : List ℕ) → AgreeOn (first.predicate name) (part.predicate name) (first.test name) (part.test name)
+  predicates : (name : List ℕ)
+      → AgreeOn (first.predicate name) (part.predicate name) (first.test name) (part.test name)
   sessions : (name : List ℕ) → AgreeOn (first.session name) (part.session name) (first.id name) (part.id name)
 
 kept : {A B : Type 0} (a b c : Option A) (f g h : B) → IfSome c (λ x. (b ≡ Some x) × (g ≡ h)) → AgreeOn a c f h
@@ -40,12 +42,16 @@ kept_kind None b (Some x) has agree = has
 has_behind : (first second part : LibraryMeaning) → Has second part → Agree first part → Has (joined first second) part
 has_behind first second part has agree = record {
   kinds = λ ty. kept_kind (first.kind ty) (second.kind ty) (part.kind ty) (has.kinds ty) (agree.kinds ty);
-  nodes = λ name. kept (first.node name) (second.node name) (part.node name) (first.call name) (second.call name) (part.call name) (has.nodes name) (agree.nodes name);
-  predicates = λ name. kept (first.predicate name) (second.predicate name) (part.predicate name) (first.test name) (second.test name) (part.test name) (has.predicates name) (agree.predicates name);
-  sessions = λ name. kept (first.session name) (second.session name) (part.session name) (first.id name) (second.id name) (part.id name) (has.sessions name) (agree.sessions name);
+  nodes = λ name. kept (first.node name) (second.node name) (part.node name) (first.call name)
+      (second.call name) (part.call name) (has.nodes name) (agree.nodes name);
+  predicates = λ name. kept (first.predicate name) (second.predicate name) (part.predicate name)
+      (first.test name) (second.test name) (part.test name) (has.predicates name) (agree.predicates name);
+  sessions = λ name. kept (first.session name) (second.session name) (part.session name) (first.id name)
+      (second.id name) (part.id name) (has.sessions name) (agree.sessions name);
 }
 
-first_kept : {A B : Type 0} (a b : Option A) (f g : B) → IfSome a (λ x. (option_or a b ≡ Some x) × ((if is_some a then f else g) ≡ f))
+first_kept : {A B : Type 0} (a b : Option A) (f g : B)
+    → IfSome a (λ x. (option_or a b ≡ Some x) × ((if is_some a then f else g) ≡ f))
 first_kept None b f g = tt
 first_kept (Some x) b f g = (refl, refl)
 
@@ -58,7 +64,8 @@ has_first : (first second : LibraryMeaning) → Has (joined first second) first
 has_first first second = record {
   kinds = λ ty. first_kind (first.kind ty) (second.kind ty);
   nodes = λ name. first_kept (first.node name) (second.node name) (first.call name) (second.call name);
-  predicates = λ name. first_kept (first.predicate name) (second.predicate name) (first.test name) (second.test name);
+  predicates = λ name.
+      first_kept (first.predicate name) (second.predicate name) (first.test name) (second.test name);
   sessions = λ name. first_kept (first.session name) (second.session name) (first.id name) (second.id name);
 }
 
@@ -88,151 +95,246 @@ abbrev NodeAgrees : LibraryMeaning → LibraryMeaning → List ℕ → Type 0
 NodeAgrees first part name = AgreeOn (first.node name) (part.node name) (first.call name) (part.call name)
 
 abbrev PredicateAgrees : LibraryMeaning → LibraryMeaning → List ℕ → Type 0
-PredicateAgrees first part name = AgreeOn (first.predicate name) (part.predicate name) (first.test name) (part.test name)
+PredicateAgrees first part name =
+    AgreeOn (first.predicate name) (part.predicate name) (first.test name) (part.test name)
 
 abbrev SessionAgrees : LibraryMeaning → LibraryMeaning → List ℕ → Type 0
 SessionAgrees first part name = AgreeOn (first.session name) (part.session name) (first.id name) (part.id name)
 
-counter_web_nodes : (docs : DocMap) (name : List ℕ) → NodeAgrees counter_meaning (web_meaning docs) name
-counter_web_nodes docs name = cases (bytes_eq name (codes "Accept")) refl (bytes_eq name (codes "ReadRequest")) refl (bytes_eq name (codes "LookUp")) refl (bytes_eq name (codes "SendDoc")) refl (bytes_eq name (codes "SendHead")) refl (bytes_eq name (codes "NotFound")) refl (bytes_eq name (codes "NotAllowed")) refl (bytes_eq name (codes "BadRequest")) refl
+-- what is said of a word, and of each name that isn't this word, is said of each name
+at_word : (Said : List ℕ → Type 0) (name word : List ℕ) → Said word → (bytes_eq name word ≡ false → Said name)
+    → Said name
+at_word Said name word here other = by (bytes_eq name word) refl
   where
-    named : (word : List ℕ) → bytes_eq name word ≡ true → NodeAgrees counter_meaning (web_meaning docs) word → NodeAgrees counter_meaning (web_meaning docs) name
-    named word e said = subst (λ (n : List ℕ). NodeAgrees counter_meaning (web_meaning docs) n) (sym ((bytes_eq-Decides name word).0 e)) said
+    by : (b : Bool) → bytes_eq name word ≡ b → Said name
+    by true e = subst Said (sym ((bytes_eq-Decides name word).0 e)) here
+    by false e = other e
 
-    cases : (a : Bool) → bytes_eq name (codes "Accept") ≡ a → (b : Bool) → bytes_eq name (codes "ReadRequest") ≡ b → (c : Bool) → bytes_eq name (codes "LookUp") ≡ c → (d : Bool) → bytes_eq name (codes "SendDoc") ≡ d → (e : Bool) → bytes_eq name (codes "SendHead") ≡ e → (f : Bool) → bytes_eq name (codes "NotFound") ≡ f → (g : Bool) → bytes_eq name (codes "NotAllowed") ≡ g → (h : Bool) → bytes_eq name (codes "BadRequest") ≡ h
-        → NodeAgrees counter_meaning (web_meaning docs) name
-    cases true p b q c r d s e t f u g v h w = named (codes "Accept") p tt
-    cases false p true q c r d s e t f u g v h w = named (codes "ReadRequest") q tt
-    cases false p false q true r d s e t f u g v h w = named (codes "LookUp") r tt
-    cases false p false q false r true s e t f u g v h w = named (codes "SendDoc") s tt
-    cases false p false q false r false s true t f u g v h w = named (codes "SendHead") t tt
-    cases false p false q false r false s false t true u g v h w = named (codes "NotFound") u tt
-    cases false p false q false r false s false t false u true v h w = named (codes "NotAllowed") v tt
-    cases false p false q false r false s false t false u false v true w = named (codes "BadRequest") w tt
-    cases false p false q false r false s false t false u false v false w = rw (p, q, r, s, t, u, v, w) tt
+counter_web_nodes : (docs : DocMap) (name : List ℕ) → NodeAgrees counter_meaning (web_meaning docs) name
+counter_web_nodes docs name =
+    let Said = λ (n : List ℕ). NodeAgrees counter_meaning (web_meaning docs) n in
+    at_word Said name (codes "Accept") tt (λ a.
+    at_word Said name (codes "ReadRequest") tt (λ b.
+    at_word Said name (codes "LookUp") tt (λ c.
+    at_word Said name (codes "SendDoc") tt (λ d.
+    at_word Said name (codes "SendHead") tt (λ e.
+    at_word Said name (codes "NotFound") tt (λ f.
+    at_word Said name (codes "NotAllowed") tt (λ g.
+    at_word Said name (codes "BadRequest") tt (λ h.
+    rw (a, b, c, d, e, f, g, h) tt))))))))
 
 counter_caching_nodes : (docs : DocMap) (name : List ℕ) → NodeAgrees counter_meaning (caching_meaning docs) name
-counter_caching_nodes docs name = cases (bytes_eq name (codes "Listen")) refl (bytes_eq name (codes "ReadName")) refl (bytes_eq name (codes "CheckCache")) refl (bytes_eq name (codes "ReadInFromDisk")) refl (bytes_eq name (codes "StoreInCache")) refl (bytes_eq name (codes "Write")) refl (bytes_eq name (codes "Complete")) refl (bytes_eq name (codes "FourOhFour")) refl
-  where
-    named : (word : List ℕ) → bytes_eq name word ≡ true → NodeAgrees counter_meaning (caching_meaning docs) word → NodeAgrees counter_meaning (caching_meaning docs) name
-    named word e said = subst (λ (n : List ℕ). NodeAgrees counter_meaning (caching_meaning docs) n) (sym ((bytes_eq-Decides name word).0 e)) said
+counter_caching_nodes docs name =
+    let Said = λ (n : List ℕ). NodeAgrees counter_meaning (caching_meaning docs) n in
+    at_word Said name (codes "Listen") (refl, refl) (λ a.
+    at_word Said name (codes "ReadName") tt (λ b.
+    at_word Said name (codes "CheckCache") tt (λ c.
+    at_word Said name (codes "ReadInFromDisk") tt (λ d.
+    at_word Said name (codes "StoreInCache") tt (λ e.
+    at_word Said name (codes "Write") tt (λ f.
+    at_word Said name (codes "Complete") tt (λ g.
+    at_word Said name (codes "FourOhFour") tt (λ h.
+    rw (a, b, c, d, e, f, g, h) tt))))))))
 
-    cases : (a : Bool) → bytes_eq name (codes "Listen") ≡ a → (b : Bool) → bytes_eq name (codes "ReadName") ≡ b → (c : Bool) → bytes_eq name (codes "CheckCache") ≡ c → (d : Bool) → bytes_eq name (codes "ReadInFromDisk") ≡ d → (e : Bool) → bytes_eq name (codes "StoreInCache") ≡ e → (f : Bool) → bytes_eq name (codes "Write") ≡ f → (g : Bool) → bytes_eq name (codes "Complete") ≡ g → (h : Bool) → bytes_eq name (codes "FourOhFour") ≡ h
-        → NodeAgrees counter_meaning (caching_meaning docs) name
-    cases true p b q c r d s e t f u g v h w = named (codes "Listen") p (refl, refl)
-    cases false p true q c r d s e t f u g v h w = named (codes "ReadName") q tt
-    cases false p false q true r d s e t f u g v h w = named (codes "CheckCache") r tt
-    cases false p false q false r true s e t f u g v h w = named (codes "ReadInFromDisk") s tt
-    cases false p false q false r false s true t f u g v h w = named (codes "StoreInCache") t tt
-    cases false p false q false r false s false t true u g v h w = named (codes "Write") u tt
-    cases false p false q false r false s false t false u true v h w = named (codes "Complete") v tt
-    cases false p false q false r false s false t false u false v true w = named (codes "FourOhFour") w tt
-    cases false p false q false r false s false t false u false v false w = rw (p, q, r, s, t, u, v, w) tt
+counter_tracker_nodes : (name : List ℕ) → NodeAgrees counter_meaning tracker_meaning name
+counter_tracker_nodes name =
+    let Said = λ (n : List ℕ). NodeAgrees counter_meaning tracker_meaning n in
+    at_word Said name (codes "Listen") (refl, refl) (λ a.
+    at_word Said name (codes "ReadAsk") tt (λ b.
+    at_word Said name (codes "Swarm") tt (λ c.
+    at_word Said name (codes "Scrape") tt (λ d.
+    at_word Said name (codes "Send") tt (λ e.
+    at_word Said name (codes "Failure") tt (λ f.
+    at_word Said name (codes "Full") tt (λ g.
+    rw (a, b, c, d, e, f, g) tt)))))))
 
 web_caching_nodes : (docs : DocMap) (name : List ℕ) → NodeAgrees (web_meaning docs) (caching_meaning docs) name
-web_caching_nodes docs name = cases (bytes_eq name (codes "Listen")) refl (bytes_eq name (codes "ReadName")) refl (bytes_eq name (codes "CheckCache")) refl (bytes_eq name (codes "ReadInFromDisk")) refl (bytes_eq name (codes "StoreInCache")) refl (bytes_eq name (codes "Write")) refl (bytes_eq name (codes "Complete")) refl (bytes_eq name (codes "FourOhFour")) refl
-  where
-    named : (word : List ℕ) → bytes_eq name word ≡ true → NodeAgrees (web_meaning docs) (caching_meaning docs) word → NodeAgrees (web_meaning docs) (caching_meaning docs) name
-    named word e said = subst (λ (n : List ℕ). NodeAgrees (web_meaning docs) (caching_meaning docs) n) (sym ((bytes_eq-Decides name word).0 e)) said
+web_caching_nodes docs name =
+    let Said = λ (n : List ℕ). NodeAgrees (web_meaning docs) (caching_meaning docs) n in
+    at_word Said name (codes "Listen") tt (λ a.
+    at_word Said name (codes "ReadName") tt (λ b.
+    at_word Said name (codes "CheckCache") tt (λ c.
+    at_word Said name (codes "ReadInFromDisk") tt (λ d.
+    at_word Said name (codes "StoreInCache") tt (λ e.
+    at_word Said name (codes "Write") tt (λ f.
+    at_word Said name (codes "Complete") tt (λ g.
+    at_word Said name (codes "FourOhFour") tt (λ h.
+    rw (a, b, c, d, e, f, g, h) tt))))))))
 
-    cases : (a : Bool) → bytes_eq name (codes "Listen") ≡ a → (b : Bool) → bytes_eq name (codes "ReadName") ≡ b → (c : Bool) → bytes_eq name (codes "CheckCache") ≡ c → (d : Bool) → bytes_eq name (codes "ReadInFromDisk") ≡ d → (e : Bool) → bytes_eq name (codes "StoreInCache") ≡ e → (f : Bool) → bytes_eq name (codes "Write") ≡ f → (g : Bool) → bytes_eq name (codes "Complete") ≡ g → (h : Bool) → bytes_eq name (codes "FourOhFour") ≡ h
-        → NodeAgrees (web_meaning docs) (caching_meaning docs) name
-    cases true p b q c r d s e t f u g v h w = named (codes "Listen") p tt
-    cases false p true q c r d s e t f u g v h w = named (codes "ReadName") q tt
-    cases false p false q true r d s e t f u g v h w = named (codes "CheckCache") r tt
-    cases false p false q false r true s e t f u g v h w = named (codes "ReadInFromDisk") s tt
-    cases false p false q false r false s true t f u g v h w = named (codes "StoreInCache") t tt
-    cases false p false q false r false s false t true u g v h w = named (codes "Write") u tt
-    cases false p false q false r false s false t false u true v h w = named (codes "Complete") v tt
-    cases false p false q false r false s false t false u false v true w = named (codes "FourOhFour") w tt
-    cases false p false q false r false s false t false u false v false w = rw (p, q, r, s, t, u, v, w) tt
+web_tracker_nodes : (docs : DocMap) (name : List ℕ) → NodeAgrees (web_meaning docs) tracker_meaning name
+web_tracker_nodes docs name =
+    let Said = λ (n : List ℕ). NodeAgrees (web_meaning docs) tracker_meaning n in
+    at_word Said name (codes "Listen") tt (λ a.
+    at_word Said name (codes "ReadAsk") tt (λ b.
+    at_word Said name (codes "Swarm") tt (λ c.
+    at_word Said name (codes "Scrape") tt (λ d.
+    at_word Said name (codes "Send") tt (λ e.
+    at_word Said name (codes "Failure") tt (λ f.
+    at_word Said name (codes "Full") tt (λ g.
+    rw (a, b, c, d, e, f, g) tt)))))))
+
+caching_tracker_nodes : (docs : DocMap) (name : List ℕ) → NodeAgrees (caching_meaning docs) tracker_meaning name
+caching_tracker_nodes docs name =
+    let Said = λ (n : List ℕ). NodeAgrees (caching_meaning docs) tracker_meaning n in
+    at_word Said name (codes "Listen") (refl, refl) (λ a.
+    at_word Said name (codes "ReadAsk") tt (λ b.
+    at_word Said name (codes "Swarm") tt (λ c.
+    at_word Said name (codes "Scrape") tt (λ d.
+    at_word Said name (codes "Send") tt (λ e.
+    at_word Said name (codes "Failure") tt (λ f.
+    at_word Said name (codes "Full") tt (λ g.
+    rw (a, b, c, d, e, f, g) tt)))))))
 
 counter_web_predicates : (docs : DocMap) (name : List ℕ) → PredicateAgrees counter_meaning (web_meaning docs) name
-counter_web_predicates docs name = cases (bytes_eq name (codes "IsGet")) refl (bytes_eq name (codes "IsHead")) refl
-  where
-    named : (word : List ℕ) → bytes_eq name word ≡ true → PredicateAgrees counter_meaning (web_meaning docs) word → PredicateAgrees counter_meaning (web_meaning docs) name
-    named word e said = subst (λ (n : List ℕ). PredicateAgrees counter_meaning (web_meaning docs) n) (sym ((bytes_eq-Decides name word).0 e)) said
+counter_web_predicates docs name =
+    let Said = λ (n : List ℕ). PredicateAgrees counter_meaning (web_meaning docs) n in
+    at_word Said name (codes "IsGet") tt (λ a.
+    at_word Said name (codes "IsHead") tt (λ b.
+    rw (a, b) tt))
 
-    cases : (a : Bool) → bytes_eq name (codes "IsGet") ≡ a → (b : Bool) → bytes_eq name (codes "IsHead") ≡ b
-        → PredicateAgrees counter_meaning (web_meaning docs) name
-    cases true p b q = named (codes "IsGet") p tt
-    cases false p true q = named (codes "IsHead") q tt
-    cases false p false q = rw (p, q) tt
+counter_caching_predicates : (docs : DocMap) (name : List ℕ)
+    → PredicateAgrees counter_meaning (caching_meaning docs) name
+counter_caching_predicates docs name =
+    let Said = λ (n : List ℕ). PredicateAgrees counter_meaning (caching_meaning docs) n in
+    at_word Said name (codes "TestInCache") tt (λ a.
+    rw a tt)
 
-counter_caching_predicates : (docs : DocMap) (name : List ℕ) → PredicateAgrees counter_meaning (caching_meaning docs) name
-counter_caching_predicates docs name = cases (bytes_eq name (codes "TestInCache")) refl
-  where
-    named : (word : List ℕ) → bytes_eq name word ≡ true → PredicateAgrees counter_meaning (caching_meaning docs) word → PredicateAgrees counter_meaning (caching_meaning docs) name
-    named word e said = subst (λ (n : List ℕ). PredicateAgrees counter_meaning (caching_meaning docs) n) (sym ((bytes_eq-Decides name word).0 e)) said
+counter_tracker_predicates : (name : List ℕ) → PredicateAgrees counter_meaning tracker_meaning name
+counter_tracker_predicates name =
+    let Said = λ (n : List ℕ). PredicateAgrees counter_meaning tracker_meaning n in
+    at_word Said name (codes "IsScrape") tt (λ a.
+    rw a tt)
 
-    cases : (a : Bool) → bytes_eq name (codes "TestInCache") ≡ a
-        → PredicateAgrees counter_meaning (caching_meaning docs) name
-    cases true p = named (codes "TestInCache") p tt
-    cases false p = rw p tt
+web_caching_predicates : (docs : DocMap) (name : List ℕ)
+    → PredicateAgrees (web_meaning docs) (caching_meaning docs) name
+web_caching_predicates docs name =
+    let Said = λ (n : List ℕ). PredicateAgrees (web_meaning docs) (caching_meaning docs) n in
+    at_word Said name (codes "TestInCache") tt (λ a.
+    rw a tt)
 
-web_caching_predicates : (docs : DocMap) (name : List ℕ) → PredicateAgrees (web_meaning docs) (caching_meaning docs) name
-web_caching_predicates docs name = cases (bytes_eq name (codes "TestInCache")) refl
-  where
-    named : (word : List ℕ) → bytes_eq name word ≡ true → PredicateAgrees (web_meaning docs) (caching_meaning docs) word → PredicateAgrees (web_meaning docs) (caching_meaning docs) name
-    named word e said = subst (λ (n : List ℕ). PredicateAgrees (web_meaning docs) (caching_meaning docs) n) (sym ((bytes_eq-Decides name word).0 e)) said
+web_tracker_predicates : (docs : DocMap) (name : List ℕ) → PredicateAgrees (web_meaning docs) tracker_meaning name
+web_tracker_predicates docs name =
+    let Said = λ (n : List ℕ). PredicateAgrees (web_meaning docs) tracker_meaning n in
+    at_word Said name (codes "IsScrape") tt (λ a.
+    rw a tt)
 
-    cases : (a : Bool) → bytes_eq name (codes "TestInCache") ≡ a
-        → PredicateAgrees (web_meaning docs) (caching_meaning docs) name
-    cases true p = named (codes "TestInCache") p tt
-    cases false p = rw p tt
+caching_tracker_predicates : (docs : DocMap) (name : List ℕ)
+    → PredicateAgrees (caching_meaning docs) tracker_meaning name
+caching_tracker_predicates docs name =
+    let Said = λ (n : List ℕ). PredicateAgrees (caching_meaning docs) tracker_meaning n in
+    at_word Said name (codes "IsScrape") tt (λ a.
+    rw a tt)
 
 counter_web_sessions : (docs : DocMap) (name : List ℕ) → SessionAgrees counter_meaning (web_meaning docs) name
-counter_web_sessions docs name = cases (bytes_eq name (codes "ByConn")) refl
-  where
-    named : (word : List ℕ) → bytes_eq name word ≡ true → SessionAgrees counter_meaning (web_meaning docs) word → SessionAgrees counter_meaning (web_meaning docs) name
-    named word e said = subst (λ (n : List ℕ). SessionAgrees counter_meaning (web_meaning docs) n) (sym ((bytes_eq-Decides name word).0 e)) said
+counter_web_sessions docs name =
+    let Said = λ (n : List ℕ). SessionAgrees counter_meaning (web_meaning docs) n in
+    at_word Said name (codes "ByConn") (refl, refl) (λ a.
+    rw a tt)
 
-    cases : (a : Bool) → bytes_eq name (codes "ByConn") ≡ a
-        → SessionAgrees counter_meaning (web_meaning docs) name
-    cases true p = named (codes "ByConn") p (refl, refl)
-    cases false p = rw p tt
+counter_caching_sessions : (docs : DocMap) (name : List ℕ)
+    → SessionAgrees counter_meaning (caching_meaning docs) name
+counter_caching_sessions docs name =
+    let Said = λ (n : List ℕ). SessionAgrees counter_meaning (caching_meaning docs) n in
+    at_word Said name (codes "ByConn") (refl, refl) (λ a.
+    rw a tt)
 
-counter_caching_sessions : (docs : DocMap) (name : List ℕ) → SessionAgrees counter_meaning (caching_meaning docs) name
-counter_caching_sessions docs name = cases (bytes_eq name (codes "ByConn")) refl
-  where
-    named : (word : List ℕ) → bytes_eq name word ≡ true → SessionAgrees counter_meaning (caching_meaning docs) word → SessionAgrees counter_meaning (caching_meaning docs) name
-    named word e said = subst (λ (n : List ℕ). SessionAgrees counter_meaning (caching_meaning docs) n) (sym ((bytes_eq-Decides name word).0 e)) said
+counter_tracker_sessions : (name : List ℕ) → SessionAgrees counter_meaning tracker_meaning name
+counter_tracker_sessions name =
+    let Said = λ (n : List ℕ). SessionAgrees counter_meaning tracker_meaning n in
+    at_word Said name (codes "ByConn") (refl, refl) (λ a.
+    rw a tt)
 
-    cases : (a : Bool) → bytes_eq name (codes "ByConn") ≡ a
-        → SessionAgrees counter_meaning (caching_meaning docs) name
-    cases true p = named (codes "ByConn") p (refl, refl)
-    cases false p = rw p tt
+web_caching_sessions : (docs : DocMap) (name : List ℕ)
+    → SessionAgrees (web_meaning docs) (caching_meaning docs) name
+web_caching_sessions docs name =
+    let Said = λ (n : List ℕ). SessionAgrees (web_meaning docs) (caching_meaning docs) n in
+    at_word Said name (codes "ByConn") (refl, refl) (λ a.
+    rw a tt)
 
-web_caching_sessions : (docs : DocMap) (name : List ℕ) → SessionAgrees (web_meaning docs) (caching_meaning docs) name
-web_caching_sessions docs name = cases (bytes_eq name (codes "ByConn")) refl
-  where
-    named : (word : List ℕ) → bytes_eq name word ≡ true → SessionAgrees (web_meaning docs) (caching_meaning docs) word → SessionAgrees (web_meaning docs) (caching_meaning docs) name
-    named word e said = subst (λ (n : List ℕ). SessionAgrees (web_meaning docs) (caching_meaning docs) n) (sym ((bytes_eq-Decides name word).0 e)) said
+web_tracker_sessions : (docs : DocMap) (name : List ℕ) → SessionAgrees (web_meaning docs) tracker_meaning name
+web_tracker_sessions docs name =
+    let Said = λ (n : List ℕ). SessionAgrees (web_meaning docs) tracker_meaning n in
+    at_word Said name (codes "ByConn") (refl, refl) (λ a.
+    rw a tt)
 
-    cases : (a : Bool) → bytes_eq name (codes "ByConn") ≡ a
-        → SessionAgrees (web_meaning docs) (caching_meaning docs) name
-    cases true p = named (codes "ByConn") p (refl, refl)
-    cases false p = rw p tt
+caching_tracker_sessions : (docs : DocMap) (name : List ℕ)
+    → SessionAgrees (caching_meaning docs) tracker_meaning name
+caching_tracker_sessions docs name =
+    let Said = λ (n : List ℕ). SessionAgrees (caching_meaning docs) tracker_meaning n in
+    at_word Said name (codes "ByConn") (refl, refl) (λ a.
+    rw a tt)
 
 -- ---- the groups
 
 counter_web : (docs : DocMap) → Agree counter_meaning (web_meaning docs)
-counter_web docs = record { kinds = λ ty. agree_kind (kind_spelled ty); nodes = counter_web_nodes docs; predicates = counter_web_predicates docs; sessions = counter_web_sessions docs }
+counter_web docs = record {
+  kinds = λ ty. agree_kind (kind_spelled ty);
+  nodes = counter_web_nodes docs;
+  predicates = counter_web_predicates docs;
+  sessions = counter_web_sessions docs;
+}
 
 counter_caching : (docs : DocMap) → Agree counter_meaning (caching_meaning docs)
-counter_caching docs = record { kinds = λ ty. agree_kind (kind_spelled ty); nodes = counter_caching_nodes docs; predicates = counter_caching_predicates docs; sessions = counter_caching_sessions docs }
+counter_caching docs = record {
+  kinds = λ ty. agree_kind (kind_spelled ty);
+  nodes = counter_caching_nodes docs;
+  predicates = counter_caching_predicates docs;
+  sessions = counter_caching_sessions docs;
+}
+
+counter_tracker : Agree counter_meaning tracker_meaning
+counter_tracker = record {
+  kinds = λ ty. agree_kind (kind_spelled ty);
+  nodes = counter_tracker_nodes;
+  predicates = counter_tracker_predicates;
+  sessions = counter_tracker_sessions;
+}
 
 web_caching : (docs : DocMap) → Agree (web_meaning docs) (caching_meaning docs)
-web_caching docs = record { kinds = λ ty. agree_kind (kind_spelled ty); nodes = web_caching_nodes docs; predicates = web_caching_predicates docs; sessions = web_caching_sessions docs }
+web_caching docs = record {
+  kinds = λ ty. agree_kind (kind_spelled ty);
+  nodes = web_caching_nodes docs;
+  predicates = web_caching_predicates docs;
+  sessions = web_caching_sessions docs;
+}
+
+web_tracker : (docs : DocMap) → Agree (web_meaning docs) tracker_meaning
+web_tracker docs = record {
+  kinds = λ ty. agree_kind (kind_spelled ty);
+  nodes = web_tracker_nodes docs;
+  predicates = web_tracker_predicates docs;
+  sessions = web_tracker_sessions docs;
+}
+
+caching_tracker : (docs : DocMap) → Agree (caching_meaning docs) tracker_meaning
+caching_tracker docs = record {
+  kinds = λ ty. agree_kind (kind_spelled ty);
+  nodes = caching_tracker_nodes docs;
+  predicates = caching_tracker_predicates docs;
+  sessions = caching_tracker_sessions docs;
+}
+
+-- all but the first, and all but the first two
+abbrev behind_counter : DocMap → LibraryMeaning
+behind_counter docs = joined (web_meaning docs) (joined (caching_meaning docs) tracker_meaning)
+
+abbrev behind_web : DocMap → LibraryMeaning
+behind_web docs = joined (caching_meaning docs) tracker_meaning
 
 pub has_counter : HasCounter
-has_counter docs = has_first counter_meaning (joined (web_meaning docs) (caching_meaning docs))
+has_counter docs = has_first counter_meaning (behind_counter docs)
 
 pub has_web : HasWeb
-has_web docs = has_behind counter_meaning (joined (web_meaning docs) (caching_meaning docs)) (web_meaning docs)
-    (has_first (web_meaning docs) (caching_meaning docs)) (counter_web docs)
+has_web docs = has_behind counter_meaning (behind_counter docs) (web_meaning docs)
+    (has_first (web_meaning docs) (behind_web docs)) (counter_web docs)
 
 pub has_caching : HasCaching
-has_caching docs = has_behind counter_meaning (joined (web_meaning docs) (caching_meaning docs)) (caching_meaning docs)
-    (has_behind (web_meaning docs) (caching_meaning docs) (caching_meaning docs) (has_itself (caching_meaning docs)) (web_caching docs))
-    (counter_caching docs)
+has_caching docs = has_behind counter_meaning (behind_counter docs) (caching_meaning docs)
+    (has_behind (web_meaning docs) (behind_web docs) (caching_meaning docs)
+    (has_first (caching_meaning docs) tracker_meaning) (web_caching docs)) (counter_caching docs)
+
+pub has_tracker : HasTracker
+has_tracker docs = has_behind counter_meaning (behind_counter docs) tracker_meaning
+    (has_behind (web_meaning docs) (behind_web docs) tracker_meaning
+    (has_behind (caching_meaning docs) tracker_meaning tracker_meaning (has_itself tracker_meaning)
+    (caching_tracker docs)) (web_tracker docs)) counter_tracker

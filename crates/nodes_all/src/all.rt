@@ -8,7 +8,7 @@ use flux_values::{Answer, Cell, Kind, List, Meaning, Memory, Sig, Value};
 use nodes_counter::Counter;
 use std::alloc::Global;
 
-/// The nodes of `Counter`, `Web` and `Caching`, the last two over the same documents.
+/// The nodes of `Counter`, `Web`, `Caching` and `Tracker`, those of `Web` and `Caching` over the same documents.
 #[derive(Debug, Drop)]
 pub struct All {
     pub docs: Docs,
@@ -34,13 +34,16 @@ impl Library for All {
             Ok(Some(node.sig(alloc)?))
         } else if let Some(node) = nodes_cache::Node::named(name) {
             Ok(Some(node.sig(alloc)?))
+        } else if let Some(node) = nodes_tracker::Node::named(name) {
+            Ok(Some(node.sig(alloc)?))
         } else {
             Ok(None)
         }
     }
 
     fn predicate(&self, name: &[u8]) -> Option<Kind> {
-        let others = nodes_web::asked(name).or(nodes_cache::asked(name));
+        let last = nodes_cache::asked(name).or(nodes_tracker::asked(name));
+        let others = nodes_web::asked(name).or(last);
         Counter.predicate(name).or(others)
     }
 
@@ -62,16 +65,23 @@ impl Library for All {
             node.answer(alloc, &self.docs, args)
         } else if let Some(node) = nodes_cache::Node::named(name) {
             node.answer(alloc, &self.docs, args, cells)
+        } else if let Some(node) = nodes_tracker::Node::named(name) {
+            node.answer(alloc, args, cells)
         } else {
             good(alloc, List::new(alloc))
         }
     }
 
     fn test(&self, name: &[u8], arg: &Value) -> bool {
-        match (Counter.predicate(name), nodes_web::asked(name)) {
-            (Some(_), _) => Counter.test(name, arg),
-            (None, Some(_)) => nodes_web::holds(name, arg),
-            (None, None) => nodes_cache::holds(name, arg),
+        match (
+            Counter.predicate(name),
+            nodes_web::asked(name),
+            nodes_cache::asked(name),
+        ) {
+            (Some(_), _, _) => Counter.test(name, arg),
+            (None, Some(_), _) => nodes_web::holds(name, arg),
+            (None, None, Some(_)) => nodes_cache::holds(name, arg),
+            (None, None, None) => nodes_tracker::holds(name, arg),
         }
     }
 

@@ -20,7 +20,7 @@ mod tracker;
 pub use hashes::read_hash;
 pub use laws::{kept_reads_back, nothing_else_reads};
 pub use nodes::Node;
-pub use peers::{PEER_LIMIT, Peer, read_swarm};
+pub use peers::{PEER_LIMIT, Peer, put_in, read_swarm, take_out};
 pub use predicates::{asked, holds};
 pub use replies::SHOWN_LIMIT;
 pub use tracker::Tracker;

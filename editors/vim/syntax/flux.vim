@@ -5,8 +5,8 @@ endif
 syntax case match
 syntax keyword fluxReserved source typedef handle error atomic session
 syntax keyword fluxType int long bool text char
-syntax keyword fluxFunction IsZero IsNegative IsAdd IsGet IsHead TestInCache ByConn ByNumber
-syntax match fluxNode "\<\%(Tick\|Listen\|Pass\|Fail\|Show\|Echo\|Refuse\|Command\|Amount\|Add\|Read\|Bump\|Accept\|ReadRequest\|LookUp\|SendDoc\|SendHead\|NotFound\|NotAllowed\|BadRequest\|ReadName\|CheckCache\|ReadInFromDisk\|StoreInCache\|Write\|Complete\|FourOhFour\)\%(_\w*\)\?\>"
+syntax keyword fluxFunction IsZero IsNegative IsAdd IsGet IsHead TestInCache IsScrape ByConn ByNumber
+syntax match fluxNode "\<\%(Tick\|Listen\|Pass\|Fail\|Show\|Echo\|Refuse\|Command\|Amount\|Add\|Read\|Bump\|Accept\|ReadRequest\|LookUp\|SendDoc\|SendHead\|NotFound\|NotAllowed\|BadRequest\|ReadName\|CheckCache\|ReadInFromDisk\|StoreInCache\|Write\|Complete\|FourOhFour\|ReadAsk\|Swarm\|Scrape\|Send\|Failure\|Full\)\%(_\w*\)\?\>"
 syntax match fluxNumber "\<[0-9]\+\>"
 syntax match fluxMark "->\|=>\|[?!]"
 syntax match fluxWild "\<_\>"

@@ -15,11 +15,14 @@ use Rattle.nodes_web.specs.laws.Webs.{web_lawful}
 use Rattle.nodes_web.specs.Webs.{web_meaning}
 use Rattle.nodes_cache.specs.laws.Cachings.{caching_lawful}
 use Rattle.nodes_cache.specs.Cachings.{caching_meaning}
+use Rattle.nodes_tracker.specs.laws.Trackers.{tracker_lawful}
+use Rattle.nodes_tracker.specs.Trackers.{tracker_meaning}
 use Rattle.nodes_all.specs.Joined.{joined}
 use Rattle.nodes_all.specs.Alls.{all_meaning}
 
 -- a type is short where each of two libraries has only short types
-short_kept : {A : Type 0} (short : Type 0) (a b : Option A) → IfSome a (λ _. short) → IfSome b (λ _. short) → IfSome (option_or a b) (λ _. short)
+short_kept : {A : Type 0} (short : Type 0) (a b : Option A) → IfSome a (λ _. short) → IfSome b (λ _. short)
+    → IfSome (option_or a b) (λ _. short)
 short_kept short (Some kind) b one other = one
 short_kept short None b one other = other
 
@@ -31,10 +34,15 @@ node_kept None b f g one other = other
 
 joined_lawful : (first second : LibraryMeaning) → IsLawful first → IsLawful second → IsLawful (joined first second)
 joined_lawful first second one other = record {
-  short = λ ty. short_kept (length ty ≤ TEXT_LIMIT) (first.kind ty) (second.kind ty) (one.short ty) (other.short ty);
-  nodes = λ name. node_kept (first.node name) (second.node name) (first.call name) (second.call name) (one.nodes name) (other.nodes name);
+  short = λ ty.
+      short_kept (length ty ≤ TEXT_LIMIT) (first.kind ty) (second.kind ty) (one.short ty) (other.short ty);
+  nodes = λ name. node_kept (first.node name) (second.node name) (first.call name) (second.call name)
+      (one.nodes name) (other.nodes name);
 }
 
 pub all_lawful : (docs : DocMap) → IsLawful (all_meaning docs)
-all_lawful docs = joined_lawful counter_meaning (joined (web_meaning docs) (caching_meaning docs)) (counter_lawful docs)
-    (joined_lawful (web_meaning docs) (caching_meaning docs) (web_lawful (record { docs = docs })) (caching_lawful docs))
+all_lawful docs =
+    let last = joined (caching_meaning docs) tracker_meaning in
+    joined_lawful counter_meaning (joined (web_meaning docs) last) (counter_lawful docs)
+    (joined_lawful (web_meaning docs) last (web_lawful (record { docs = docs }))
+    (joined_lawful (caching_meaning docs) tracker_meaning (caching_lawful docs) (tracker_lawful docs)))

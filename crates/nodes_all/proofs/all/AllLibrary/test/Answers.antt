@@ -1,11 +1,19 @@
 use Rattle.std.proofs.Common.{sym}
 use Rattle.nodes_all.proofs.all.AllLibrary.test.Goals as goal
 
-pub returns-in-Some-default : goal.returns-in-Some-default
-returns-in-Some-default c = rw (sym c.in-Some-default.ensures) c.test.ensures
+pub returns-in-Some-default-default : goal.returns-in-Some-default-default
+returns-in-Some-default-default c = rw (sym c.in-Some-default-default.ensures) c.test.ensures
 
-pub returns-in-None-Some : goal.returns-in-None-Some
-returns-in-None-Some c = rw (sym c.in-None-Some.ensures, sym c.in-None-Some.ensures') c.holds.ensures
+pub returns-in-None-Some-default : goal.returns-in-None-Some-default
+returns-in-None-Some-default c =
+    rw (sym c.in-None-Some-default.ensures, sym c.in-None-Some-default.ensures') c.holds.ensures
 
-pub returns-in-None-None : goal.returns-in-None-None
-returns-in-None-None c = rw (sym c.in-None-None.ensures, sym c.in-None-None.ensures') c.holds-in-None-None.ensures
+pub returns-in-None-None-Some : goal.returns-in-None-None-Some
+returns-in-None-None-Some c =
+    rw (sym c.in-None-None-Some.ensures, sym c.in-None-None-Some.ensures', sym c.in-None-None-Some.ensures'')
+    c.holds-in-None-None-Some.ensures
+
+pub returns-in-None-None-None : goal.returns-in-None-None-None
+returns-in-None-None-None c =
+    rw (sym c.in-None-None-None.ensures, sym c.in-None-None-None.ensures', sym c.in-None-None-None.ensures'')
+    c.holds-in-None-None-None.ensures

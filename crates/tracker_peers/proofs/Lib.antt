@@ -1,0 +1,6 @@
+mod Rising
+mod Moves
+mod Swarmed
+mod Cells
+mod Right
+mod Yielded

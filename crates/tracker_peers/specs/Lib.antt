@@ -1,0 +1,4 @@
+pub mod Asked
+pub mod Peers
+pub mod Tracked
+pub mod steps

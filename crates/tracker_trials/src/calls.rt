@@ -1,0 +1,125 @@
+//! Calls on made-up cells, and the lines about their answers.
+
+use crate::rows::{HASH, Held, Row};
+use flux_spelling::{append_number, append_value};
+use flux_values::{Answer, Bytes, CallResult, Cell, Put, TextBytes, Value};
+use std::alloc::Global;
+use trial_ends::Trouble;
+
+/// The most peers of a swarm.
+pub const PEERS: u32 = 1000;
+
+pub fn text(alloc: Global, bytes: &[u8]) -> Result<TextBytes, Trouble> {
+    match TextBytes::copy(alloc, bytes) {
+        Ok(text) => Ok(text),
+        Err(_) => Err(Trouble::Wrong),
+    }
+}
+
+/// The name that stands for the hash behind a mark.
+pub fn name(alloc: Global, mark: u8) -> Result<TextBytes, Trouble> {
+    let mut name = Vec::new(alloc);
+    name.push(mark)?;
+    name.extend_from_slice(HASH)?;
+    text(alloc, name.as_slice())
+}
+
+/// The address of a made-up peer, by its number.
+pub fn address_of(number: u32) -> [u8; 6] {
+    let high = b'0' + (number / 64 % 64) as u8;
+    let low = b'0' + (number % 64) as u8;
+    [b'0', b'0', b'0', b'0', high, low]
+}
+
+/// The text of a swarm of so many peers, with nothing left.
+pub fn swarm_of(alloc: Global, count: u32) -> Result<Vec<u8>, Trouble> {
+    let mut swarm = Vec::new(alloc);
+    swarm.push(b'd')?;
+    for number in 0..count {
+        swarm.extend_from_slice(b"6:")?;
+        swarm.extend_from_slice(&address_of(number))?;
+        swarm.extend_from_slice(b"i0e")?;
+    }
+    swarm.push(b'e')?;
+    Ok(swarm)
+}
+
+/// The cell before a call.
+fn cell_with(alloc: Global, held: Held) -> Result<Cell, Trouble> {
+    let mut cell = Cell::new(alloc);
+    match held {
+        Held::Nothing => {}
+        Held::Swarm(bytes) => {
+            let swarm = text(alloc, bytes)?;
+            cell.put(name(alloc, b'p')?, Some(Value::Text(swarm)))?;
+        }
+        Held::Peers(count) => {
+            let swarm = text(alloc, swarm_of(alloc, count)?.as_slice())?;
+            cell.put(name(alloc, b'p')?, Some(Value::Text(swarm)))?;
+        }
+        Held::NumberForSwarm => cell.put(name(alloc, b'p')?, Some(Value::Int(1)))?,
+        Held::Completions(number) => cell.put(name(alloc, b'c')?, Some(Value::Int(number)))?,
+        Held::TruthForCompletions => cell.put(name(alloc, b'c')?, Some(Value::Bool(true)))?,
+    }
+    Ok(cell)
+}
+
+/// What a row's node answers.
+pub fn answer_to(alloc: Global, row: &Row) -> Result<Answer, Trouble> {
+    let args = [
+        Value::Text(text(alloc, row.action)?),
+        Value::Text(text(alloc, row.hash)?),
+        Value::Text(text(alloc, row.peer)?),
+        Value::Int(row.left),
+    ];
+    let cells = [cell_with(alloc, row.held)?];
+    Ok(row.node.answer(alloc, args.as_slice(), cells.as_slice())?)
+}
+
+/// A put's mark, and its number or how long its text is.
+fn append_put(alloc: Global, out: &mut Bytes, put: &Put) -> Result<(), Trouble> {
+    out.append(if put.value.is_some() {
+        b" put "
+    } else {
+        b" cut "
+    })?;
+    if let Some(mark) = put.name.as_bytes().first() {
+        out.append(&[*mark])?;
+    }
+    match &put.value {
+        Some(Value::Text(text)) => {
+            out.append(b" ")?;
+            append_number(alloc, out, text.as_bytes().len() as u64)?;
+            out.append(b" bytes")?;
+        }
+        Some(value) => {
+            out.append(b" ")?;
+            append_value(alloc, out, value)?;
+        }
+        None => {}
+    }
+    Ok(())
+}
+
+/// The line about an answer.
+pub fn line_of(alloc: Global, row: &Row, answer: &Answer) -> Result<Bytes, Trouble> {
+    let mut out = Bytes::new(alloc);
+    out.append(row.name.as_bytes())?;
+    match &answer.result {
+        CallResult::Bad(code) => {
+            out.append(b": fails ")?;
+            append_number(alloc, &mut out, u64::from(*code))?;
+        }
+        CallResult::Good(values) => {
+            out.append(b": gives ")?;
+            for value in values {
+                append_value(alloc, &mut out, value)?;
+            }
+        }
+    }
+    for put in &answer.puts {
+        append_put(alloc, &mut out, put)?;
+    }
+    out.append(b"\n")?;
+    Ok(out)
+}

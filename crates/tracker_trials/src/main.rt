@@ -1,0 +1,60 @@
+//! The program `tracker_trials`: what only calls show of the tracker's nodes.
+//!
+//! It calls `Swarm` and `Scrape` on cells that no program would leave, at the limits of numbers and swarms, and on
+//! values that `ReadAsk` never gives. Each answer is a line. `announce N`, `read N` and `print N` do one thing so often
+//! with a swarm of the greatest size, for the bench.
+#![tactic(auto)]
+
+mod announces;
+mod calls;
+mod rows;
+
+use announces::{announce, print, read};
+use calls::{answer_to, line_of};
+use rows::ROWS;
+use std::env;
+use std::io::Write;
+use std::process::ExitCode;
+use trial_ends::Trouble;
+
+fn number(word: &str) -> Result<u32, Trouble> {
+    word.parse::<u32>().map_err(|_| Trouble::Words)
+}
+
+fn answer_all(rt: &HostRuntime) -> Result<(), Trouble> {
+    let alloc = rt.alloc();
+    for row in ROWS.as_slice() {
+        let answer = answer_to(alloc, row)?;
+        let line = line_of(alloc, row, &answer)?;
+        rt.stdout().write_all(line.as_bytes())?;
+    }
+    Ok(())
+}
+
+fn answer_many(rt: &HostRuntime, what: &str, count: u32) -> Result<(), Trouble> {
+    let alloc = rt.alloc();
+    let told = match what {
+        "announce" => announce(alloc, count)?,
+        "read" => read(alloc, count)?,
+        "print" => print(alloc, count)?,
+        _ => return Err(Trouble::Words),
+    };
+    println!(rt; "{what} {count}: {told}")?;
+    Ok(())
+}
+
+fn answer(rt: &HostRuntime) -> Result<(), Trouble> {
+    let words: Vec<String> = env::args(rt)?.collect(rt.alloc())?;
+    match words.as_slice() {
+        [_] => answer_all(rt),
+        [_, what, count] => answer_many(rt, what.as_str(), number(count.as_str())?),
+        _ => Err(Trouble::Words),
+    }
+}
+
+fn main(rt: HostRuntime) -> ExitCode {
+    match answer(&rt) {
+        Ok(()) => ExitCode::SUCCESS,
+        Err(trouble) => ExitCode::from(trouble.code()),
+    }
+}
