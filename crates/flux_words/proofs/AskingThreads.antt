@@ -12,7 +12,7 @@ use Rattle.flux_words.specs.declared.loads.TheConstants.{LOAD_LIMIT, FIRST_LIMIT
 use Rattle.flux_words.specs.Names.{IsNamed}
 use Rattle.flux_words.specs.Values.{SpellsNumber, IsRuntime, IsFormat}
 use Rattle.flux_words.specs.Behind.{Serving, HasParts, FitsServe}
-use Rattle.flux_words.specs.Commands.{Command, check, plan, format, run, audit, load, serve, help, Spells, SpellsNone, NeedsThreads}
+use Rattle.flux_words.specs.Commands.{Command, check, plan, format, run, audit, load, serve, help, simulate, Spells, SpellsNone, NeedsThreads}
 use Rattle.flux_words.specs.steps.Given.{files_of, listed, IsGiven}
 use Rattle.flux_words.specs.steps.Found.{IsThreaded}
 use Rattle.flux_words.specs.steps.Asking.{IsCommand, AskThreads}
@@ -44,13 +44,15 @@ calm name words no_run no_load no_serve = not_so (AskThreads name words) (λ ask
     by (load count first runtime) c needs = no_load c.is
     by (serve file serving) c needs = no_serve c.is
     by help c needs = needs
+    by (simulate file items simulating) c needs = needs
 
 module _ (words : List (List ℕ)) (given : Given) (is : IsGiven words given) (r : Bool) (told : IsTrue r ↔ IsThreaded (listed given.runtime)) where
-  pub run_asks : (file items : List ℕ) (journal : JournalFormat) → files_of given.files ≡ file ∷ items ∷ [] → IsFormat (listed given.journal) journal → listed given.port ≡ [] → listed given.batches ≡ [] → IsTrue r ↔ AskThreads names.Run words
-  run_asks file items journal files_ format_ p b = (
+  pub run_asks : (file items : List ℕ) (journal : JournalFormat) → files_of given.files ≡ file ∷ items ∷ [] → IsFormat (listed given.journal) journal → listed given.port ≡ [] → listed given.batches ≡ []
+      → listed given.processors ≡ [] → listed given.costs ≡ [] → IsTrue r ↔ AskThreads names.Run words
+  run_asks file items journal files_ format_ p b n c = (
     (λ e. let threaded = told.0 e in record {
       command = run file items _;
-      is = record { is = refl; behind = run_given words given is file items threaded.runtime journal files_ threaded.is format_ p b };
+      is = record { is = refl; behind = run_given words given is file items threaded.runtime journal files_ threaded.is format_ p b n c };
       needs = threaded.starts;
     }),
     (λ asks. told.1 (by asks.command asks.is asks.needs)),
@@ -69,13 +71,15 @@ module _ (words : List (List ℕ)) (given : Given) (is : IsGiven words given) (r
       by (format f) c needs = absurd needs
       by (audit f i j docs) c needs = absurd needs
       by help c needs = absurd needs
+      by (simulate f i m) c needs = absurd needs
 
   pub load_asks : (x y : List ℕ) (count first : ℕ) → files_of given.files ≡ x ∷ y ∷ [] → SpellsNumber 1 LOAD_LIMIT x count → SpellsNumber 0 FIRST_LIMIT y first
-      → listed given.docs ≡ [] → listed given.journal ≡ [] → listed given.port ≡ [] → listed given.batches ≡ [] → IsTrue r ↔ AskThreads names.Load words
-  load_asks x y count first files_ n k d j p b = (
+      → listed given.docs ≡ [] → listed given.journal ≡ [] → listed given.port ≡ [] → listed given.batches ≡ []
+      → listed given.processors ≡ [] → listed given.costs ≡ [] → IsTrue r ↔ AskThreads names.Load words
+  load_asks x y count first files_ n k d j p b m c = (
     (λ e. let threaded = told.0 e in record {
       command = load count first threaded.runtime;
-      is = record { is = refl; behind = load_given words given is x y count first threaded.runtime files_ n k threaded.is d j p b };
+      is = record { is = refl; behind = load_given words given is x y count first threaded.runtime files_ n k threaded.is d j p b m c };
       needs = threaded.starts;
     }),
     (λ asks. told.1 (by asks.command asks.is asks.needs)),
@@ -94,6 +98,7 @@ module _ (words : List (List ℕ)) (given : Given) (is : IsGiven words given) (r
       by (format f) c needs = absurd needs
       by (audit f i j docs) c needs = absurd needs
       by help c needs = absurd needs
+      by (simulate f i m) c needs = absurd needs
 
 -- `serve` asks for threads
 pub serve_asks : (words : List (List ℕ)) (r : Bool) → IsTrue r ↔ ((file : List ℕ) × (serving : Serving) × HasParts words (FitsServe file serving)) → IsTrue r ↔ AskThreads names.Serve words

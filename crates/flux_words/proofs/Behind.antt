@@ -17,12 +17,13 @@ use Rattle.flux_words.specs.declared.commands.Asked.{Asked}
 use Rattle.flux_words.specs.Names.{IsNamed}
 use Rattle.flux_words.specs.Parts.{Part, BeginWith, words_in, values_of}
 use Rattle.flux_words.specs.Values.{SpellsNumber, IsRuntime, IsFormat, IsPort, IsBatches}
-use Rattle.flux_words.specs.Behind.{Manner, Serving, IsFile, HasParts, HasNoServing, FitsRun, FitsAudit, FitsLoad, FitsServe}
-use Rattle.flux_words.specs.Commands.{Command, check, plan, format, run, audit, load, serve, help, name_of, StandsBehind, Spells, SpellsNone, IsServe, NeedsThreads}
+use Rattle.flux_words.specs.Costs.{IsProcessors, AreCosts}
+use Rattle.flux_words.specs.Behind.{Manner, Serving, Simulating, IsFile, HasParts, HasNoServing, HasNoSimulating, FitsRun, FitsAudit, FitsLoad, FitsServe, FitsSimulate}
+use Rattle.flux_words.specs.Commands.{Command, check, plan, format, run, audit, load, serve, help, simulate, name_of, StandsBehind, Spells, SpellsNone, IsServe, NeedsThreads}
 use Rattle.flux_words.specs.Asking.{asked}
 use Rattle.flux_words.specs.steps.Given.{files_of, listed, IsGiven, IsTooMuch}
 use Rattle.flux_words.specs.steps.Asking.{IsAsked, IsCommand, IsAskedBehind, IsServeRead}
-use Rattle.flux_words.proofs.Gathered.{fits_given, takes_less, few_run, few_audit, few_load, few_serve}
+use Rattle.flux_words.proofs.Gathered.{fits_given, takes_less, few_run, few_audit, few_load, few_serve, few_simulate}
 use Rattle.flux_words.proofs.OneCommand.{one_name, one_command}
 
 pub if_none : {A : Type 0} (r : Option A) (P : Type 0) → P → IfNone r P
@@ -60,6 +61,10 @@ pub none_of_serve : (words : List (List ℕ)) → ((file : List ℕ) (serving : 
 none_of_serve words none (serve file serving) c = none file serving c.behind
 none_of_serve words none command c = let e = c.is in absurd cc
 
+pub none_of_simulate : (words : List (List ℕ)) → ((file items : List ℕ) (simulating : Simulating) → HasParts words (FitsSimulate file items simulating) → ⊥) → Nothing names.Simulate words
+none_of_simulate words none (simulate file items simulating) c = none file items simulating c.behind
+none_of_simulate words none command c = let e = c.is in absurd cc
+
 -- more than three words, or an option twice
 module _ (words : List (List ℕ)) (much : (parts : List Part) → BeginWith parts words [] → IsTooMuch parts) where
   pub run_of_too_much : Nothing names.Run words
@@ -73,6 +78,9 @@ module _ (words : List (List ℕ)) (much : (parts : List Part) → BeginWith par
 
   pub serve_of_too_much : (file : List ℕ) (serving : Serving) → HasParts words (FitsServe file serving) → ⊥
   serve_of_too_much file serving has = takes_less words (FitsServe file serving) (few_serve file serving) much has
+
+  pub simulate_of_too_much : Nothing names.Simulate words
+  simulate_of_too_much = none_of_simulate words (λ file items simulating has. takes_less words (FitsSimulate file items simulating) (few_simulate file items simulating) much has)
 
 not_one : (fs : Files) (file : List ℕ) → ((x : Bor (List ℕ)) → fs ≡ files.One x → ⊥) → files_of fs ≡ file ∷ [] → ⊥
 not_one files.None file other e = let n = ap length e in omega arith
@@ -105,6 +113,9 @@ module _ (words : List (List ℕ)) (given : Given) (is : IsGiven words given) wh
   serve_fits : (file : List ℕ) (serving : Serving) → HasParts words (FitsServe file serving) → FitsServe file serving is.parts
   serve_fits file serving has = fits_given words given is (FitsServe file serving) has
 
+  simulate_fits : (file items : List ℕ) (simulating : Simulating) → HasParts words (FitsSimulate file items simulating) → FitsSimulate file items simulating is.parts
+  simulate_fits file items simulating has = fits_given words given is (FitsSimulate file items simulating) has
+
   no_serving : listed given.port ≡ [] → listed given.batches ≡ [] → HasNoServing is.parts
   no_serving p b = record { no_port = sym is.holds.port_ ∙ p; no_batches = sym is.holds.batches_ ∙ b }
 
@@ -112,10 +123,20 @@ module _ (words : List (List ℕ)) (given : Given) (is : IsGiven words given) wh
   serving_given : (listed given.port ≡ [] → listed given.batches ≡ [] → ⊥) → HasNoServing is.parts → ⊥
   serving_given some none = some (is.holds.port_ ∙ none.no_port) (is.holds.batches_ ∙ none.no_batches)
 
+  no_simulating : listed given.processors ≡ [] → listed given.costs ≡ [] → HasNoSimulating is.parts
+  no_simulating p c = record { no_processors = sym is.holds.processors_ ∙ p; no_costs = sym is.holds.costs_ ∙ c }
+
+  -- an option that `simulate` alone has is given
+  simulating_given : (listed given.processors ≡ [] → listed given.costs ≡ [] → ⊥) → HasNoSimulating is.parts → ⊥
+  simulating_given some none = some (is.holds.processors_ ∙ none.no_processors) (is.holds.costs_ ∙ none.no_costs)
+
   -- ---- `run`
 
   pub run_of_serving : (listed given.port ≡ [] → listed given.batches ≡ [] → ⊥) → Nothing names.Run words
   run_of_serving some = none_of_run words (λ file items manner has. serving_given some (run_fits file items manner has).no_serving)
+
+  pub run_of_simulating : (listed given.processors ≡ [] → listed given.costs ≡ [] → ⊥) → Nothing names.Run words
+  run_of_simulating some = none_of_run words (λ file items manner has. simulating_given some (run_fits file items manner has).no_simulating)
 
   pub run_of_files : ((x y : Bor (List ℕ)) → given.files ≡ files.Two x y → ⊥) → Nothing names.Run words
   run_of_files other = none_of_run words (λ file items manner has.
@@ -130,8 +151,9 @@ module _ (words : List (List ℕ)) (given : Given) (is : IsGiven words given) wh
       none manner.runtime (subst (λ (l : List (List ℕ)). IsRuntime l manner.runtime) (sym is.holds.runtime_) (run_fits file items manner has).runtime_))
 
   pub run_given : (file items : List ℕ) (runtime : Runtime) (journal : JournalFormat) → files_of given.files ≡ file ∷ items ∷ [] → IsRuntime (listed given.runtime) runtime → IsFormat (listed given.journal) journal → listed given.port ≡ [] → listed given.batches ≡ []
+      → listed given.processors ≡ [] → listed given.costs ≡ []
       → HasParts words (FitsRun file items (record { runtime = runtime; docs = option_copied given.docs; journal = journal }))
-  run_given file items runtime journal files_ r j p b = record {
+  run_given file items runtime journal files_ r j p b n c = record {
     parts = is.parts;
     laid = is.laid;
     fits = record {
@@ -140,6 +162,7 @@ module _ (words : List (List ℕ)) (given : Given) (is : IsGiven words given) wh
       docs_ = sym is.holds.docs_;
       journal_ = subst (λ (l : List (List ℕ)). IsFormat l journal) is.holds.journal_ j;
       no_serving = no_serving p b;
+      no_simulating = no_simulating n c;
     };
   }
 
@@ -147,6 +170,9 @@ module _ (words : List (List ℕ)) (given : Given) (is : IsGiven words given) wh
 
   pub audit_of_serving : (listed given.port ≡ [] → listed given.batches ≡ [] → ⊥) → Nothing names.Audit words
   audit_of_serving some = none_of_audit words (λ file items journal docs has. serving_given some (audit_fits file items journal docs has).no_serving)
+
+  pub audit_of_simulating : (listed given.processors ≡ [] → listed given.costs ≡ [] → ⊥) → Nothing names.Audit words
+  audit_of_simulating some = none_of_audit words (λ file items journal docs has. simulating_given some (audit_fits file items journal docs has).no_simulating)
 
   pub audit_of_files : ((x y z : Bor (List ℕ)) → given.files ≡ files.Three x y z → ⊥) → Nothing names.Audit words
   audit_of_files other = none_of_audit words (λ file items journal docs has.
@@ -157,8 +183,9 @@ module _ (words : List (List ℕ)) (given : Given) (is : IsGiven words given) wh
       some (is.holds.runtime_ ∙ fits.no_runtime) (is.holds.journal_ ∙ fits.no_journal))
 
   pub audit_given : (file items journal : List ℕ) → files_of given.files ≡ file ∷ items ∷ journal ∷ [] → listed given.runtime ≡ [] → listed given.journal ≡ [] → listed given.port ≡ [] → listed given.batches ≡ []
+      → listed given.processors ≡ [] → listed given.costs ≡ []
       → HasParts words (FitsAudit file items journal (option_copied given.docs))
-  audit_given file items journal files_ r j p b = record {
+  audit_given file items journal files_ r j p b n c = record {
     parts = is.parts;
     laid = is.laid;
     fits = record {
@@ -167,6 +194,7 @@ module _ (words : List (List ℕ)) (given : Given) (is : IsGiven words given) wh
       no_runtime = sym is.holds.runtime_ ∙ r;
       no_journal = sym is.holds.journal_ ∙ j;
       no_serving = no_serving p b;
+      no_simulating = no_simulating n c;
     };
   }
 
@@ -178,6 +206,9 @@ module _ (words : List (List ℕ)) (given : Given) (is : IsGiven words given) wh
   pub load_of_options : ((listed given.docs ≡ []) → (listed given.journal ≡ []) → ⊥) → Nothing names.Load words
   load_of_options some = none_of_load words (λ count first runtime has. let fits = load_fits count first runtime has in
       some (is.holds.docs_ ∙ fits.no_docs) (is.holds.journal_ ∙ fits.no_journal))
+
+  pub load_of_simulating : (listed given.processors ≡ [] → listed given.costs ≡ [] → ⊥) → Nothing names.Load words
+  load_of_simulating some = none_of_load words (λ count first runtime has. simulating_given some (load_fits count first runtime has).no_simulating)
 
   pub load_of_files : ((x y : Bor (List ℕ)) → given.files ≡ files.Two x y → ⊥) → Nothing names.Load words
   load_of_files other = none_of_load words (λ count first runtime has. let fits = load_fits count first runtime has in
@@ -200,8 +231,9 @@ module _ (words : List (List ℕ)) (given : Given) (is : IsGiven words given) wh
       none runtime (subst (λ (l : List (List ℕ)). IsRuntime l runtime) (sym is.holds.runtime_) fits.runtime_))
 
   pub load_given : (x y : List ℕ) (count first : ℕ) (runtime : Runtime) → files_of given.files ≡ x ∷ y ∷ [] → SpellsNumber 1 LOAD_LIMIT x count → SpellsNumber 0 FIRST_LIMIT y first
-      → IsRuntime (listed given.runtime) runtime → listed given.docs ≡ [] → listed given.journal ≡ [] → listed given.port ≡ [] → listed given.batches ≡ [] → HasParts words (FitsLoad count first runtime)
-  load_given x y count first runtime files_ n k r d j p b = record {
+      → IsRuntime (listed given.runtime) runtime → listed given.docs ≡ [] → listed given.journal ≡ [] → listed given.port ≡ [] → listed given.batches ≡ []
+      → listed given.processors ≡ [] → listed given.costs ≡ [] → HasParts words (FitsLoad count first runtime)
+  load_given x y count first runtime files_ n k r d j p b m c = record {
     parts = is.parts;
     laid = is.laid;
     fits = record {
@@ -214,6 +246,7 @@ module _ (words : List (List ℕ)) (given : Given) (is : IsGiven words given) wh
       no_docs = sym is.holds.docs_ ∙ d;
       no_journal = sym is.holds.journal_ ∙ j;
       no_serving = no_serving p b;
+      no_simulating = no_simulating m c;
     };
   }
 
@@ -225,6 +258,9 @@ module _ (words : List (List ℕ)) (given : Given) (is : IsGiven words given) wh
   pub serve_of_journal : (listed given.journal ≡ [] → ⊥) → (file : List ℕ) (serving : Serving) → HasParts words (FitsServe file serving) → ⊥
   serve_of_journal some file serving has = some (is.holds.journal_ ∙ (serve_fits file serving has).no_journal)
 
+  pub serve_of_simulating : (listed given.processors ≡ [] → listed given.costs ≡ [] → ⊥) → (file : List ℕ) (serving : Serving) → HasParts words (FitsServe file serving) → ⊥
+  serve_of_simulating some file serving has = simulating_given some (serve_fits file serving has).no_simulating
+
   pub serve_of_port : ((port : ℕ) → IsPort (listed given.port) port → ⊥) → (file : List ℕ) (serving : Serving) → HasParts words (FitsServe file serving) → ⊥
   serve_of_port none file serving has = none serving.port (subst (λ (l : List (List ℕ)). IsPort l serving.port) (sym is.holds.port_) (serve_fits file serving has).port_)
 
@@ -233,8 +269,9 @@ module _ (words : List (List ℕ)) (given : Given) (is : IsGiven words given) wh
 
   -- all but the runtime is read
   pub serve_given : (file : Bor (List ℕ)) (port batches : ℕ) → files_of given.files ≡ file.now ∷ [] → IsPort (listed given.port) port → IsBatches (listed given.batches) batches → listed given.journal ≡ []
+      → listed given.processors ≡ [] → listed given.costs ≡ []
       → IsServeRead words (Some (record { file = file; port = port; batches = batches; docs = given.docs; runtime = given.runtime }))
-  serve_given file port batches files_ p b j = record {
+  serve_given file port batches files_ p b j n c = record {
     to = λ runtime r. record {
       parts = is.parts;
       laid = is.laid;
@@ -245,9 +282,48 @@ module _ (words : List (List ℕ)) (given : Given) (is : IsGiven words given) wh
         docs_ = sym is.holds.docs_;
         runtime_ = subst (λ (l : List (List ℕ)). IsRuntime l runtime) is.holds.runtime_ r;
         no_journal = sym is.holds.journal_ ∙ j;
+        no_simulating = no_simulating n c;
       };
     };
     from = λ other serving has. subst (λ (l : List (List ℕ)). IsRuntime l serving.runtime) (sym is.holds.runtime_) (serve_fits other serving has).runtime_;
+  }
+
+  -- ---- `simulate`
+
+  pub simulate_of_serving : (listed given.port ≡ [] → listed given.batches ≡ [] → ⊥) → Nothing names.Simulate words
+  simulate_of_serving some = none_of_simulate words (λ file items simulating has. serving_given some (simulate_fits file items simulating has).no_serving)
+
+  pub simulate_of_options : ((listed given.runtime ≡ []) → (listed given.journal ≡ []) → ⊥) → Nothing names.Simulate words
+  simulate_of_options some = none_of_simulate words (λ file items simulating has. let fits = simulate_fits file items simulating has in
+      some (is.holds.runtime_ ∙ fits.no_runtime) (is.holds.journal_ ∙ fits.no_journal))
+
+  pub simulate_of_files : ((x y : Bor (List ℕ)) → given.files ≡ files.Two x y → ⊥) → Nothing names.Simulate words
+  simulate_of_files other = none_of_simulate words (λ file items simulating has.
+      not_two given.files file items other (is.holds.words_ ∙ (simulate_fits file items simulating has).files))
+
+  pub simulate_of_processors : ((processors : ℕ) → IsProcessors (listed given.processors) processors → ⊥) → Nothing names.Simulate words
+  simulate_of_processors none = none_of_simulate words (λ file items simulating has.
+      none simulating.processors (subst (λ (l : List (List ℕ)). IsProcessors l simulating.processors) (sym is.holds.processors_) (simulate_fits file items simulating has).processors_))
+
+  pub simulate_of_costs : ((costs : List ℕ) → AreCosts (listed given.costs) costs → ⊥) → Nothing names.Simulate words
+  simulate_of_costs none = none_of_simulate words (λ file items simulating has.
+      none simulating.costs (subst (λ (l : List (List ℕ)). AreCosts l simulating.costs) (sym is.holds.costs_) (simulate_fits file items simulating has).costs_))
+
+  pub simulate_given : (file items : List ℕ) (processors : ℕ) (costs : List ℕ) → files_of given.files ≡ file ∷ items ∷ [] → IsProcessors (listed given.processors) processors → AreCosts (listed given.costs) costs
+      → listed given.runtime ≡ [] → listed given.journal ≡ [] → listed given.port ≡ [] → listed given.batches ≡ []
+      → HasParts words (FitsSimulate file items (record { processors = processors; costs = costs; docs = option_copied given.docs }))
+  simulate_given file items processors costs files_ n c r j p b = record {
+    parts = is.parts;
+    laid = is.laid;
+    fits = record {
+      files = sym is.holds.words_ ∙ files_;
+      processors_ = subst (λ (l : List (List ℕ)). IsProcessors l processors) is.holds.processors_ n;
+      costs_ = subst (λ (l : List (List ℕ)). AreCosts l costs) is.holds.costs_ c;
+      docs_ = sym is.holds.docs_;
+      no_runtime = sym is.holds.runtime_ ∙ r;
+      no_journal = sym is.holds.journal_ ∙ j;
+      no_serving = no_serving p b;
+    };
   }
 
 -- ---- all words
@@ -324,6 +400,7 @@ module _ (words : List (List ℕ)) where
   serve_found (audit file items journal docs, spells, is) = absurd is
   serve_found (load count first runtime, spells, is) = absurd is
   serve_found (help, spells, is) = absurd is
+  serve_found (simulate file items simulating, spells, is) = absurd is
 
 -- `serve` needs threads
 pub serve_needs : (command : Command) → IsServe command → NeedsThreads command

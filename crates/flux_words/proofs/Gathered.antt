@@ -3,12 +3,13 @@ use Rattle.std.proofs.Common.{◌≡◌, inl, inr, ℕ, ◌<◌, ◌≤◌, List
 use Rattle.std.specs.Prelude.{Option, Some, None, option_to_list}
 use Rattle.std.proofs.lemmas.List.{length-append}
 use Rattle.flux_words.specs.declared.names.OptionName.{OptionName}
-use Rattle.flux_words.specs.declared.names.OptionName.TheVariants.{Runtime, Docs, Journal, Port, Batches}
+use Rattle.flux_words.specs.declared.names.OptionName.TheVariants.{Runtime, Docs, Journal, Port, Batches, Processors, Costs}
 use Rattle.flux_words.specs.declared.given.Given.{Given}
 use Rattle.flux_words.specs.declared.values.Runtime as values
 use Rattle.flux_words.specs.declared.values.JournalFormat.{JournalFormat}
 use Rattle.flux_words.specs.Values.{IsRuntime, IsFormat, IsPort, IsBatches}
-use Rattle.flux_words.specs.Behind.{Manner, Serving, HasParts, HasNoServing, FitsRun, FitsAudit, FitsLoad, FitsServe}
+use Rattle.flux_words.specs.Costs.{IsProcessors, AreCosts}
+use Rattle.flux_words.specs.Behind.{Manner, Serving, Simulating, HasParts, HasNoServing, HasNoSimulating, FitsRun, FitsAudit, FitsLoad, FitsServe, FitsSimulate}
 use Rattle.flux_words.specs.Parts.{Part, word, option, Begins, BeginWith, if_for, words_in, values_of}
 use Rattle.flux_words.specs.steps.Given.{files_of, listed, HoldsAll, Adds, IsFull, IsTooMuch, IsGiven, AreSoFar}
 use Rattle.flux_words.proofs.Laid.{begin_more, past, one_part, one_parting, words_in-append, values_of-append, if_for-same}
@@ -17,6 +18,7 @@ use Rattle.flux_words.proofs.Laid.{begin_more, past, one_part, one_parting, word
 abbrev pub AreAllSoFar : List (List ℕ) → List (List ℕ) → Given → Type 0
 AreAllSoFar words rest given =
     AreSoFar words rest (files_of given.files) (listed given.runtime) (listed given.docs) (listed given.journal) (listed given.port) (listed given.batches)
+    (listed given.processors) (listed given.costs)
 
 value_more : (name : OptionName) (before after : List (List ℕ)) (parts : List Part) (p : Part) → before ≡ values_of name parts → after ≡ before ++ values_of name (p ∷ []) → after ≡ values_of name (parts ++ p ∷ [])
 value_more name before after parts p is adds = adds ∙ ap (λ (l : List (List ℕ)). l ++ values_of name (p ∷ [])) is ∙ sym (values_of-append name parts (p ∷ []))
@@ -32,6 +34,8 @@ one_more words rest next before after p sofar begins adds = record {
     journal_ = value_more Journal (listed before.journal) (listed after.journal) sofar.parts p sofar.holds.journal_ adds.journal_;
     port_ = value_more Port (listed before.port) (listed after.port) sofar.parts p sofar.holds.port_ adds.port_;
     batches_ = value_more Batches (listed before.batches) (listed after.batches) sofar.parts p sofar.holds.batches_ adds.batches_;
+    processors_ = value_more Processors (listed before.processors) (listed after.processors) sofar.parts p sofar.holds.processors_ adds.processors_;
+    costs_ = value_more Costs (listed before.costs) (listed after.costs) sofar.parts p sofar.holds.costs_ adds.costs_;
   };
 }
 
@@ -59,6 +63,8 @@ full_too_much given sofar more all (option Docs v) holds full e = inr (Docs, twi
 full_too_much given sofar more all (option Journal v) holds full e = inr (Journal, twice Journal (listed given.journal) v sofar more all holds.journal_ full e)
 full_too_much given sofar more all (option Port v) holds full e = inr (Port, twice Port (listed given.port) v sofar more all holds.port_ full e)
 full_too_much given sofar more all (option Batches v) holds full e = inr (Batches, twice Batches (listed given.batches) v sofar more all holds.batches_ full e)
+full_too_much given sofar more all (option Processors v) holds full e = inr (Processors, twice Processors (listed given.processors) v sofar more all holds.processors_ full e)
+full_too_much given sofar more all (option Costs v) holds full e = inr (Costs, twice Costs (listed given.costs) v sofar more all holds.costs_ full e)
 
 too_much_more : (rest next : List (List ℕ)) (given : Given) (p : Part) (sofar more all : List Part) → (rest ≡ [] → ⊥) → HoldsAll given sofar → Begins p rest next → IsFull given p → all ≡ sofar ++ more → BeginWith more rest [] → IsTooMuch all
 too_much_more rest next given p sofar [] all some holds begins full e laid = absurd (some laid)
@@ -122,41 +128,101 @@ batches_once [] batches is = omega arith
 batches_once (v ∷ []) batches is = omega arith
 batches_once (v ∷ w ∷ vs) batches is = absurd is
 
-by_name : (parts : List Part) → length (values_of Runtime parts) ≤ 1 → length (values_of Docs parts) ≤ 1 → length (values_of Journal parts) ≤ 1 → length (values_of Port parts) ≤ 1 → length (values_of Batches parts) ≤ 1 → (name : OptionName) → length (values_of name parts) ≤ 1
-by_name parts r d j p b Runtime = r
-by_name parts r d j p b Docs = d
-by_name parts r d j p b Journal = j
-by_name parts r d j p b Port = p
-by_name parts r d j p b Batches = b
+processors_once : (vs : List (List ℕ)) (processors : ℕ) → IsProcessors vs processors → length vs ≤ 1
+processors_once [] processors is = absurd is
+processors_once (v ∷ []) processors is = omega arith
+processors_once (v ∷ w ∷ vs) processors is = absurd is
 
--- options of `serve` that aren't given
-no_port : (parts : List Part) → HasNoServing parts → length (values_of Port parts) ≤ 1
-no_port parts none = none_once (values_of Port parts) none.no_port
+costs_once : (vs : List (List ℕ)) (costs : List ℕ) → AreCosts vs costs → length vs ≤ 1
+costs_once [] costs is = omega arith
+costs_once (v ∷ []) costs is = omega arith
+costs_once (v ∷ w ∷ vs) costs is = absurd is
 
-no_batches : (parts : List Part) → HasNoServing parts → length (values_of Batches parts) ≤ 1
-no_batches parts none = none_once (values_of Batches parts) none.no_batches
+-- each option is given once at most
+record AreOnce (parts : List Part) : Type 0 where
+  runtime_ : length (values_of Runtime parts) ≤ 1
+  docs_ : length (values_of Docs parts) ≤ 1
+  journal_ : length (values_of Journal parts) ≤ 1
+  port_ : length (values_of Port parts) ≤ 1
+  batches_ : length (values_of Batches parts) ≤ 1
+  processors_ : length (values_of Processors parts) ≤ 1
+  costs_ : length (values_of Costs parts) ≤ 1
+
+by_name : (parts : List Part) → AreOnce parts → (name : OptionName) → length (values_of name parts) ≤ 1
+by_name parts own Runtime = own.runtime_
+by_name parts own Docs = own.docs_
+by_name parts own Journal = own.journal_
+by_name parts own Port = own.port_
+by_name parts own Batches = own.batches_
+by_name parts own Processors = own.processors_
+by_name parts own Costs = own.costs_
 
 pub few_run : (file items : List ℕ) (manner : Manner) (parts : List Part) → FitsRun file items manner parts → IsFew parts
 few_run file items manner parts fits = record {
   words_ = omega (arith, ap length fits.files);
-  once = by_name parts (runtime_once (values_of Runtime parts) manner.runtime fits.runtime_) (docs_once (values_of Docs parts) manner.docs fits.docs_) (format_once (values_of Journal parts) manner.journal fits.journal_) (no_port parts fits.no_serving) (no_batches parts fits.no_serving);
+  once = by_name parts (record {
+    runtime_ = runtime_once (values_of Runtime parts) manner.runtime fits.runtime_;
+    docs_ = docs_once (values_of Docs parts) manner.docs fits.docs_;
+    journal_ = format_once (values_of Journal parts) manner.journal fits.journal_;
+    port_ = none_once (values_of Port parts) fits.no_serving.no_port;
+    batches_ = none_once (values_of Batches parts) fits.no_serving.no_batches;
+    processors_ = none_once (values_of Processors parts) fits.no_simulating.no_processors;
+    costs_ = none_once (values_of Costs parts) fits.no_simulating.no_costs;
+  });
 }
 
 pub few_audit : (file items journal : List ℕ) (docs : Option (List ℕ)) (parts : List Part) → FitsAudit file items journal docs parts → IsFew parts
 few_audit file items journal docs parts fits = record {
   words_ = omega (arith, ap length fits.files);
-  once = by_name parts (none_once (values_of Runtime parts) fits.no_runtime) (docs_once (values_of Docs parts) docs fits.docs_) (none_once (values_of Journal parts) fits.no_journal) (no_port parts fits.no_serving) (no_batches parts fits.no_serving);
+  once = by_name parts (record {
+    runtime_ = none_once (values_of Runtime parts) fits.no_runtime;
+    docs_ = docs_once (values_of Docs parts) docs fits.docs_;
+    journal_ = none_once (values_of Journal parts) fits.no_journal;
+    port_ = none_once (values_of Port parts) fits.no_serving.no_port;
+    batches_ = none_once (values_of Batches parts) fits.no_serving.no_batches;
+    processors_ = none_once (values_of Processors parts) fits.no_simulating.no_processors;
+    costs_ = none_once (values_of Costs parts) fits.no_simulating.no_costs;
+  });
 }
 
 pub few_load : (count first : ℕ) (runtime : values.Runtime) (parts : List Part) → FitsLoad count first runtime parts → IsFew parts
 few_load count first runtime parts fits = record {
   words_ = omega (arith, ap length fits.numbers);
-  once = by_name parts (runtime_once (values_of Runtime parts) runtime fits.runtime_) (none_once (values_of Docs parts) fits.no_docs) (none_once (values_of Journal parts) fits.no_journal) (no_port parts fits.no_serving) (no_batches parts fits.no_serving);
+  once = by_name parts (record {
+    runtime_ = runtime_once (values_of Runtime parts) runtime fits.runtime_;
+    docs_ = none_once (values_of Docs parts) fits.no_docs;
+    journal_ = none_once (values_of Journal parts) fits.no_journal;
+    port_ = none_once (values_of Port parts) fits.no_serving.no_port;
+    batches_ = none_once (values_of Batches parts) fits.no_serving.no_batches;
+    processors_ = none_once (values_of Processors parts) fits.no_simulating.no_processors;
+    costs_ = none_once (values_of Costs parts) fits.no_simulating.no_costs;
+  });
 }
 
 pub few_serve : (file : List ℕ) (serving : Serving) (parts : List Part) → FitsServe file serving parts → IsFew parts
 few_serve file serving parts fits = record {
   words_ = omega (arith, ap length fits.files);
-  once = by_name parts (runtime_once (values_of Runtime parts) serving.runtime fits.runtime_) (docs_once (values_of Docs parts) serving.docs fits.docs_) (none_once (values_of Journal parts) fits.no_journal)
-      (port_once (values_of Port parts) serving.port fits.port_) (batches_once (values_of Batches parts) serving.batches fits.batches_);
+  once = by_name parts (record {
+    runtime_ = runtime_once (values_of Runtime parts) serving.runtime fits.runtime_;
+    docs_ = docs_once (values_of Docs parts) serving.docs fits.docs_;
+    journal_ = none_once (values_of Journal parts) fits.no_journal;
+    port_ = port_once (values_of Port parts) serving.port fits.port_;
+    batches_ = batches_once (values_of Batches parts) serving.batches fits.batches_;
+    processors_ = none_once (values_of Processors parts) fits.no_simulating.no_processors;
+    costs_ = none_once (values_of Costs parts) fits.no_simulating.no_costs;
+  });
+}
+
+pub few_simulate : (file items : List ℕ) (simulating : Simulating) (parts : List Part) → FitsSimulate file items simulating parts → IsFew parts
+few_simulate file items simulating parts fits = record {
+  words_ = omega (arith, ap length fits.files);
+  once = by_name parts (record {
+    runtime_ = none_once (values_of Runtime parts) fits.no_runtime;
+    docs_ = docs_once (values_of Docs parts) simulating.docs fits.docs_;
+    journal_ = none_once (values_of Journal parts) fits.no_journal;
+    port_ = none_once (values_of Port parts) fits.no_serving.no_port;
+    batches_ = none_once (values_of Batches parts) fits.no_serving.no_batches;
+    processors_ = processors_once (values_of Processors parts) simulating.processors fits.processors_;
+    costs_ = costs_once (values_of Costs parts) simulating.costs fits.costs_;
+  });
 }

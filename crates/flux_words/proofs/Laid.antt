@@ -1,40 +1,49 @@
 -- Parts at the front of words: there is one way to take words apart.
-use Rattle.std.proofs.Common.{◌≡◌, ◌⊎◌, inl, inr, ℕ, ◌≤◌, List, [], ◌∷◌, ◌++◌, length, drop, get_or, refl, sym, ap, ◌∙◌, subst, arith, append_assoc}
+use Rattle.std.proofs.Common.{◌≡◌, ◌⊎◌, inl, inr, ℕ, ◌+◌, ◌≤◌, List, [], ◌∷◌, ◌++◌, length, drop, get_or, refl, sym, ap, ◌∙◌, subst, arith, append_assoc}
 use Rattle.std.proofs.lemmas.List.{append_cancel_left, append-nil}
 use Rattle.flux_words.specs.declared.names.OptionName.{OptionName}
-use Rattle.flux_words.specs.declared.names.OptionName.TheVariants.{Runtime, Docs, Journal, Port, Batches}
+use Rattle.flux_words.specs.declared.names.OptionName.TheVariants.{Runtime, Docs, Journal, Port, Batches, Processors, Costs}
 use Rattle.flux_words.specs.Parts.{Part, word, option, IsPositional, IsNoOption, Begins, BeginWith, spelled, if_for, words_in, values_of}
 
 -- ---- one part
 
--- the third letter of an option's spelling
-third : OptionName → ℕ
-third Runtime = 114
-third Docs = 100
-third Journal = 106
-third Port = 112
-third Batches = 98
+-- the third letter of an option's spelling, and the one behind it, as a number
+letters : OptionName → ℕ
+letters Runtime = 231
+letters Docs = 211
+letters Journal = 217
+letters Port = 223
+letters Batches = 195
+letters Processors = 226
+letters Costs = 210
 
-third_is : (n : OptionName) (a : List ℕ) → get_or (spelled n ++ a) 2 0 ≡ third n
-unfolding third
-third_is Runtime a = refl
-third_is Docs a = refl
-third_is Journal a = refl
-third_is Port a = refl
-third_is Batches a = refl
+letters_in : List ℕ → ℕ
+letters_in text = get_or text 2 0 + get_or text 3 0
 
-by_third : (n m : OptionName) → third n ≡ third m → n ≡ m
-unfolding third
-by_third Runtime Runtime e = refl
-by_third Docs Docs e = refl
-by_third Journal Journal e = refl
-by_third Port Port e = refl
-by_third Batches Batches e = refl
-by_third n m e = absurd (omega (arith, e))
+letters_are : (n : OptionName) (a : List ℕ) → letters_in (spelled n ++ a) ≡ letters n
+unfolding letters letters_in
+letters_are Runtime a = refl
+letters_are Docs a = refl
+letters_are Journal a = refl
+letters_are Port a = refl
+letters_are Batches a = refl
+letters_are Processors a = refl
+letters_are Costs a = refl
+
+by_letters : (n m : OptionName) → letters n ≡ letters m → n ≡ m
+unfolding letters
+by_letters Runtime Runtime e = refl
+by_letters Docs Docs e = refl
+by_letters Journal Journal e = refl
+by_letters Port Port e = refl
+by_letters Batches Batches e = refl
+by_letters Processors Processors e = refl
+by_letters Costs Costs e = refl
+by_letters n m e = absurd (omega (arith, e))
 
 -- no option's spelling begins with that of another
 pub one_name : (n m : OptionName) (a b : List ℕ) → spelled n ++ a ≡ spelled m ++ b → n ≡ m
-one_name n m a b e = by_third n m (sym (third_is n a) ∙ ap (λ (l : List ℕ). get_or l 2 0) e ∙ third_is m b)
+one_name n m a b e = by_letters n m (sym (letters_are n a) ∙ ap letters_in e ∙ letters_are m b)
 
 pub same_behind : (n m : OptionName) (a b : List ℕ) → spelled n ++ a ≡ spelled m ++ b → n ≡ m → a ≡ b
 same_behind n m a b e same = append_cancel_left (spelled m) a b (ap (λ (k : OptionName). spelled k ++ a) (sym same) ∙ e)
@@ -46,6 +55,8 @@ no_word Docs x other = other refl
 no_word Journal x other = other refl
 no_word Port x other = other refl
 no_word Batches x other = other refl
+no_word Processors x other = other refl
+no_word Costs x other = other refl
 
 same_head : (a b : List ℕ) (r s : List (List ℕ)) → a ∷ r ≡ b ∷ s → a ≡ b
 same_head a b r s e = cc
@@ -143,6 +154,8 @@ if_for-same Docs v = refl
 if_for-same Journal v = refl
 if_for-same Port v = refl
 if_for-same Batches v = refl
+if_for-same Processors v = refl
+if_for-same Costs v = refl
 
 -- where the first word is neither, no part begins words
 pub no_begin : (words : List (List ℕ)) (w first : List ℕ) → 1 ≤ length words → first ≡ get_or words 0 first → w ≡ first → ((n : OptionName) (rest : List ℕ) → w ≡ spelled n ++ rest → ⊥) → (IsPositional w → ⊥) → (p : Part) (rest : List (List ℕ)) → Begins p words rest → ⊥

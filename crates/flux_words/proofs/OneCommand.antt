@@ -1,5 +1,5 @@
 -- Words spell one command.
-use Rattle.std.proofs.Common.{◌≡◌, inl, inr, ℕ, List, [], ◌∷◌, length, get_or, eqb, if◌then◌else◌, Option, Some, None, refl, sym, ap, ◌∙◌, subst, arith}
+use Rattle.std.proofs.Common.{◌≡◌, inl, inr, ℕ, ◌+◌, List, [], ◌∷◌, length, get_or, eqb, if◌then◌else◌, Option, Some, None, refl, sym, ap, ◌∙◌, subst, arith}
 use Rattle.std.specs.Prelude.{option_to_list}
 use Rattle.flux_words.specs.declared.names.CommandName.{CommandName}
 use Rattle.flux_words.specs.declared.names.CommandName.TheVariants as commands
@@ -9,30 +9,32 @@ use Rattle.flux_words.specs.declared.loads.TheConstants.{LOAD_LIMIT, FIRST_LIMIT
 use Rattle.flux_words.specs.Names.{IsNamed}
 use Rattle.flux_words.specs.Parts.{Part, words_in, values_of}
 use Rattle.flux_words.specs.Values.{SpellsNumber, IsRuntime, IsFormat}
-use Rattle.flux_words.specs.Behind.{Manner, Serving, IsFile, HasParts, FitsRun, FitsAudit, FitsLoad, FitsServe}
-use Rattle.flux_words.specs.Commands.{Command, check, plan, format, run, audit, load, serve, help, name_of, StandsBehind, Spells}
+use Rattle.flux_words.specs.Behind.{Manner, Serving, Simulating, IsFile, HasParts, FitsRun, FitsAudit, FitsLoad, FitsServe, FitsSimulate}
+use Rattle.flux_words.specs.Commands.{Command, check, plan, format, run, audit, load, serve, help, simulate, name_of, StandsBehind, Spells}
 use Rattle.flux_words.proofs.Laid.{one_parting}
 use Rattle.flux_words.proofs.Numbers.{one_number, one_runtime, one_format, one_port, one_batches}
+use Rattle.flux_words.proofs.CostLists.{one_processors, one_costs}
 
 -- ---- one name
 
--- the first letter of a command's name
-letter : CommandName → ℕ
-letter commands.Check = 99
-letter commands.Plan = 112
-letter commands.Format = 102
-letter commands.Run = 114
-letter commands.Audit = 97
-letter commands.Load = 108
-letter commands.Serve = 115
-letter commands.Help = 104
+-- the first letter of a command's name twice, and the second one, as a number
+letters : CommandName → ℕ
+letters commands.Check = 302
+letters commands.Plan = 332
+letters commands.Format = 315
+letters commands.Run = 345
+letters commands.Audit = 311
+letters commands.Load = 327
+letters commands.Serve = 331
+letters commands.Help = 309
+letters commands.Simulate = 335
 
--- what a word's first letter tells of the command: `--help` is `help`
+-- what a word's first letters tell of the command: `--help` is `help`
 told_by : List ℕ → ℕ
-told_by word = let first = get_or word 0 0 in if eqb first 45 then 104 else first
+told_by word = let first = get_or word 0 0 in if eqb first 45 then 309 else first + first + get_or word 1 0
 
-told : (name : CommandName) (word : List ℕ) → IsNamed name word → told_by word ≡ letter name
-unfolding told_by letter
+told : (name : CommandName) (word : List ℕ) → IsNamed name word → told_by word ≡ letters name
+unfolding told_by letters
 told commands.Check word is = ap told_by is
 told commands.Plan word is = ap told_by is
 told commands.Format word is = ap told_by is
@@ -42,21 +44,23 @@ told commands.Load word is = ap told_by is
 told commands.Serve word is = ap told_by is
 told commands.Help word (inl is) = ap told_by is
 told commands.Help word (inr is) = ap told_by is
+told commands.Simulate word is = ap told_by is
 
-by_letter : (a b : CommandName) → letter a ≡ letter b → a ≡ b
-unfolding letter
-by_letter commands.Check commands.Check e = refl
-by_letter commands.Plan commands.Plan e = refl
-by_letter commands.Format commands.Format e = refl
-by_letter commands.Run commands.Run e = refl
-by_letter commands.Audit commands.Audit e = refl
-by_letter commands.Load commands.Load e = refl
-by_letter commands.Serve commands.Serve e = refl
-by_letter commands.Help commands.Help e = refl
-by_letter a b e = absurd (omega (arith, e))
+by_letters : (a b : CommandName) → letters a ≡ letters b → a ≡ b
+unfolding letters
+by_letters commands.Check commands.Check e = refl
+by_letters commands.Plan commands.Plan e = refl
+by_letters commands.Format commands.Format e = refl
+by_letters commands.Run commands.Run e = refl
+by_letters commands.Audit commands.Audit e = refl
+by_letters commands.Load commands.Load e = refl
+by_letters commands.Serve commands.Serve e = refl
+by_letters commands.Help commands.Help e = refl
+by_letters commands.Simulate commands.Simulate e = refl
+by_letters a b e = absurd (omega (arith, e))
 
 pub one_name : (a b : CommandName) (word : List ℕ) → IsNamed a word → IsNamed b word → a ≡ b
-one_name a b word is also = by_letter a b (sym (told a word is) ∙ told b word also)
+one_name a b word is also = by_letters a b (sym (told a word is) ∙ told b word also)
 
 -- ---- what stands behind it
 
@@ -104,12 +108,22 @@ same_serve f g m n parts a b =
     (one_option m.docs n.docs (sym a.docs_ ∙ b.docs_)) (one_runtime (values_of names.Runtime parts) m.runtime n.runtime a.runtime_ b.runtime_) in
     cc (files, serving)
 
+same_simulating : (a b : Simulating) → a.processors ≡ b.processors → a.costs ≡ b.costs → a.docs ≡ b.docs → a ≡ b
+same_simulating a b p c d = λ i. record { processors = p i; costs = c i; docs = d i }
+
+same_simulate : (f i g j : List ℕ) (m n : Simulating) (parts : List Part) → FitsSimulate f i m parts → FitsSimulate g j n parts → simulate f i m ≡ simulate g j n
+same_simulate f i g j m n parts a b =
+    let files : f ∷ i ∷ [] ≡ g ∷ j ∷ [] = sym a.files ∙ b.files in
+    let simulating = same_simulating m n (one_processors (values_of names.Processors parts) m.processors n.processors a.processors_ b.processors_)
+    (one_costs (values_of names.Costs parts) m.costs n.costs a.costs_ b.costs_) (one_option m.docs n.docs (sym a.docs_ ∙ b.docs_)) in
+    cc (files, simulating)
+
 -- both fit the same parts
 on_parts : (words : List (List ℕ)) (First Second : List Part → Type 0) (X : Type 0) → HasParts words First → HasParts words Second → ((parts : List Part) → First parts → Second parts → X) → X
 on_parts words First Second X a b f = f b.parts (subst First (one_parting a.parts b.parts words a.laid b.laid) a.fits) b.fits
 
-one_behind : (words : List (List ℕ)) (a b : Command) → letter (name_of a) ≡ letter (name_of b) → StandsBehind a words → StandsBehind b words → a ≡ b
-unfolding letter
+one_behind : (words : List (List ℕ)) (a b : Command) → letters (name_of a) ≡ letters (name_of b) → StandsBehind a words → StandsBehind b words → a ≡ b
+unfolding letters
 one_behind words (check f) (check g) e s t = ap check (one_file words f g s t)
 one_behind words (plan f) (plan g) e s t = ap plan (one_file words f g s t)
 one_behind words (format f) (format g) e s t = ap format (one_file words f g s t)
@@ -118,6 +132,7 @@ one_behind words (audit f i j d) (audit g k l c) e s t = on_parts words (FitsAud
 one_behind words (load n k r) (load m l q) e s t = on_parts words (FitsLoad n k r) (FitsLoad m l q) (load n k r ≡ load m l q) s t (same_load n k m l r q)
 one_behind words (serve f m) (serve g n) e s t = on_parts words (FitsServe f m) (FitsServe g n) (serve f m ≡ serve g n) s t (same_serve f g m n)
 one_behind words help help e s t = refl
+one_behind words (simulate f i m) (simulate g j n) e s t = on_parts words (FitsSimulate f i m) (FitsSimulate g j n) (simulate f i m ≡ simulate g j n) s t (same_simulate f i g j m n)
 one_behind words a b e s t = absurd (omega (arith, e))
 
 -- ---- one command
@@ -128,4 +143,4 @@ one_command words a b s t =
     let first : s.first ≡ t.first = cc in
     let rest : s.rest ≡ t.rest = cc in
     let name = one_name (name_of a) (name_of b) t.first (subst (IsNamed (name_of a)) first s.named) t.named in
-    one_behind t.rest a b (ap letter name) (subst (StandsBehind a) rest s.behind) t.behind
+    one_behind t.rest a b (ap letters name) (subst (StandsBehind a) rest s.behind) t.behind

@@ -2,7 +2,7 @@
 use Rattle.std.specs.Prelude.{option_copied}
 use Rattle.flux_words.specs.declared.commands.Asked.{Asked}
 use Rattle.flux_words.specs.declared.commands.Asked.TheVariants as reads
-use Rattle.flux_words.specs.Commands.{Command, check, plan, format, run, audit, load, serve, help}
+use Rattle.flux_words.specs.Commands.{Command, check, plan, format, run, audit, load, serve, help, simulate}
 
 -- the command that was asked for
 abbrev pub asked : Asked → Command
@@ -24,3 +24,8 @@ asked (reads.Serve file port batches docs runtime) = serve file.now (record {
   runtime = runtime;
 })
 asked reads.Help = help
+asked (reads.Simulate file items processors costs docs) = simulate file.now items.now (record {
+  processors = processors.count;
+  costs = costs.list;
+  docs = option_copied docs;
+})

@@ -6,6 +6,7 @@ use Rattle.flux_words.specs.declared.values.JournalFormat.{JournalFormat}
 use Rattle.flux_words.specs.declared.loads.TheConstants.{LOAD_LIMIT, FIRST_LIMIT}
 use Rattle.flux_words.specs.Parts.{Part, IsPositional, BeginWith, words_in, values_of}
 use Rattle.flux_words.specs.Values.{SpellsNumber, IsRuntime, IsFormat, IsPort, IsBatches}
+use Rattle.flux_words.specs.Costs.{IsProcessors, AreCosts}
 
 -- how items are run: the runtime, the folder of documents, the journal's format
 pub record Manner : Type 0 where
@@ -19,6 +20,12 @@ pub record Serving : Type 0 where
   pub batches : ℕ
   pub docs : Option (List ℕ)
   pub runtime : Runtime
+
+-- how a run is simulated: on how many processors, with which costs of the first nodes' calls and which folder of documents
+pub record Simulating : Type 0 where
+  pub processors : ℕ
+  pub costs : List ℕ
+  pub docs : Option (List ℕ)
 
 -- one file
 abbrev pub IsFile : List ℕ → List (List ℕ) → Type 0
@@ -35,6 +42,11 @@ pub record HasNoServing (parts : List Part) : Type 0 where
   pub no_port : values_of names.Port parts ≡ []
   pub no_batches : values_of names.Batches parts ≡ []
 
+-- none of the options that `simulate` alone has
+pub record HasNoSimulating (parts : List Part) : Type 0 where
+  pub no_processors : values_of names.Processors parts ≡ []
+  pub no_costs : values_of names.Costs parts ≡ []
+
 -- `run`: FILE, ITEMS, and anywhere `--runtime R`, `--docs DIR` and `--journal J`, each at most once
 pub record FitsRun (file items : List ℕ) (manner : Manner) (parts : List Part) : Type 0 where
   pub files : words_in parts ≡ file ∷ items ∷ []
@@ -42,6 +54,7 @@ pub record FitsRun (file items : List ℕ) (manner : Manner) (parts : List Part)
   pub docs_ : values_of names.Docs parts ≡ option_to_list manner.docs
   pub journal_ : IsFormat (values_of names.Journal parts) manner.journal
   pub no_serving : HasNoServing parts
+  pub no_simulating : HasNoSimulating parts
 
 -- `audit`: FILE, ITEMS, JOURNAL, and anywhere `--docs DIR`, at most once
 pub record FitsAudit (file items journal : List ℕ) (docs : Option (List ℕ)) (parts : List Part)
@@ -51,6 +64,7 @@ pub record FitsAudit (file items journal : List ℕ) (docs : Option (List ℕ)) 
   pub no_runtime : values_of names.Runtime parts ≡ []
   pub no_journal : values_of names.Journal parts ≡ []
   pub no_serving : HasNoServing parts
+  pub no_simulating : HasNoSimulating parts
 
 -- `load`: N, which is 1 to 4,096, K, which is at most 4,294,967,295, and anywhere `--runtime R`, at most once
 pub record FitsLoad (count first : ℕ) (runtime : Runtime) (parts : List Part) : Type 0 where
@@ -63,6 +77,7 @@ pub record FitsLoad (count first : ℕ) (runtime : Runtime) (parts : List Part) 
   pub no_docs : values_of names.Docs parts ≡ []
   pub no_journal : values_of names.Journal parts ≡ []
   pub no_serving : HasNoServing parts
+  pub no_simulating : HasNoSimulating parts
 
 -- `serve`: FILE, `--port P`, and anywhere `--batches B`, `--docs DIR` and `--runtime R`, each at most once
 pub record FitsServe (file : List ℕ) (serving : Serving) (parts : List Part) : Type 0 where
@@ -72,3 +87,14 @@ pub record FitsServe (file : List ℕ) (serving : Serving) (parts : List Part) :
   pub docs_ : values_of names.Docs parts ≡ option_to_list serving.docs
   pub runtime_ : IsRuntime (values_of names.Runtime parts) serving.runtime
   pub no_journal : values_of names.Journal parts ≡ []
+  pub no_simulating : HasNoSimulating parts
+
+-- `simulate`: FILE, ITEMS, `--processors N`, and anywhere `--costs LIST` and `--docs DIR`, each at most once
+pub record FitsSimulate (file items : List ℕ) (simulating : Simulating) (parts : List Part) : Type 0 where
+  pub files : words_in parts ≡ file ∷ items ∷ []
+  pub processors_ : IsProcessors (values_of names.Processors parts) simulating.processors
+  pub costs_ : AreCosts (values_of names.Costs parts) simulating.costs
+  pub docs_ : values_of names.Docs parts ≡ option_to_list simulating.docs
+  pub no_runtime : values_of names.Runtime parts ≡ []
+  pub no_journal : values_of names.Journal parts ≡ []
+  pub no_serving : HasNoServing parts

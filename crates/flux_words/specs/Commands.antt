@@ -5,10 +5,11 @@ use Rattle.flux_words.specs.declared.names.CommandName.TheVariants as names
 use Rattle.flux_words.specs.declared.values.Runtime.{Runtime}
 use Rattle.flux_words.specs.Values.{StartsThreads}
 use Rattle.flux_words.specs.Names.{IsNamed}
-use Rattle.flux_words.specs.Behind.{Manner, Serving, IsFile, HasParts, FitsRun, FitsAudit, FitsLoad, FitsServe}
+use Rattle.flux_words.specs.Behind.{Manner, Serving, Simulating, IsFile, HasParts, FitsRun, FitsAudit, FitsLoad, FitsServe, FitsSimulate}
 
 -- `check FILE`, `plan FILE`, `format FILE`, `run FILE ITEMS` with options, `audit FILE ITEMS JOURNAL` with documents,
--- `load N K` with a runtime, `serve FILE` with a port and options, and `help` or `--help`
+-- `load N K` with a runtime, `serve FILE` with a port and options, `help` or `--help`, and `simulate FILE ITEMS` with
+-- processors and options
 pub data Command : Type 0 where
   check : List ℕ → Command
   plan : List ℕ → Command
@@ -18,6 +19,7 @@ pub data Command : Type 0 where
   load : ℕ → ℕ → Runtime → Command
   serve : List ℕ → Serving → Command
   help : Command
+  simulate : List ℕ → List ℕ → Simulating → Command
 
 -- a command's name
 abbrev pub name_of : Command → CommandName
@@ -29,6 +31,7 @@ name_of (audit file items journal docs) = names.Audit
 name_of (load count first runtime) = names.Load
 name_of (serve file serving) = names.Serve
 name_of help = names.Help
+name_of (simulate file items simulating) = names.Simulate
 
 -- these words stand behind its name
 abbrev pub StandsBehind : Command → List (List ℕ) → Type 0
@@ -41,6 +44,7 @@ StandsBehind (audit file items journal docs) words =
 StandsBehind (load count first runtime) words = HasParts words (FitsLoad count first runtime)
 StandsBehind (serve file serving) words = HasParts words (FitsServe file serving)
 StandsBehind help words = words ≡ []
+StandsBehind (simulate file items simulating) words = HasParts words (FitsSimulate file items simulating)
 
 -- the words spell this command: the first is its name
 pub record Spells (words : List (List ℕ)) (command : Command) : Type 0 where
@@ -64,6 +68,7 @@ IsServe (audit file items journal docs) = ⊥
 IsServe (load count first runtime) = ⊥
 IsServe (serve file serving) = ⊤
 IsServe help = ⊥
+IsServe (simulate file items simulating) = ⊥
 
 -- a command that needs threads: a runtime that starts some, or `serve`, which may wait for clients
 abbrev pub NeedsThreads : Command → Type 0
@@ -75,3 +80,4 @@ NeedsThreads (audit file items journal docs) = ⊥
 NeedsThreads (load count first runtime) = StartsThreads runtime
 NeedsThreads (serve file serving) = ⊤
 NeedsThreads help = ⊥
+NeedsThreads (simulate file items simulating) = ⊥

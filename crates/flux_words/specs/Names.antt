@@ -1,7 +1,7 @@
 -- The names of commands.
 use Rattle.std.specs.Prelude.{◌≡◌, ◌⊎◌, ℕ, List, codes}
 use Rattle.flux_words.specs.declared.names.CommandName.{CommandName}
-use Rattle.flux_words.specs.declared.names.CommandName.TheVariants.{Check, Plan, Format, Run, Audit, Load, Serve, Help}
+use Rattle.flux_words.specs.declared.names.CommandName.TheVariants.{Check, Plan, Format, Run, Audit, Load, Serve, Help, Simulate}
 
 -- a word names a command
 abbrev pub IsNamed : CommandName → List ℕ → Type 0
@@ -13,3 +13,4 @@ IsNamed Audit word = word ≡ codes "audit"
 IsNamed Load word = word ≡ codes "load"
 IsNamed Serve word = word ≡ codes "serve"
 IsNamed Help word = (word ≡ codes "help") ⊎ (word ≡ codes "--help")
+IsNamed Simulate word = word ≡ codes "simulate"

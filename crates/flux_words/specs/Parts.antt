@@ -1,7 +1,7 @@
 -- What stands behind the command's word: positional words, and options with their values.
 use Rattle.std.specs.Prelude.{◌≡◌, ◌≢◌, ◌⊎◌, ℕ, List, [], ◌∷◌, ◌++◌, codes, ⊤}
 use Rattle.flux_words.specs.declared.names.OptionName.{OptionName}
-use Rattle.flux_words.specs.declared.names.OptionName.TheVariants.{Runtime, Docs, Journal, Port, Batches}
+use Rattle.flux_words.specs.declared.names.OptionName.TheVariants.{Runtime, Docs, Journal, Port, Batches, Processors, Costs}
 
 -- a positional word is not empty and doesn't begin with `-`
 abbrev pub IsPositional : List ℕ → Type 0
@@ -24,6 +24,8 @@ spelled Docs = codes "--docs"
 spelled Journal = codes "--journal"
 spelled Port = codes "--port"
 spelled Batches = codes "--batches"
+spelled Processors = codes "--processors"
+spelled Costs = codes "--costs"
 
 -- a part: a positional word, or an option with its value
 pub data Part : Type 0 where
@@ -57,6 +59,8 @@ if_for Docs Docs value = value ∷ []
 if_for Journal Journal value = value ∷ []
 if_for Port Port value = value ∷ []
 if_for Batches Batches value = value ∷ []
+if_for Processors Processors value = value ∷ []
+if_for Costs Costs value = value ∷ []
 if_for wanted name value = []
 
 -- the values that are given for an option, in order

@@ -21,6 +21,9 @@ pub fn read_audit(words: &[Bytes]) -> Option<Asked<'_>>
     if given.serves() {
         return None;
     }
+    if given.simulates() {
+        return None;
+    }
     Some(Asked::Audit {
         file,
         items,

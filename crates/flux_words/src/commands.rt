@@ -6,11 +6,13 @@ ghost use Rattle.flux_words.specs.Asking.{asked};
 ghost use Rattle.flux_words.specs.steps.Asking.{IsAsked, IsAskedBehind, IsFileRead};
 
 use crate::audits::read_audit;
+use crate::costs::{Costs, Processors};
 use crate::loads::read_load;
 use crate::names::{CommandName, read_name};
 use crate::parts::is_positional;
 use crate::runs::read_run;
 use crate::serves::{is_serve, read_serve};
+use crate::simulations::read_simulation;
 use crate::values::{JournalFormat, Runtime};
 use flux_values::{Bytes, Memory};
 use std::alloc::Global;
@@ -58,6 +60,14 @@ pub enum Asked<'a> {
         runtime: Runtime,
     },
     Help,
+    Simulate {
+        file: &'a [u8],
+        items: &'a [u8],
+        processors: Processors,
+        costs: Costs,
+        /// The folder of documents.
+        docs: Option<&'a [u8]>,
+    },
 }
 
 /// The one file that words are.
@@ -93,6 +103,7 @@ fn read_behind<'a>(
         CommandName::Serve => read_serve(alloc, words),
         CommandName::Help if words.is_empty() => Ok(Some(Asked::Help)),
         CommandName::Help => Ok(None),
+        CommandName::Simulate => read_simulation(alloc, words),
     }
 }
 
@@ -112,7 +123,8 @@ fn read_command<'a>(alloc: Global, words: &'a [Bytes]) -> Result<Option<Asked<'a
 ///
 /// The words are those behind the program's own name: `check FILE`, `plan FILE`, `format FILE`,
 /// `run FILE ITEMS [--runtime R] [--docs DIR] [--journal J]`, `audit FILE ITEMS JOURNAL [--docs DIR]`,
-/// `load N K [--runtime R]`, `serve FILE --port P [--docs DIR] [--batches B] [--runtime R]`, and `help` or `--help`.
+/// `load N K [--runtime R]`, `serve FILE --port P [--docs DIR] [--batches B] [--runtime R]`, `help` or `--help`, and
+/// `simulate FILE ITEMS --processors N [--costs LIST] [--docs DIR]`.
 pub fn read_words<'a>(alloc: Global, words: &'a [Bytes]) -> Result<Option<Asked<'a>>, Memory>
     // Each answer has its cause.
     ensures found { IfOk result (λ found. IfSome found (λ a. Spells words.now (asked a))) }

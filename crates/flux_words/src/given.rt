@@ -27,6 +27,8 @@ pub struct Given<'a> {
     pub journal: Option<&'a [u8]>,
     pub port: Option<&'a [u8]>,
     pub batches: Option<&'a [u8]>,
+    pub processors: Option<&'a [u8]>,
+    pub costs: Option<&'a [u8]>,
 }
 
 impl<'a> Files<'a> {
@@ -66,6 +68,8 @@ impl<'a> Given<'a> {
             journal: None,
             port: None,
             batches: None,
+            processors: None,
+            costs: None,
         }
     }
 
@@ -75,6 +79,14 @@ impl<'a> Given<'a> {
         ensures none { IsFalse result → (listed self.now.port ≡ []) × (listed self.now.batches ≡ []) }
     {
         self.port.is_some() || self.batches.is_some()
+    }
+
+    /// Whether an option is given that `simulate` alone has.
+    pub fn simulates(&self) -> bool
+        ensures some { IsTrue result → listed self.now.processors ≡ [] → listed self.now.costs ≡ [] → ⊥ }
+        ensures none { IsFalse result → (listed self.now.processors ≡ []) × (listed self.now.costs ≡ []) }
+    {
+        self.processors.is_some() || self.costs.is_some()
     }
 
     /// Adds a part; None where no command has it once more.
@@ -89,6 +101,10 @@ impl<'a> Given<'a> {
             Part::Option(OptionName::Journal, value) => self.journal = once(self.journal, value)?,
             Part::Option(OptionName::Port, value) => self.port = once(self.port, value)?,
             Part::Option(OptionName::Batches, value) => self.batches = once(self.batches, value)?,
+            Part::Option(OptionName::Processors, value) => {
+                self.processors = once(self.processors, value)?
+            }
+            Part::Option(OptionName::Costs, value) => self.costs = once(self.costs, value)?,
         }
         Some(())
     }

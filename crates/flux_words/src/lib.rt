@@ -6,6 +6,7 @@
 
 mod audits;
 mod commands;
+mod costs;
 mod given;
 mod loads;
 mod names;
@@ -13,10 +14,12 @@ mod needs;
 mod parts;
 mod runs;
 mod serves;
+mod simulations;
 mod values;
 mod workers;
 
 pub use commands::{Asked, read_words};
+pub use costs::{COST_LIMIT, COSTS_LIMIT, Costs, PROCESSOR_LIMIT, Processors};
 pub use loads::{FIRST_LIMIT, LOAD_LIMIT};
 pub use needs::{needs_threads, spells_serve};
 pub use values::{BATCHES_LIMIT, JournalFormat, NUMBER_LIMIT, PORT_LIMIT, Runtime, WORKER_LIMIT};

@@ -29,6 +29,9 @@ pub fn read_load<'a>(alloc: Global, words: &'a [Bytes]) -> Result<Option<Asked<'
     if given.serves() {
         return Ok(None);
     }
+    if given.simulates() {
+        return Ok(None);
+    }
     let Files::Two(count, first) = given.files else {
         return Ok(None);
     };

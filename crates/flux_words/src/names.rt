@@ -17,6 +17,7 @@ pub enum CommandName {
     Load,
     Serve,
     Help,
+    Simulate,
 }
 
 /// An option of the command line.
@@ -27,6 +28,8 @@ pub enum OptionName {
     Journal,
     Port,
     Batches,
+    Processors,
+    Costs,
 }
 
 /// The command that a first word names.
@@ -43,6 +46,7 @@ pub fn read_name(word: &[u8]) -> Option<CommandName>
         b"load" => Some(CommandName::Load),
         b"serve" => Some(CommandName::Serve),
         b"help" | b"--help" => Some(CommandName::Help),
+        b"simulate" => Some(CommandName::Simulate),
         _ => None,
     }
 }
@@ -75,6 +79,12 @@ pub fn split_name(word: &[u8]) -> Option<(OptionName, &[u8])>
     }
     if let Some(rest) = strip(b"--batches", word) {
         return Some((OptionName::Batches, rest));
+    }
+    if let Some(rest) = strip(b"--processors", word) {
+        return Some((OptionName::Processors, rest));
+    }
+    if let Some(rest) = strip(b"--costs", word) {
+        return Some((OptionName::Costs, rest));
     }
     None
 }

@@ -34,6 +34,9 @@ fn run_needs(words: &[Bytes]) -> bool
     if given.serves() {
         return false;
     }
+    if given.simulates() {
+        return false;
+    }
     let Files::Two(_, _) = given.files else {
         return false;
     };
@@ -54,6 +57,9 @@ fn load_needs(words: &[Bytes]) -> bool
         return false;
     }
     if given.serves() {
+        return false;
+    }
+    if given.simulates() {
         return false;
     }
     let Files::Two(count, first) = given.files else {
@@ -81,6 +87,7 @@ fn behind_needs(name: CommandName, words: &[Bytes]) -> bool
         CommandName::Format => false,
         CommandName::Audit => false,
         CommandName::Help => false,
+        CommandName::Simulate => false,
     }
 }
 

@@ -20,6 +20,9 @@ pub fn read_run<'a>(alloc: Global, words: &'a [Bytes]) -> Result<Option<Asked<'a
     if given.serves() {
         return Ok(None);
     }
+    if given.simulates() {
+        return Ok(None);
+    }
     let Files::Two(file, items) = given.files else {
         return Ok(None);
     };

@@ -32,6 +32,9 @@ fn read_service(words: &[Bytes]) -> Option<Service<'_>>
     if given.journal.is_some() {
         return None;
     }
+    if given.simulates() {
+        return None;
+    }
     let port = read_port(given.port)?;
     let batches = read_batches(given.batches)?;
     Some(Service {

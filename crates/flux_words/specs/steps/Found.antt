@@ -1,12 +1,16 @@
 -- Steps of the reader: a part, and what is read of values.
-use Rattle.std.specs.Prelude.{◌≡◌, ℕ, ◌≤◌, List, Option, Some, None, take}
+use Rattle.std.specs.Prelude.{◌≡◌, ℕ, ◌≤◌, List, length, Option, Some, None, take}
 use Rattle.std.specs.List.{AllByRecursion, slice_split}
 use Rattle.flux_model.specs.declared.items.FlowNo.{FlowNo}
 use Rattle.flux_words.specs.declared.parts.Part.{Part as Read}
 use Rattle.flux_words.specs.declared.parts.Part.TheVariants as reads
 use Rattle.flux_words.specs.declared.values.Runtime.{Runtime}
+use Rattle.flux_words.specs.declared.costs.TheConstants.{COSTS_LIMIT}
+use Rattle.flux_words.specs.declared.costs.Processors.{Processors}
+use Rattle.flux_words.specs.declared.costs.Costs.{Costs}
 use Rattle.flux_words.specs.declared.values.JournalFormat.{JournalFormat}
 use Rattle.flux_words.specs.Parts.{Part, word, option}
+use Rattle.flux_words.specs.Costs.{IsProcessors, SpellEachCost, SpellsCosts, AreCosts}
 use Rattle.flux_words.specs.Values.{is_comma, IsDigit, number_from, SpellsNumber, SpellEach, SpellsNumbers, SpellsRuntime, StartsThreads, IsRuntime, IsFormat, IsPort, IsBatches}
 
 -- the part that was read
@@ -59,3 +63,22 @@ IsPortRead values None = (port : ℕ) → IsPort values port → ⊥
 abbrev pub IsBatchesRead : List (List ℕ) → Option ℕ → Type 0
 IsBatchesRead values (Some batches) = IsBatches values batches
 IsBatchesRead values None = (batches : ℕ) → IsBatches values batches → ⊥
+
+abbrev pub IsProcessorsRead : List (List ℕ) → Option Processors → Type 0
+IsProcessorsRead values (Some processors) = IsProcessors values processors.count
+IsProcessorsRead values None = (processors : ℕ) → IsProcessors values processors → ⊥
+
+-- the costs that a list spells, or that it spells none
+abbrev pub AreCostsSpelled : List ℕ → Option Costs → Type 0
+AreCostsSpelled list (Some costs) = SpellsCosts list costs.list
+AreCostsSpelled list None = (costs : List ℕ) → SpellsCosts list costs → ⊥
+
+abbrev pub AreCostsRead : List (List ℕ) → Option Costs → Type 0
+AreCostsRead values (Some costs) = AreCosts values costs.list
+AreCostsRead values None = (costs : List ℕ) → AreCosts values costs → ⊥
+
+-- the costs of the first pieces between commas
+pub record AreCostsSoFar (list : List ℕ) (n : ℕ) (costs : List ℕ) : Type 0 where
+  pub each : SpellEachCost (take n (slice_split is_comma list)) costs
+  pub many : length costs ≡ n
+  pub few : n ≤ COSTS_LIMIT

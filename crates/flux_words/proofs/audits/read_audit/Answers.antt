@@ -1,4 +1,4 @@
-use Rattle.flux_words.proofs.Behind.{audit_of_serving, some_given, audit_of_files, audit_of_options}
+use Rattle.flux_words.proofs.Behind.{audit_of_serving, audit_of_simulating, some_given, audit_of_files, audit_of_options}
 use Rattle.flux_words.proofs.audits.read_audit.Goals.{then-is_some-via-then-is_some, then-is_some-via-else-is_some+then-is_some-2}
 use Rattle.flux_words.proofs.audits.read_audit.Goals as goal
 
@@ -13,3 +13,6 @@ returns-then-is_some c = audit_of_options c.args.words.now c.in_ok-given.given c
 
 pub returns-then-serves : goal.returns-then-serves
 returns-then-serves c = audit_of_serving c.args.words.now c.in_ok-given.given c.in_ok-given.ensures.found (c.serves.ensures.some c.if-serves.true)
+
+pub returns-then-simulates : goal.returns-then-simulates
+returns-then-simulates c = audit_of_simulating c.args.words.now c.in_ok-given.given c.in_ok-given.ensures.found (c.simulates.ensures.some c.if-simulates.true)

@@ -1,6 +1,6 @@
 use Rattle.std.proofs.Common.{ap}
 use Rattle.flux_words.specs.steps.Given.{files_of}
-use Rattle.flux_words.proofs.Behind.{load_of_serving, some_given, load_of_options, load_of_files, load_of_count, load_of_first, load_of_runtime}
+use Rattle.flux_words.proofs.Behind.{load_of_serving, load_of_simulating, some_given, load_of_options, load_of_files, load_of_count, load_of_first, load_of_runtime}
 use Rattle.flux_words.proofs.loads.read_load.Goals.{then-is_some-via-then-is_some, then-is_some-via-else-is_some+then-is_some-2}
 use Rattle.flux_words.proofs.loads.read_load.Goals as goal
 
@@ -26,3 +26,6 @@ returns-in_default-2 c =
 
 pub returns-then-serves : goal.returns-then-serves
 returns-then-serves c = load_of_serving c.args.words.now c.in-Some.given c.in-Some.ensures.found (c.serves.ensures.some c.if-serves.true)
+
+pub returns-then-simulates : goal.returns-then-simulates
+returns-then-simulates c = load_of_simulating c.args.words.now c.in-Some.given c.in-Some.ensures.found (c.simulates.ensures.some c.if-simulates.true)

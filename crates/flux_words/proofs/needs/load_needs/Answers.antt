@@ -1,7 +1,7 @@
 use Rattle.std.proofs.Common.{ap}
 use Rattle.flux_words.specs.declared.names.CommandName.TheVariants.{Load}
 use Rattle.flux_words.specs.steps.Given.{files_of}
-use Rattle.flux_words.proofs.Behind.{some_given, load_of_too_much, load_of_serving, load_of_options, load_of_files, load_of_count, load_of_first}
+use Rattle.flux_words.proofs.Behind.{some_given, load_of_too_much, load_of_serving, load_of_simulating, load_of_options, load_of_files, load_of_count, load_of_first}
 use Rattle.flux_words.proofs.AskingThreads.{none_listed, nothing_asks, load_asks}
 use Rattle.flux_words.proofs.needs.load_needs.Goals.{then-is_some-via-then-is_some, then-is_some-via-else-is_some+then-is_some-2}
 use Rattle.flux_words.proofs.needs.load_needs.Goals as goal
@@ -35,6 +35,10 @@ returns c = load_asks c.args.words.now c.in-Some.given c.in-Some.ensures.found c
     (ap files_of c.in-Two.is) c.in-Some-read_number.ensures c.in-Some-read_number-2.ensures
     (none_listed c.in-Some.given.docs c.if-is_some.ensures) (none_listed c.in-Some.given.journal c.if-is_some-2.ensures)
     (c.serves.ensures.none c.if-serves.false).0 (c.serves.ensures.none c.if-serves.false).1
+    (c.simulates.ensures.none c.if-simulates.false).0 (c.simulates.ensures.none c.if-simulates.false).1
 
 pub returns-then-serves : goal.returns-then-serves
 returns-then-serves c = nothing_asks Load c.args.words.now (load_of_serving c.args.words.now c.in-Some.given c.in-Some.ensures.found (c.serves.ensures.some c.if-serves.true))
+
+pub returns-then-simulates : goal.returns-then-simulates
+returns-then-simulates c = nothing_asks Load c.args.words.now (load_of_simulating c.args.words.now c.in-Some.given c.in-Some.ensures.found (c.simulates.ensures.some c.if-simulates.true))

@@ -1,6 +1,6 @@
 use Rattle.std.proofs.Common.{ap}
 use Rattle.flux_words.specs.steps.Given.{files_of}
-use Rattle.flux_words.proofs.Behind.{some_given, none_given, serve_of_too_much, serve_of_files, serve_of_journal, serve_of_port, serve_of_batches, serve_given}
+use Rattle.flux_words.proofs.Behind.{some_given, none_given, serve_of_too_much, serve_of_files, serve_of_journal, serve_of_simulating, serve_of_port, serve_of_batches, serve_given}
 use Rattle.flux_words.proofs.serves.read_service.Goals as goal
 
 pub returns-in_err-given : goal.returns-in_err-given
@@ -21,3 +21,7 @@ returns-in_err-batches c = rw c.from_residual-in_err-batches.ensures (serve_of_b
 pub returns : goal.returns
 returns c = serve_given c.args.words.now c.in_ok-given.given c.in_ok-given.ensures.found c.in-One.file c.in_ok-port.port c.in_ok-batches.batches (ap files_of c.in-One.is) c.in_ok-port.ensures c.in_ok-batches.ensures
     (none_given c.in_ok-given.given.journal c.is_some.result c.is_some.ensures c.if-is_some.false)
+    (c.simulates.ensures.none c.if-simulates.false).0 (c.simulates.ensures.none c.if-simulates.false).1
+
+pub returns-then-simulates : goal.returns-then-simulates
+returns-then-simulates c = serve_of_simulating c.args.words.now c.in_ok-given.given c.in_ok-given.ensures.found (c.simulates.ensures.some c.if-simulates.true)
