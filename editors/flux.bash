@@ -7,7 +7,7 @@ _flux() {
     # bash takes = for a word of its own.
     if [ "$word" = "=" ]; then word=""; elif [ "$before" = "=" ]; then before="${COMP_WORDS[COMP_CWORD - 2]}"; fi
     if [ "$COMP_CWORD" = 1 ]; then
-        values="check plan format run audit load serve help"
+        values="check plan format run audit load serve help simulate"
         [[ "$1" != */* ]] || values+=" prove version nodes install"
         mapfile -t COMPREPLY < <(compgen -W "$values" -- "$word")
         return
@@ -17,6 +17,7 @@ _flux() {
         audit) options="--docs" ;;
         load) options="--runtime" ;;
         serve) options="--port --docs --batches --runtime" ;;
+        simulate) options="--processors --costs --docs" ;;
     esac
     # An option of another command completes nothing.
     [[ " $options " = *" $before "* ]] || before=""
@@ -43,6 +44,7 @@ _flux() {
         load) most=0 ;;
         serve) most=1 ;;
         help) most=0 ;;
+        simulate) most=2 ;;
     esac
     for ((place = 2; place < COMP_CWORD; place++)); do
         case "${COMP_WORDS[place]}" in

@@ -1,7 +1,7 @@
 -- Why each status comes, from what a call of the program has done.
 use Rattle.std.proofs.Common.{◌≡◌, ◌⊎◌, inl, inr, ℕ, List, refl}
 use Rattle.flux_words.specs.Commands.{Command, Spells, SpellsNone, IsServe}
-use Rattle.flux_words.specs.Commands.{check, plan, format, run, audit, load, serve, help}
+use Rattle.flux_words.specs.Commands.{check, plan, format, run, audit, load, serve, help, simulate}
 use Rattle.flux_driver.specs.declared.statuses.Status.{Status}
 use Rattle.flux_driver.specs.declared.statuses.Status.TheVariants as statuses
 use Rattle.flux_driver.specs.Worlds.{Seen}
@@ -25,6 +25,7 @@ no_serve words (audit file items journal docs) spelled none is = is
 no_serve words (load count first runtime) spelled none is = is
 no_serve words (serve file serving) spelled none is = none file serving spelled
 no_serve words help spelled none is = is
+no_serve words (simulate file items simulating) spelled none is = is
 
 module _ (library : Libraries) (words : List (List ℕ)) (before after : Seen) (command : Command) where
   abbrev Is : Status → List ℕ → List ℕ → Type 0

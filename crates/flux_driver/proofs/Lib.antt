@@ -13,6 +13,8 @@ pub mod Answering
 mod Headline
 mod Audits
 mod Loads
+mod Simulations
+mod Prints
 pub mod Readied
 pub mod Serves
 mod ServedHeadline

@@ -41,8 +41,8 @@ use Rattle.flux_audit.specs.declared.verdicts.Verdict.TheVariants as verdicts
 use Rattle.flux_audit.specs.Verdicts.{HasVerdict}
 use Rattle.flux_load.specs.Loads.{program_text, items_text}
 use Rattle.flux_words.specs.declared.values.Runtime.{Runtime}
-use Rattle.flux_words.specs.Behind.{Manner}
-use Rattle.flux_words.specs.Commands.{Command, check, plan, format, run, audit, load}
+use Rattle.flux_words.specs.Behind.{Manner, Simulating}
+use Rattle.flux_words.specs.Commands.{Command, check, plan, format, run, audit, load, simulate}
 use Rattle.flux_driver.specs.declared.files.TheConstants.{PROGRAM_FILE_LIMIT, ITEMS_FILE_LIMIT, JOURNAL_FILE_LIMIT}
 use Rattle.flux_driver.specs.declared.loaded.Loaded.{Loaded}
 use Rattle.flux_driver.specs.declared.prepared.Prepared.{Prepared}
@@ -55,18 +55,22 @@ use Rattle.flux_driver.specs.Origins.{Origin, named, made, GivesText, TellsText}
 use Rattle.flux_driver.specs.Commands.{ReadsProgram}
 use Rattle.flux_driver.specs.Inputs.{HasProgram, HasItems, GivesItems}
 use Rattle.flux_driver.specs.Items.{rules_of, rules_in, kinds_in}
-use Rattle.flux_driver.specs.TrueRuns.{setup_of, IsRunText}
+use Rattle.flux_runs.specs.Setups.{setup_of}
+use Rattle.flux_runs.specs.Opening.{CanRun, AreSmall}
+use Rattle.flux_runs.specs.Simulations.{IsSimulationText}
+use Rattle.flux_driver.specs.TrueRuns.{IsRunText}
+use Rattle.flux_driver.specs.Simulated.{IsSimulated}
 use Rattle.flux_driver.specs.Audited.{IsAudited}
 use Rattle.flux_driver.specs.Printed.{IsPrinted}
 use Rattle.flux_driver.specs.Causes.{item_fault_line, IsStaticOf, IsItemsText, IsItems, AreItemsLost}
-use Rattle.flux_driver.specs.steps.Running.{HasSources, CanRun, IsRun, AreRefused}
+use Rattle.flux_driver.specs.steps.Running.{HasSources, IsRun, AreRefused}
 use Rattle.flux_driver.specs.steps.Refusals.{status_of, IsUnread, CountsRefusal, SaysOrMemory, IsFaultLine, IsTextRefused, IsCheckRefused, IsRefused}
 use Rattle.flux_driver.specs.steps.Preparing.{AsksFiles, IsPrepared, AreRead, StandsOnItems}
 use Rattle.flux_driver.specs.steps.Loading.{IsLoaded, AreItemsMissed, ReadsWell, IsUnloaded, AsksTwo}
 use Rattle.flux_driver.specs.steps.Auditing.{IsVerdictText}
 use Rattle.flux_driver.proofs.Named.{sources_apart}
 use Rattle.flux_driver.proofs.RuleLists.{rules_are}
-use Rattle.flux_driver.proofs.Runs.{can_run}
+use Rattle.flux_driver.proofs.Runs.{can_run, are_small}
 use Rattle.flux_driver.proofs.Once.{decls_is, rules_same, program_there}
 
 -- ---- counts of failures
@@ -192,6 +196,10 @@ module _ (meaning : LibraryMeaning) (told : Files) where
   audit_unloaded file items journal docs refusal u = unloaded (audit file items journal docs) (named file) (named items) refl (λ text fault is. is) (λ line is. is)
       (λ name missed. let is = named_missed file items name missed in record { is = is; lost = subst (λ (n : List ℕ). IsLost told n ITEMS_FILE_LIMIT) is missed.lost; decls = missed.decls; program_ = missed.program_ }) refusal u
 
+  pub simulate_unloaded : (file items : List ℕ) (simulating : Simulating) (refusal : Refusal) → IsUnloaded meaning told (named file) (named items) refusal → IsRefused meaning (simulate file items simulating) told refusal
+  simulate_unloaded file items simulating refusal u = unloaded (simulate file items simulating) (named file) (named items) refl (λ text fault is. is) (λ line is. is)
+      (λ name missed. let is = named_missed file items name missed in record { is = is; lost = subst (λ (n : List ℕ). IsLost told n ITEMS_FILE_LIMIT) is missed.lost; decls = missed.decls; program_ = missed.program_ }) refusal u
+
   pub load_unloaded : (count first : ℕ) (runtime : Runtime) (refusal : Refusal) → IsUnloaded meaning told (made program_text) (made (items_text count first)) refusal → IsRefused meaning (load count first runtime) told refusal
   load_unloaded count first runtime refusal u = unloaded (load count first runtime) (made program_text) (made (items_text count first)) refl (λ text fault is. is) (λ line is. is)
       (λ name missed. let e = missed.is in absurd cc) refusal u
@@ -237,6 +245,9 @@ asks_second meaning told file items before mid after first second decls program_
 
 pub run_asks : (meaning : LibraryMeaning) (told : Files) (file items : List ℕ) (manner : Manner) (before after : List (List ℕ)) → AsksTwo meaning told file items before after → AsksFiles meaning (run file items manner) told before after
 run_asks meaning told file items manner before after asks = record { names = asks.names; more = asks.more; are = asks.are }
+
+pub simulate_asks : (meaning : LibraryMeaning) (told : Files) (file items : List ℕ) (simulating : Simulating) (before after : List (List ℕ)) → AsksTwo meaning told file items before after → AsksFiles meaning (simulate file items simulating) told before after
+simulate_asks meaning told file items simulating before after asks = record { names = asks.names; more = asks.more; are = asks.are }
 
 pub audit_asks : (meaning : LibraryMeaning) (told : Files) (file items journal : List ℕ) (docs : Option (List ℕ)) (before after : List (List ℕ)) → AsksTwo meaning told file items before after → AsksFiles meaning (audit file items journal docs) told before after
 audit_asks meaning told file items journal docs before after asks = record { names = asks.names; more = asks.more; are = inl asks.are }
@@ -324,10 +335,13 @@ module _ (meaning : LibraryMeaning) (text : List ℕ) (program : Program) (sigs 
   own_rules : rules ≡ rules_in meaning decls c.checked.sound
   own_rules = λ i. rules_of (c.checked.is i) (own_kinds i) (own_locks i)
 
+  -- the locks that were found are those that a program has
+  same_locks : locks_of program ≡ held_by sets
+  same_locks = locks_once program (locks_of program) (held_by sets) (locks_are_there program c.checked.keeps.numbered c.checked.keeps.acyclic) are_locks
+
   own_setup : (items : List Item) → setup_of program (locks_of program) items meaning ≡ setup_of (program_of decls) c.checked.sound.locks items meaning
   own_setup items =
-      let there = locks_once program (locks_of program) (held_by sets) (locks_are_there program c.checked.keeps.numbered c.checked.keeps.acyclic) are_locks in
-      let locks : locks_of program ≡ c.checked.sound.locks = there ∙ own_locks in
+      let locks : locks_of program ≡ c.checked.sound.locks = same_locks ∙ own_locks in
       λ i. setup_of (c.checked.is i) (locks i) items meaning
 
   module _ (told : Files) (from : Origin) (gives : GivesText told from PROGRAM_FILE_LIMIT text) where
@@ -381,6 +395,10 @@ module _ (meaning : LibraryMeaning) (told : Files) (program items : Origin) (own
   pub loaded_can : CanRun meaning checked_.program own.items
   loaded_can = can_run meaning checked_.program (kinds_at checked_.sigs.nodes) (held_by checked_.sets.nodes) own.items l.items_text l.checked.checked.for_library l.are
 
+  pub loaded_small : AreSmall meaning checked_.program own.items
+  loaded_small = are_small meaning checked_.program (kinds_at checked_.sigs.nodes) (held_by checked_.sets.nodes) own.items l.items_text
+      (sym (same_locks meaning l.text checked_.program checked_.sigs.nodes checked_.order.nodes checked_.sets.nodes checked_.sizes l.checked)) l.are
+
   pub loaded_named : IsNamed checked_.program
   loaded_named = l.checked.checked.keeps.named
 
@@ -396,6 +414,15 @@ module _ (meaning : LibraryMeaning) (told : Files) (program items : Origin) (own
   loaded_run wanted text w =
       let moved = subst (λ (p : Program). IsRun meaning p own.items wanted text) l.checked.checked.is w in
       record { given = loaded_given; journal = moved.journal; true_run = moved.true_run; printed = moved.is }
+
+  -- what is printed of a simulation of them
+  pub loaded_simulated : (simulating : Simulating) (text : List ℕ) → IsSimulationText (setup_of checked_.program (locks_of checked_.program) own.items meaning) simulating.costs simulating.processors text → IsSimulated meaning told program items simulating text
+  unfolding loaded_given given_items
+  loaded_simulated simulating text is = record {
+    given = loaded_given;
+    printed = subst (λ (s : Setup). IsSimulationText s simulating.costs simulating.processors text)
+        (own_setup meaning l.text checked_.program checked_.sigs.nodes checked_.order.nodes checked_.sets.nodes checked_.sizes l.checked own.items) is;
+  }
 
   -- the verdict on a journal of them
   pub loaded_verdict : (journal text : List ℕ) → Gives told journal JOURNAL_FILE_LIMIT (Found text) → (verdict : Verdict) → HasVerdict (setup_of checked_.program (locks_of checked_.program) own.items meaning) text verdict → IsAudited meaning told program items journal verdict

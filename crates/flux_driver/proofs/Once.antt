@@ -25,7 +25,7 @@ use Rattle.flux_audit.specs.declared.verdicts.Verdict.{Verdict}
 use Rattle.flux_audit.specs.declared.verdicts.Verdict.TheVariants as verdicts
 use Rattle.flux_audit.specs.Verdicts.{HasVerdict}
 use Rattle.flux_audit.proofs.Judging.{one_verdict}
-use Rattle.flux_words.specs.Commands.{Command, check, plan, format, run, audit, load, serve, help}
+use Rattle.flux_words.specs.Commands.{Command, check, plan, format, run, audit, load, serve, help, simulate}
 use Rattle.flux_driver.specs.declared.files.TheConstants.{PROGRAM_FILE_LIMIT, ITEMS_FILE_LIMIT, JOURNAL_FILE_LIMIT}
 use Rattle.flux_driver.specs.declared.statuses.Status.{Status}
 use Rattle.flux_driver.specs.declared.statuses.Status.TheVariants as statuses
@@ -35,7 +35,7 @@ use Rattle.flux_driver.specs.Commands.{ReadsProgram, TellsFiles}
 use Rattle.flux_driver.specs.Inputs.{HasDecls, HasProgram, HasItems, GivesItems, HasServable, HasUnservable}
 use Rattle.flux_driver.specs.Items.{rules_of, rules_in, kinds_in}
 use Rattle.flux_driver.specs.Audited.{setup_given, IsAudited}
-use Rattle.flux_driver.specs.TrueRuns.{setup_of}
+use Rattle.flux_runs.specs.Setups.{setup_of}
 use Rattle.flux_driver.specs.Printed.{IsPrinted, IsRefuted}
 use Rattle.flux_driver.specs.Causes.{IsStaticOf, IsStatic, IsItemsText, IsItems, AreItemsLost, IsJournalLost, IsMissing, IsUnserved}
 use Rattle.flux_driver.specs.steps.Preparing.{AreRead, ReadsItems, IsFirm}
@@ -156,6 +156,7 @@ module _ (meaning : LibraryMeaning) (told : Files) where
   tells_program (load count first runtime) program tells reads = subst (TellsText told) (sym reads) tt
   tells_program (serve file serving) program tells reads = subst (TellsText told) (sym reads) tells
   tells_program help program tells reads = absurd reads
+  tells_program (simulate file items simulating) program tells reads = subst (TellsText told) (sym reads) tells
 
   -- both are the program's
   same_program : (command : Command) (a b : Origin) → ReadsProgram command a → ReadsProgram command b → a ≡ b
@@ -167,6 +168,7 @@ module _ (meaning : LibraryMeaning) (told : Files) where
   same_program (load count first runtime) a b x y = x ∙ sym y
   same_program (serve file serving) a b x y = x ∙ sym y
   same_program help a b x y = absurd x
+  same_program (simulate file items simulating) a b x y = x ∙ sym y
 
   -- a file is read, so that files are told
   some_read : (command : Command) (name : List ℕ) → TellsFiles told command → ReadsProgram command (named name) → IsSome told
@@ -178,6 +180,7 @@ module _ (meaning : LibraryMeaning) (told : Files) where
   some_read (load count first runtime) name tells reads = absurd cc
   some_read (serve file serving) name tells reads = tells
   some_read help name tells reads = absurd reads
+  some_read (simulate file items simulating) name tells reads = tells
 
   -- ---- what lies behind a sound program
   pub record IsSoundOf (command : Command) : Type 0 where
@@ -187,7 +190,7 @@ module _ (meaning : LibraryMeaning) (told : Files) where
     pub has : HasDecls told program decls
     pub no_fault : (text : List ℕ) (fault : StaticFault) → TellsText told program → GivesText told program PROGRAM_FILE_LIMIT text → IsStaticOf meaning command text fault → ⊥
 
-  sound_of : (command : Command) (program : Origin) → ReadsProgram command program → (decls : List Decl) → HasProgram meaning told program decls
+  pub sound_of : (command : Command) (program : Origin) → ReadsProgram command program → (decls : List Decl) → HasProgram meaning told program decls
       → ((text : List ℕ) (fault : StaticFault) → IsStaticOf meaning command text fault → IsTextFault meaning text fault) → IsSoundOf command
   sound_of command program reads decls h is = record {
     program = program;
@@ -197,21 +200,26 @@ module _ (meaning : LibraryMeaning) (told : Files) where
     no_fault = λ text fault tells gives stands. not_faulty meaning told program tells text fault decls h gives (is text fault stands);
   }
 
-  printed_sound : (command : Command) (text : List ℕ) → IsPrinted meaning command told text → (command ≡ help) ⊎ IsSoundOf command
-  printed_sound (check file) text p = inr (sound_of (check file) (named file) refl p.decls p.has (λ t f s. s))
-  printed_sound (plan file) text p = inr (sound_of (plan file) (named file) refl p.decls p.has (λ t f s. s))
-  printed_sound (format file) text (decls, h, is) = inr (record {
+  -- what can be formatted has none of the faults that formatting looks for
+  pub format_sound : (file : List ℕ) (decls : List Decl) → HasDecls told (named file) decls → IsSoundOf (format file)
+  format_sound file decls h = record {
     program = named file;
     reads = refl;
     decls = decls;
     has = h;
     no_fault = λ t fault tells gives stands. no_decls fault.kind fault.at t decls stands.0 (declared_here meaning told (named file) tells t decls h gives);
-  })
+  }
+
+  printed_sound : (command : Command) (text : List ℕ) → IsPrinted meaning command told text → (command ≡ help) ⊎ IsSoundOf command
+  printed_sound (check file) text p = inr (sound_of (check file) (named file) refl p.decls p.has (λ t f s. s))
+  printed_sound (plan file) text p = inr (sound_of (plan file) (named file) refl p.decls p.has (λ t f s. s))
+  printed_sound (format file) text (decls, h, is) = inr (format_sound file decls h)
   printed_sound (run file items manner) text p = let g = p.given in let h = g.has in inr (sound_of (run file items manner) (named file) refl h.decls h.program_ (λ t f s. s))
   printed_sound (audit file items journal docs) text (events, a, is) = let g = a.given in let h = g.has in inr (sound_of (audit file items journal docs) (named file) refl h.decls h.program_ (λ t f s. s))
   printed_sound (load count first runtime) text p = let g = p.given in let h = g.has in inr (sound_of (load count first runtime) _ refl h.decls h.program_ (λ t f s. s))
   printed_sound (serve file serving) text p = let ready = p.1 in inr (sound_of (serve file serving) (named file) refl ready.decls ready.has (λ t f s. s))
   printed_sound help text p = inl refl
+  printed_sound (simulate file items simulating) text p = let g = p.given in let h = g.has in inr (sound_of (simulate file items simulating) (named file) refl h.decls h.program_ (λ t f s. s))
 
   refuted_sound : (command : Command) (text : List ℕ) → IsRefuted meaning command told text → IsSoundOf command
   refuted_sound (audit file items journal docs) text (line, rule, a, is) = let g = a.given in let h = g.has in sound_of (audit file items journal docs) (named file) refl h.decls h.program_ (λ t f s. s)
@@ -221,18 +229,20 @@ module _ (meaning : LibraryMeaning) (told : Files) where
   items_sound (run file items manner) line i = let h = i.has in sound_of (run file items manner) (named file) refl h.decls h.program_ (λ t f s. s)
   items_sound (audit file items journal docs) line i = let h = i.has in sound_of (audit file items journal docs) (named file) refl h.decls h.program_ (λ t f s. s)
   items_sound (load count first runtime) line i = let h = i.has in sound_of (load count first runtime) _ refl h.decls h.program_ (λ t f s. s)
+  items_sound (simulate file items simulating) line i = let h = i.has in sound_of (simulate file items simulating) (named file) refl h.decls h.program_ (λ t f s. s)
   items_sound other line i = absurd i
 
   missed_sound : (command : Command) (name : List ℕ) → AreItemsLost meaning command told name ⊎ IsJournalLost meaning command told name → IsSoundOf command
   missed_sound (run file items manner) name (inl l) = sound_of (run file items manner) (named file) refl l.decls l.program_ (λ t f s. s)
   missed_sound (audit file items journal docs) name (inl l) = sound_of (audit file items journal docs) (named file) refl l.decls l.program_ (λ t f s. s)
   missed_sound (audit file items journal docs) name (inr l) = let g = l.given in let h = g.has in sound_of (audit file items journal docs) (named file) refl h.decls h.program_ (λ t f s. s)
+  missed_sound (simulate file items simulating) name (inl l) = sound_of (simulate file items simulating) (named file) refl l.decls l.program_ (λ t f s. s)
   missed_sound other name (inl l) = absurd l
   missed_sound other name (inr l) = absurd l
 
   module _ (command : Command) (tells : TellsFiles told command) where
     -- a sound program has no fault
-    sound_static : (line : List ℕ) → IsSoundOf command → IsStatic meaning command told line → ⊥
+    pub sound_static : (line : List ℕ) → IsSoundOf command → IsStatic meaning command told line → ⊥
     sound_static line sound s =
         sound.no_fault s.text s.fault (tells_program command sound.program tells sound.reads)
         (gives_here meaning told sound.program s.program s.text (same_program command s.program sound.program s.reads sound.reads) s.gives) s.stands
@@ -274,6 +284,7 @@ module _ (meaning : LibraryMeaning) (told : Files) where
   printed_late (run file items manner) text name tells p (inl l) = let g = p.given in let h = g.has in not_lost told items ITEMS_FILE_LIMIT h.text tells h.gives l.lost
   printed_late (audit file items journal docs) text name tells p (inl l) = let a = p.1 in let g = a.given in let h = g.has in not_lost told items ITEMS_FILE_LIMIT h.text tells h.gives l.lost
   printed_late (audit file items journal docs) text name tells p (inr l) = let a = p.1 in not_lost told journal JOURNAL_FILE_LIMIT a.text tells a.gives l.lost
+  printed_late (simulate file items simulating) text name tells p (inl l) = let g = p.given in let h = g.has in not_lost told items ITEMS_FILE_LIMIT h.text tells h.gives l.lost
   printed_late other text name tells p (inl l) = absurd l
   printed_late other text name tells p (inr l) = absurd l
 
@@ -286,6 +297,7 @@ module _ (meaning : LibraryMeaning) (told : Files) where
   items_late (run file items manner) line name tells read i (inl l) = let h = i.has in not_lost told items ITEMS_FILE_LIMIT h.text tells h.gives l.lost
   items_late (audit file items journal docs) line name tells read i (inl l) = let h = i.has in not_lost told items ITEMS_FILE_LIMIT h.text tells h.gives l.lost
   items_late (audit file items journal docs) line name tells read i (inr l) = no_fault meaning told (named file) tells (named items) tells read line l.given i
+  items_late (simulate file items simulating) line name tells read i (inl l) = let h = i.has in not_lost told items ITEMS_FILE_LIMIT h.text tells h.gives l.lost
   items_late other line name tells read i (inl l) = absurd l
   items_late other line name tells read i (inr l) = absurd l
 
@@ -293,6 +305,7 @@ module _ (meaning : LibraryMeaning) (told : Files) where
   printed_items (run file items manner) text line tells read p i = no_fault meaning told (named file) tells (named items) tells read line p.given i
   printed_items (audit file items journal docs) text line tells read p i = let a = p.1 in no_fault meaning told (named file) tells (named items) tells read line a.given i
   printed_items (load count first runtime) text line tells read p i = no_fault meaning told _ tt _ tt read line p.given i
+  printed_items (simulate file items simulating) text line tells read p i = no_fault meaning told (named file) tells (named items) tells read line p.given i
   printed_items other text line tells read p i = absurd i
 
   refuted_items : (command : Command) (text line : List ℕ) → TellsFiles told command → ReadsItems meaning command told → IsRefuted meaning command told text → IsItems meaning command told line → ⊥

@@ -1,20 +1,16 @@
 -- From items to what is printed of their run.
-use Rattle.std.proofs.Common.{◌≡◌, ◌⊎◌, inl, inr, ℕ, List, length, Result, Ok, Err, IfOk, IfErr, ◌∙◌, ap, sym, subst}
+use Rattle.std.proofs.Common.{◌≡◌, ◌≤◌, ◌⊎◌, inl, inr, ℕ, zero, suc, List, [], ◌∷◌, map, length, Some, Result, Ok, Err, IfOk, IfErr, ◌∙◌, refl, ap, sym, subst, arith}
+use Rattle.std.specs.List.{slice_get, slice_index, sum_by}
+use Rattle.std.proofs.lemmas.List.Sums.{sum_by-cons}
 use Rattle.std.specs.Result.{IsErrAnd}
-use Rattle.std.specs.Arc.{arc_value}
 use Rattle.flux_values.specs.Meanings.{LibraryMeaning}
 use Rattle.flux_model.specs.declared.programs.Program.{Program}
 use Rattle.flow_model.specs.declared.journals.Entry.{Entry}
 use Rattle.flow_model.specs.CellsAfter.{cells_after}
 use Rattle.flow_model.specs.Keys.{Cells}
 use Rattle.flow_model.specs.Setup.{Setup}
-use Rattle.flux_plan.specs.declared.plans.Plan.{Plan}
-use Rattle.flux_plan.specs.Runs.{ArePlansOf}
-use Rattle.flux_cells.specs.Kept.{cells_of}
-use Rattle.flow_state.specs.declared.setups.Setup as code
-use Rattle.flow_state.specs.States as state
-use Rattle.flow_state.specs.States.{setup_by, MayRun}
-use Rattle.flow_core.specs.States.{CoreState, setup_in, opened}
+use Rattle.flow_state.specs.States.{setup_by}
+use Rattle.flow_core.specs.States.{CoreState, setup_in}
 use Rattle.flux_model.specs.declared.items.Item.{Item}
 use Rattle.flow_model.specs.declared.journals.Journal.{Journal}
 use Rattle.flux_model.specs.Kinds.{NodeKinds}
@@ -25,44 +21,23 @@ use Rattle.flux_items.specs.declared.rules.ItemFault.{ItemFault}
 use Rattle.flux_items.specs.declared.rules.ItemFault.TheVariants as items_
 use Rattle.flux_items.specs.Items.{AreItemsOf}
 use Rattle.flux_items.specs.Faults.{IsFaultOf}
+use Rattle.flux_laws.specs.Growth.{line_size, item_size}
 use Rattle.flux_laws.specs.Hoisted.{locks_of}
+use Rattle.flux_model.specs.declared.programs.SourceLine.{SourceLine}
+use Rattle.flux_model.specs.Sizes.{source_size}
 use Rattle.flux_words.specs.declared.values.Runtime.{Runtime}
 use Rattle.nodes_all.specs.declared.all.All.{All}
 use Rattle.flux_driver.specs.BuiltIn.{meaning_in}
 use Rattle.flux_driver.specs.declared.running.Wanted.{Wanted}
-use Rattle.flux_driver.specs.TrueRuns.{setup_of, printed_by}
+use Rattle.flux_runs.specs.Setups.{setup_of}
+use Rattle.flux_runs.specs.Opening.{CanRun, AreSmall}
+use Rattle.flux_runs.specs.Printed.{printed_by}
 use Rattle.flux_driver.specs.Items.{rules_of}
-use Rattle.flux_driver.specs.steps.Running.{CanRun, IsDriven, DrivesTo, HasParts, IsRun, AreRefused}
+use Rattle.flux_driver.specs.steps.Running.{IsDriven, DrivesTo, IsRun, AreRefused}
 use Rattle.flux_driver.specs.declared.refusals.Refusal.{Refusal}
 use Rattle.flux_driver.specs.steps.Refusals.{of_items}
 use Rattle.flux_driver.proofs.Passed.{passed}
 use Rattle.flux_driver.proofs.Fitting.{items_fit}
-
--- ---- setups
-
-module _ {L : Type 0} (meaning : L → LibraryMeaning) (program : Program) (plans : List Plan) (items : List Item) (library : L) (setup : code.Setup L) (parts : HasParts program plans items library setup) where
-  -- what can be run with its plans may be
-  pub may_run : CanRun (meaning library) program items → ArePlansOf program plans → MayRun (meaning (arc_value setup.library)) (arc_value setup.program) (arc_value setup.plans) setup.items
-  may_run can are =
-      let own : MayRun (meaning library) program plans items = record { kinds = can.kinds; sound = can.sound; fit = can.fit; few = can.few; plans_ = are } in
-      subst (λ (l : L). MayRun (meaning l) (arc_value setup.program) (arc_value setup.plans) setup.items) (sym parts.library_)
-      (subst (λ (p : Program). MayRun (meaning library) p (arc_value setup.plans) setup.items) (sym parts.program_)
-      (subst (λ (ps : List Plan). MayRun (meaning library) program ps setup.items) (sym parts.plans_)
-      (subst (λ (its : List Item). MayRun (meaning library) program plans its) (sym parts.items_) own)))
-
-  -- it is seen as the program with its locks, and cells that are all empty
-  pub setup_is : setup_by meaning (state.setup_of setup) ≡ setup_of program (locks_of program) items (meaning library)
-  setup_is = λ i. record {
-    program = parts.program_ i;
-    locks = locks_of (parts.program_ i);
-    items = parts.items_ i;
-    opening = cells_of (parts.opening i);
-    meaning = meaning (parts.library_ i);
-  }
-
-  -- so is that of a core that is opened with it
-  pub core_is : (core : CoreState L) → core ≡ opened (arc_value setup.program) (arc_value setup.plans) setup.items setup.opening (arc_value setup.library) → setup_in meaning core ≡ setup_of program (locks_of program) items (meaning library)
-  core_is core same = ap (setup_in meaning) same ∙ setup_is
 
 -- ---- runs
 
@@ -87,6 +62,34 @@ can_run meaning p kinds locks items text sound are = record {
   fit = items_fit p kinds locks items text are;
   few = let within = are.within in within.few;
 }
+
+-- ---- the items are small enough to be simulated
+
+-- a source's size, where the sizes are those of a program's sources
+line_size_of : (setup : Setup) (f : SourceLine → ℕ) → ((line : SourceLine) → f line ≡ source_size setup.locks setup.program line)
+    → (lines : List SourceLine) (place : ℕ) → slice_index (map f lines) place ≡ line_size setup (slice_get lines place)
+line_size_of setup f same [] place = refl
+line_size_of setup f same (line ∷ lines) zero = same line
+line_size_of setup f same (line ∷ lines) (suc place) = line_size_of setup f same lines place
+
+sum_same : (f g : Item → ℕ) (items : List Item) → ((item : Item) → f item ≡ g item) → sum_by f items ≡ sum_by g items
+sum_same f g [] same = refl
+sum_same f g (item ∷ items) same =
+    let here = sum_by-cons f item items in
+    let there = sum_by-cons g item items in
+    let own = same item in
+    let more = sum_same f g items same in
+    omega (arith, here, there, own, more)
+
+pub are_small : (meaning : LibraryMeaning) (p : Program) (kinds : ℕ → NodeKinds) (locks : Holds) (items : List Item) (text : List ℕ) → locks ≡ locks_of p
+    → AreItemsOf (rules_of p kinds locks) items text → AreSmall meaning p items
+are_small meaning p kinds locks items text same are =
+    let within = are.within in
+    let setup = setup_of p (locks_of p) items meaning in
+    let small : sum_by (λ (item : Item). slice_index (map (source_size locks p) p.sources) item.source.0) items ≤ 4194304 = within.small in
+    let each = sum_same (λ (item : Item). slice_index (map (source_size locks p) p.sources) item.source.0) (λ (item : Item). item_size setup (Some item)) items
+    (λ item. line_size_of setup (source_size locks p) (λ line. ap (λ (l : Holds). source_size l p line) same) p.sources item.source.0) in
+    record { total = omega (arith, each, small) }
 
 -- ---- items that were refused
 

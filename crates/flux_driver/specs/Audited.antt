@@ -10,7 +10,7 @@ use Rattle.flux_driver.specs.declared.files.TheConstants.{JOURNAL_FILE_LIMIT}
 use Rattle.flux_driver.specs.Worlds.{Files, Gives}
 use Rattle.flux_driver.specs.Origins.{Origin}
 use Rattle.flux_driver.specs.Inputs.{GivesItems}
-use Rattle.flux_driver.specs.TrueRuns.{setup_of}
+use Rattle.flux_runs.specs.Setups.{setup_of}
 
 -- what the items' flows run in: the program with its locks, and cells that are all empty at the start
 abbrev pub setup_given : {meaning : LibraryMeaning} {told : Files} {program items : Origin}

@@ -11,7 +11,7 @@ use Rattle.flux_items.specs.declared.rules.ItemFault.{ItemFault}
 use Rattle.flux_items.specs.declared.rules.ItemFault.TheVariants as items_
 use Rattle.flux_items.specs.Faults.{line_of, IsFaultOf}
 use Rattle.flux_load.specs.Loads.{program_text, items_text}
-use Rattle.flux_words.specs.Commands.{Command, check, plan, format, run, audit, load, serve, help}
+use Rattle.flux_words.specs.Commands.{Command, check, plan, format, run, audit, load, serve, help, simulate}
 use Rattle.flux_driver.specs.declared.files.TheConstants.{PROGRAM_FILE_LIMIT, ITEMS_FILE_LIMIT, JOURNAL_FILE_LIMIT}
 use Rattle.flux_driver.specs.Worlds.{Files, IsLost}
 use Rattle.flux_driver.specs.Origins.{Origin, named, made, GivesText}
@@ -66,6 +66,7 @@ IsStaticOf meaning (audit file items journal docs) text fault = IsTextFault mean
 IsStaticOf meaning (load count first runtime) text fault = IsTextFault meaning text fault
 IsStaticOf meaning (serve file serving) text fault = IsTextFault meaning text fault
 IsStaticOf meaning help text fault = ⊥
+IsStaticOf meaning (simulate file items simulating) text fault = IsTextFault meaning text fault
 
 pub record IsStatic (meaning : LibraryMeaning) (command : Command) (told : Files) (line : List ℕ)
     : Type 0 where
@@ -98,6 +99,8 @@ IsItems meaning (load count first runtime) told line =
     IsItemsText meaning told (made program_text) (made (items_text count first)) line
 IsItems meaning (serve file serving) told line = ⊥
 IsItems meaning help told line = ⊥
+IsItems meaning (simulate file items simulating) told line =
+    IsItemsText meaning told (named file) (named items) line
 
 -- ---- a file isn't there, or is past its limit
 
@@ -113,6 +116,8 @@ abbrev pub AreItemsLost : LibraryMeaning → Command → Files → List ℕ → 
 AreItemsLost meaning (run file items manner) told name =
     IsItemsFileLost meaning told file items name
 AreItemsLost meaning (audit file items journal docs) told name =
+    IsItemsFileLost meaning told file items name
+AreItemsLost meaning (simulate file items simulating) told name =
     IsItemsFileLost meaning told file items name
 AreItemsLost meaning other told name = ⊥
 
@@ -147,3 +152,4 @@ IsUnserved meaning (audit file items journal docs) told line = ⊥
 IsUnserved meaning (load count first runtime) told line = ⊥
 IsUnserved meaning (serve file serving) told line = HasUnservable meaning told (named file) × (line ≡ not_served_line)
 IsUnserved meaning help told line = ⊥
+IsUnserved meaning (simulate file items simulating) told line = ⊥

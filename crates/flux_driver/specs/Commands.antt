@@ -1,7 +1,7 @@
 -- What a command reads.
 use Rattle.std.specs.Prelude.{◌≡◌, ℕ, List, Option, None, IsSome, ⊤}
 use Rattle.flux_load.specs.Loads.{program_text}
-use Rattle.flux_words.specs.Commands.{Command, check, plan, format, run, audit, load, serve, help}
+use Rattle.flux_words.specs.Commands.{Command, check, plan, format, run, audit, load, serve, help, simulate}
 use Rattle.flux_driver.specs.Worlds.{Files}
 use Rattle.flux_driver.specs.Origins.{Origin, named, made}
 
@@ -15,6 +15,7 @@ ReadsProgram (audit file items journal docs) from = from ≡ named file
 ReadsProgram (load count first runtime) from = from ≡ made program_text
 ReadsProgram (serve file serving) from = from ≡ named file
 ReadsProgram help from = ⊥
+ReadsProgram (simulate file items simulating) from = from ≡ named file
 
 -- the folder of documents, where one is named
 abbrev pub folder_of : Command → Option (List ℕ)
@@ -26,6 +27,7 @@ folder_of (audit file items journal docs) = docs
 folder_of (load count first runtime) = None
 folder_of (serve file serving) = serving.docs
 folder_of help = None
+folder_of (simulate file items simulating) = simulating.docs
 
 -- what files hold is told, where the command reads any
 abbrev pub TellsFiles : Files → Command → Type 0
@@ -37,3 +39,4 @@ TellsFiles told (audit file items journal docs) = IsSome told
 TellsFiles told (load count first runtime) = ⊤
 TellsFiles told (serve file serving) = IsSome told
 TellsFiles told help = ⊤
+TellsFiles told (simulate file items simulating) = IsSome told

@@ -34,6 +34,8 @@ use Rattle.flux_syntax.specs.ProgramOfText.{program_of}
 use Rattle.flux_check.specs.Judgement.{AreSound}
 use Rattle.flux_words.specs.Behind.{Manner}
 use Rattle.flux_words.specs.Commands.{run, Spells}
+use Rattle.flux_runs.specs.Setups.{setup_of}
+use Rattle.flux_runs.specs.Printed.{printed_in}
 use Rattle.rt_all.specs.Orders.{IsOrderOf}
 use Rattle.flux_driver.specs.declared.files.TheConstants.{PROGRAM_FILE_LIMIT, ITEMS_FILE_LIMIT}
 use Rattle.flux_driver.specs.declared.statuses.Status.{Status}
@@ -42,7 +44,6 @@ use Rattle.flux_outside.specs.Streams.{Gains}
 use Rattle.flux_driver.specs.Worlds.{Told, Seen, Gives}
 use Rattle.flux_driver.specs.Documents.{AreDocs, TellsAll}
 use Rattle.flux_driver.specs.Items.{rules_in}
-use Rattle.flux_driver.specs.TrueRuns.{setup_of, printed_in}
 use Rattle.flux_driver.specs.Answers.{Libraries, OrMemory}
 use Rattle.flux_driver.specs.Top.{HasDone}
 

@@ -6,9 +6,9 @@ pub mod Documents
 pub mod Commands
 pub mod Inputs
 pub mod Items
-pub mod Summaries
 pub mod TrueRuns
 pub mod Audited
+pub mod Simulated
 pub mod Printed
 pub mod Causes
 pub mod Answers
@@ -18,5 +18,7 @@ pub mod BuiltIn
 pub mod Headline
 pub mod Audits
 pub mod Loads
+pub mod Simulations
+pub mod Prints
 pub mod ServedHeadline
 pub mod Explained

@@ -7,7 +7,7 @@ use Rattle.flux_items.specs.Faults.{IsFaultOf}
 use Rattle.flux_load.specs.Loads.{program_text, items_text}
 use Rattle.flux_words.specs.declared.values.Runtime.{Runtime}
 use Rattle.flux_words.specs.Commands.{load, Spells}
-use Rattle.flux_driver.specs.declared.running.Printing.TheVariants.{Summary}
+use Rattle.flux_runs.specs.declared.printing.Printing.TheVariants.{Summary}
 use Rattle.flux_driver.specs.declared.statuses.Status.{Status}
 use Rattle.flux_driver.specs.declared.statuses.Status.TheVariants as statuses
 use Rattle.flux_driver.specs.Worlds.{Told, Seen}

@@ -12,17 +12,18 @@ use Rattle.flux_load.specs.Loads.{program_text, items_text}
 use Rattle.flux_audit.specs.declared.verdicts.Rule.{Rule}
 use Rattle.flux_audit.specs.declared.verdicts.Verdict.TheVariants.{Yes, No}
 use Rattle.flux_audit.specs.Printed.{printed_verdict}
-use Rattle.flux_words.specs.Commands.{Command, check, plan, format, run, audit, load, serve, help}
-use Rattle.flux_driver.specs.declared.running.Printing.TheVariants.{Journal, Summary}
+use Rattle.flux_words.specs.Commands.{Command, check, plan, format, run, audit, load, serve, help, simulate}
+use Rattle.flux_runs.specs.declared.printing.Printing.TheVariants.{Journal, Summary}
 use Rattle.flux_driver.specs.Worlds.{Files}
 use Rattle.flux_driver.specs.Origins.{Origin, named, made}
 use Rattle.flux_driver.specs.Inputs.{HasDecls, HasProgram, HasServable}
 use Rattle.flux_driver.specs.TrueRuns.{IsRunText}
 use Rattle.flux_driver.specs.Audited.{IsAudited}
+use Rattle.flux_driver.specs.Simulated.{IsSimulated}
 
 -- a line for each command that is built
 abbrev pub help_text : List ℕ
-help_text = codes "flux check FILE\nflux plan FILE\nflux format FILE\nflux run FILE ITEMS [--runtime R] [--docs DIR] [--journal J]\nflux audit FILE ITEMS JOURNAL [--docs DIR]\nflux load N K [--runtime R]\nflux serve FILE --port P [--docs DIR] [--batches B] [--runtime R]\nflux help or --help\n"
+help_text = codes "flux check FILE\nflux plan FILE\nflux format FILE\nflux run FILE ITEMS [--runtime R] [--docs DIR] [--journal J]\nflux audit FILE ITEMS JOURNAL [--docs DIR]\nflux load N K [--runtime R]\nflux serve FILE --port P [--docs DIR] [--batches B] [--runtime R]\nflux help or --help\nflux simulate FILE ITEMS --processors N [--costs LIST] [--docs DIR]\n"
 
 -- the report on the locks of a sound program
 pub record IsReportText (meaning : LibraryMeaning) (told : Files) (program : Origin) (text : List ℕ)
@@ -41,8 +42,9 @@ pub record IsPlanText (meaning : LibraryMeaning) (told : Files) (program : Origi
   pub is : let sound = has.sound in text ≡ printed_plan meaning (program_of decls) sigs sound.locks
 
 -- `check` prints the report, `plan` the plan, `format` the formatted text of the declarations, `run` a journal, `audit`
--- that a journal is right, with the number of its events, `load` the summary of a run of its own two texts, and `help`
--- the help text; `serve` prints nothing before it serves, and then its log
+-- that a journal is right, with the number of its events, `load` the summary of a run of its own two texts, `help` the
+-- help text, and `simulate` the three lines of a run on simulated processors; `serve` prints nothing before it serves,
+-- and then its log
 abbrev pub IsPrinted : LibraryMeaning → Command → Files → List ℕ → Type 0
 IsPrinted meaning (check file) told text = IsReportText meaning told (named file) text
 IsPrinted meaning (plan file) told text = IsPlanText meaning told (named file) text
@@ -57,6 +59,8 @@ IsPrinted meaning (load count first runtime) told text =
     IsRunText meaning told (made program_text) (made (items_text count first)) runtime Summary text
 IsPrinted meaning (serve file serving) told text = (text ≡ []) × HasServable meaning told (named file)
 IsPrinted meaning help told text = text ≡ help_text
+IsPrinted meaning (simulate file items simulating) told text =
+    IsSimulated meaning told (named file) (named items) simulating text
 
 -- `audit` prints that a journal isn't right: the first line that breaks a rule, and the rule
 abbrev pub IsRefuted : LibraryMeaning → Command → Files → List ℕ → Type 0

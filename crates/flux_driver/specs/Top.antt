@@ -3,7 +3,7 @@ use Rattle.std.specs.Prelude.{◌≡◌, ◌≢◌, ◌≤◌, ℕ, ◌⊎◌, L
 use Rattle.flux_values.specs.Meanings.{LibraryMeaning}
 use Rattle.flux_outside.specs.Causes.{Rose}
 use Rattle.flux_syntax.specs.declared.declarations.Decl.{Decl}
-use Rattle.flux_words.specs.Commands.{Command, check, plan, format, run, audit, load, serve, help, Spells, SpellsNone}
+use Rattle.flux_words.specs.Commands.{Command, check, plan, format, run, audit, load, serve, help, simulate, Spells, SpellsNone}
 use Rattle.flux_driver.specs.declared.statuses.Status.{Status}
 use Rattle.flux_driver.specs.declared.statuses.Status.TheVariants as statuses
 use Rattle.flux_outside.specs.Streams.{Wrote, Broke, WroteOrBroke}
@@ -36,6 +36,7 @@ AreFiles meaning (audit file items journal docs) told names =
 AreFiles meaning (load count first runtime) told names = names ≡ []
 AreFiles meaning (serve file serving) told names = names ≡ file ∷ []
 AreFiles meaning help told names = names ≡ []
+AreFiles meaning (simulate file items simulating) told names = AreTwoFiles meaning told file items names
 
 -- the statuses that come where the documents weren't read; where no folder is named, memory was short
 abbrev pub IsStopped : Option (List ℕ) → Status → Type 0

@@ -1,39 +1,22 @@
 -- True runs, and what is printed of them with status 0.
 use Rattle.std.specs.Prelude.{◌≡◌, ℕ, List, [], length}
 use Rattle.flux_values.specs.Meanings.{LibraryMeaning}
-use Rattle.flux_values.specs.Cells.{no_cell}
 use Rattle.flux_model.specs.declared.programs.Program.{Program}
 use Rattle.flow_model.specs.declared.journals.Entry.{Entry}
 use Rattle.flux_model.specs.declared.items.Item.{Item}
 use Rattle.flow_model.specs.declared.journals.Journal.{Journal}
 use Rattle.flux_model.specs.Locks.{Holds}
-use Rattle.flow_model.specs.Setup.{Setup}
 use Rattle.flow_model.specs.CellsAfter.{cells_after}
-use Rattle.flow_model.specs.Keys.{Cells}
 use Rattle.flow_model.specs.Legal.{IsLegal, IsWhole}
-use Rattle.flow_model.specs.Texts.{printed_journal}
-use Rattle.flux_journal.specs.Formats.{printed_journal_2}
 use Rattle.flux_syntax.specs.ProgramOfText.{program_of}
 use Rattle.rt_all.specs.Orders.{IsOrderOf}
 use Rattle.flux_words.specs.declared.values.Runtime.{Runtime}
-use Rattle.flux_words.specs.declared.values.JournalFormat.{JournalFormat}
-use Rattle.flux_words.specs.declared.values.JournalFormat.TheVariants.{One, Two}
-use Rattle.flux_driver.specs.declared.running.Printing.{Printing}
-use Rattle.flux_driver.specs.declared.running.Printing.TheVariants as printings
+use Rattle.flux_runs.specs.declared.printing.Printing.{Printing}
+use Rattle.flux_runs.specs.Setups.{setup_of}
+use Rattle.flux_runs.specs.Printed.{printed_by}
 use Rattle.flux_driver.specs.Worlds.{Files}
 use Rattle.flux_driver.specs.Origins.{Origin}
 use Rattle.flux_driver.specs.Inputs.{GivesItems}
-use Rattle.flux_driver.specs.Summaries.{printed_summary}
-
--- a program with its locks, items, a library, and cells that are all empty at the start
-abbrev pub setup_of : Program → Holds → List Item → LibraryMeaning → Setup
-setup_of program locks items meaning = record {
-  program = program;
-  locks = locks;
-  items = items;
-  opening = λ key. no_cell;
-  meaning = meaning;
-}
 
 -- The entries are a true run of the items by a runtime:
 --   whole           each item's flow is one whole path of its walk, on its own calls' answers;
@@ -49,18 +32,6 @@ pub record IsTrueRun (program : Program) (items : List Item) (meaning : LibraryM
   pub legal : IsLegal (setup_of program locks items meaning) entries
   pub whole : IsWhole (setup_of program locks items meaning) entries
   pub order : IsOrderOf runtime (setup_of program locks items meaning) [] entries
-
--- a journal of so many flows in a format
-abbrev pub printed_in : JournalFormat → Program → ℕ → Journal → List ℕ
-printed_in One program flows journal = printed_journal program journal
-printed_in Two program flows journal = printed_journal_2 program flows journal
-
--- what is printed of a run of so many flows: its journal in a format, or its summary
-abbrev pub printed_by : Printing → Program → ℕ → Journal → Cells → List ℕ
-printed_by (printings.Journal format) program flows journal cells =
-    printed_in format program flows journal
-printed_by printings.Summary program flows journal cells =
-    printed_summary program flows journal.entries cells
 
 -- the text is what is printed of a true run of the items of the one text, through the program of the other, by a
 -- runtime

@@ -27,7 +27,8 @@ pub record Giver : Type 0 where
   pub asked : List (List ℕ)
   pub faults : ℕ
 
--- what is seen of a link: the bytes left to read and all bytes written, where they are told, and its failures
+-- what is seen of a link: all that its client sends, the bytes left to read and all bytes written, where they are told,
+-- and its failures
 abbrev pub Link : Type 0
 Link = links.Seen
 
@@ -50,8 +51,9 @@ pub record Seen : Type 0 where
   pub door : Doorway
 
 -- what is seen of a link and of a door, by what they tell
-abbrev pub link_by : {K : Type 0} → (K → Option (List ℕ)) → (K → Option (List ℕ)) → (K → ℕ) → K → Link
-link_by left written faults link = record { left = left link; written = written link; faults = faults link }
+abbrev pub link_by : {K : Type 0} → (K → Option (List ℕ)) → (K → Option (List ℕ))
+    → (K → Option (List ℕ)) → (K → ℕ) → K → Link
+link_by had left written faults link = links.seen_by had left written faults link
 
 abbrev pub door_by : {D K : Type 0} → (K → Link) → (D → Option (List (List K))) → (D → Option (List K))
     → (D → Option ℕ) → (D → ℕ) → (D → ℕ) → D → Doorway

@@ -30,6 +30,7 @@ fn dir_of<'a>(wanted: &Asked<'a>) -> Option<&'a [u8]>
         Asked::Run { docs, .. } => *docs,
         Asked::Audit { docs, .. } => *docs,
         Asked::Serve { docs, .. } => *docs,
+        Asked::Simulate { docs, .. } => *docs,
         _ => None,
     }
 }

@@ -5,17 +5,16 @@ ghost use Rattle.std.specs.Arc.{arc_value};
 ghost use Rattle.flux_model.specs.Names.{IsNamed};
 ghost use Rattle.flux_laws.specs.Hoisted.{locks_of};
 ghost use Rattle.flux_audit.specs.Verdicts.{HasVerdict};
-ghost use Rattle.flux_driver.specs.TrueRuns.{setup_of};
-ghost use Rattle.flux_driver.specs.steps.Running.{CanRun};
+ghost use Rattle.flux_runs.specs.Setups.{setup_of};
+ghost use Rattle.flux_runs.specs.Opening.{CanRun};
 ghost use Rattle.flux_driver.specs.steps.Auditing.{IsVerdictText};
 
 use crate::prepared::Prepared;
-use crate::running::set_up;
 use flux_audit::{Verdict, audit, print_verdict};
-use flux_compile::compile;
 use flux_hoist::Checked;
 use flux_library::Library;
 use flux_model::Item;
+use flux_runs::set_up;
 use flux_values::{List, Memory};
 use std::alloc::Global;
 use std::sync::Arc;
@@ -32,9 +31,7 @@ fn judge<L: Library>(
     ensures { IfOk result (HasVerdict (setup_of checked.program (locks_of checked.program) items
         (L.meaning (arc_value library))) journal.now) }
 {
-    let plans = compile(alloc, &checked)?;
-    let program = Arc::new(alloc, checked.program)?;
-    let setup = set_up(alloc, library, program, plans, items)?;
+    let setup = set_up(alloc, library, checked, items)?;
     audit(alloc, setup, journal)
 }
 

@@ -9,30 +9,31 @@ ghost use Rattle.flux_driver.specs.Worlds.{Files};
 ghost use Rattle.flux_driver.specs.Printed.{help_text};
 ghost use Rattle.flux_driver.specs.steps.Refusals.{Counts, IsRefused};
 ghost use Rattle.flux_driver.specs.steps.Running.{CanDrive};
-ghost use Rattle.flux_driver.specs.steps.Preparing.{run_of, AsksFiles, IsPrepared, prepared_status, IsFirm};
+ghost use Rattle.flux_driver.specs.steps.Preparing.{run_of, simulate_of, AsksFiles, IsPrepared, prepared_status, IsFirm};
 
 use crate::audited::audit_text;
 use crate::files::{JOURNAL_FILE_LIMIT, PROGRAM_FILE_LIMIT, load};
 use crate::loaded::{Loaded, load_files, load_texts};
 use crate::prepared::Prepared;
 use crate::refusals::Refusal;
-use crate::running::{Printing, Wanted, run_items};
+use crate::running::{Wanted, run_items};
 use crate::texts::{check_text, read_text};
 use flow_core::Core;
 use flux_hoist::{print_plan, report};
 use flux_library::Library;
 use flux_load::make;
 use flux_outside::Store;
+use flux_runs::{Printing, simulate_items};
 use flux_syntax::format;
 use flux_values::{Bytes, Memory};
-use flux_words::{Asked, JournalFormat, Runtime};
+use flux_words::{Asked, Costs, JournalFormat, Processors, Runtime};
 use nodes_all::All;
 use std::alloc::Global;
 use std::sync::Arc;
 
 /// What `help` prints: a line for each command that is built.
 const HELP: &[u8] =
-    b"flux check FILE\nflux plan FILE\nflux format FILE\nflux run FILE ITEMS [--runtime R] [--docs DIR] [--journal J]\nflux audit FILE ITEMS JOURNAL [--docs DIR]\nflux load N K [--runtime R]\nflux serve FILE --port P [--docs DIR] [--batches B] [--runtime R]\nflux help or --help\n";
+    b"flux check FILE\nflux plan FILE\nflux format FILE\nflux run FILE ITEMS [--runtime R] [--docs DIR] [--journal J]\nflux audit FILE ITEMS JOURNAL [--docs DIR]\nflux load N K [--runtime R]\nflux serve FILE --port P [--docs DIR] [--batches B] [--runtime R]\nflux help or --help\nflux simulate FILE ITEMS --processors N [--costs LIST] [--docs DIR]\n";
 
 /// The report that `check` prints.
 fn prepare_check<'a, L: Library, S: Store>(
@@ -196,6 +197,42 @@ fn prepare_load<'a, D: Fn(Core<All>, Runtime) -> Result<Core<All>, Memory>>(
     Ok(Prepared::Text(summary))
 }
 
+/// The three lines that `simulate` prints.
+fn prepare_simulation<'a, L: Library, S: Store>(
+    alloc: Global,
+    library: Arc<L>,
+    store: &mut S,
+    file: &'a [u8],
+    items: &'a [u8],
+    processors: Processors,
+    costs: Costs,
+) -> Result<Prepared, Refusal<'a>>
+    ensures kept { S.files store.new ≡ S.files store.old }
+    ensures later { S.faults store.old ≤ S.faults store.new }
+    ensures asked { (docs : Option (List ℕ)) → AsksFiles (L.meaning (arc_value library))
+        (simulate_of file.now items.now processors.count costs.list docs) (S.files store.old)
+        (S.asked store.old) (S.asked store.new) }
+    ensures done { (docs : Option (List ℕ)) → IfOk result (IsPrepared (L.meaning (arc_value library))
+        (simulate_of file.now items.now processors.count costs.list docs) (S.files store.old)) }
+    ensures refused { (docs : Option (List ℕ)) → IfErr result (IsRefused (L.meaning (arc_value library))
+        (simulate_of file.now items.now processors.count costs.list docs) (S.files store.old)) }
+    ensures counts { Counts result (S.faults store.old) (S.faults store.new) }
+    ensures firm { (docs : Option (List ℕ)) → IsFirm (L.meaning (arc_value library))
+        (simulate_of file.now items.now processors.count costs.list docs) (S.files store.old)
+        (prepared_status result) }
+{
+    let loaded = load_files(alloc, &*library, store, file, items)?;
+    let text = simulate_items(
+        alloc,
+        library,
+        loaded.checked,
+        loaded.items,
+        processors,
+        &costs,
+    )?;
+    Ok(Prepared::Text(text))
+}
+
 /// What `help` prints.
 fn prepare_help(alloc: Global) -> Result<Bytes, Memory>
     ensures { IfOk result (λ text. text ≡ help_text) }
@@ -250,5 +287,12 @@ pub fn prepare<'a, S: Store, D: Fn(Core<All>, Runtime) -> Result<Core<All>, Memo
         // It is served, and prints nothing before.
         Asked::Serve { .. } => unreachable!(),
         Asked::Help => Ok(Prepared::Text(prepare_help(alloc)?)),
+        Asked::Simulate {
+            file,
+            items,
+            processors,
+            costs,
+            docs: _,
+        } => prepare_simulation(alloc, library, store, file, items, processors, costs),
     }
 }

@@ -3,6 +3,8 @@
 ghost use Rattle.flux_driver.specs.Headline.{RunsAreTrue, RunsAreAnswered};
 ghost use Rattle.flux_driver.specs.Audits.{YesIsTrue, NoIsTrue, AuditsAreAnswered};
 ghost use Rattle.flux_driver.specs.Loads.{LoadsAreTrue, LoadsAreAnswered};
+ghost use Rattle.flux_driver.specs.Simulations.{SimulationsAreTrue, SimulationsAreAnswered};
+ghost use Rattle.flux_driver.specs.Prints.{PrintsAreTrue, LooksAreAnswered};
 ghost use Rattle.flux_driver.specs.ServedHeadline.{ServingIsTrue, ServingIsAnswered};
 ghost use Rattle.flux_driver.specs.Explained.{StatusesHaveCauses, CausesAreAnswered, NoCommandIsUsage, UsageIsForNoCommand};
 
@@ -40,6 +42,29 @@ pub fn loads_are_true()
 /// memory is short.
 pub fn loads_are_answered()
     ensures { LoadsAreAnswered }
+{}
+
+/// Where the words spell `simulate` and `top` has answered 0, it has printed the three numbers of a run of the items on
+/// so many simulated processors.
+pub fn simulations_are_true()
+    ensures { SimulationsAreTrue }
+{}
+
+/// Where a sound program and items of it are there, and no reading or writing fails, `simulate` answers 0, unless memory
+/// is short.
+pub fn simulations_are_answered()
+    ensures { SimulationsAreAnswered }
+{}
+
+/// Where the words spell `check`, `plan`, `format` or `help` and `top` has answered 0, it has printed the report, the
+/// plan or the formatted text of what the file has, or the commands.
+pub fn prints_are_true()
+    ensures { PrintsAreTrue }
+{}
+
+/// Where what these look at is there, and no reading or writing fails, they answer 0, unless memory is short.
+pub fn looks_are_answered()
+    ensures { LooksAreAnswered }
 {}
 
 /// Where the words spell `serve` and `top` has answered 0, it has served the program of the file until the door was closed,

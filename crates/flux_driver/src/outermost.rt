@@ -48,7 +48,8 @@ fn act<
     requires printed { (command : Command) → Spells words.now command → IsServe command → ⊥ }
     ensures door { world.new.door ≡ world.old.door }
     ensures done { let seen = seen_by S.files S.asked S.faults F.folders F.asked F.faults O.written O.faults
-        E.written E.faults (door_by (link_by D.Link.left D.Link.written D.Link.faults) D.to_come D.taken_back D.open_at D.faults D.late) in
+        E.written E.faults (door_by (link_by D.Link.had D.Link.left D.Link.written D.Link.faults)
+        D.to_come D.taken_back D.open_at D.faults D.late) in
         HasDone built_in words.now (seen world.old) result (seen world.new) }
 {
     match prepare_words(alloc, &mut world.store, &mut world.folder, driver, words) {
@@ -69,7 +70,8 @@ pub fn top_alone<S: Store, F: Folder, O: Sink, E: Sink, D: Door, G: Gate>(
     requires { (command : Command) → Spells words.now command → NeedsThreads command → ⊥ }
     ensures door { world.new.door ≡ world.old.door }
     ensures done { let seen = seen_by S.files S.asked S.faults F.folders F.asked F.faults O.written O.faults
-        E.written E.faults (door_by (link_by D.Link.left D.Link.written D.Link.faults) D.to_come D.taken_back D.open_at D.faults D.late) in
+        E.written E.faults (door_by (link_by D.Link.had D.Link.left D.Link.written D.Link.faults)
+        D.to_come D.taken_back D.open_at D.faults D.late) in
         HasDone built_in words.now (seen world.old) result (seen world.new) }
 {
     act(
@@ -96,7 +98,8 @@ fn serve_words<S: Store, F: Folder, O: Sink, E: Sink, D: Door, G: Gate, Rt: Thre
     // Each accepted link has gone back to the door.
     ensures out { D.out world.new.door ≡ 0 }
     ensures done { let seen = seen_by S.files S.asked S.faults F.folders F.asked F.faults O.written O.faults
-        E.written E.faults (door_by (link_by D.Link.left D.Link.written D.Link.faults) D.to_come D.taken_back D.open_at D.faults D.late) in
+        E.written E.faults (door_by (link_by D.Link.had D.Link.left D.Link.written D.Link.faults)
+        D.to_come D.taken_back D.open_at D.faults D.late) in
         HasDone built_in words.now (seen world.old) result (seen world.new) }
 {
     match ready_words(alloc, &mut world.store, &mut world.folder, words) {
@@ -123,8 +126,9 @@ fn serve_words<S: Store, F: Folder, O: Sink, E: Sink, D: Door, G: Gate, Rt: Thre
 /// `format FILE` prints its formatted text, `run FILE ITEMS` runs the items of one file through the program
 /// of another and prints the journal of their flows, `audit FILE ITEMS JOURNAL` prints whether a file is the
 /// journal of such a run, `load N K` runs a large load of its own and prints what it counted, `serve FILE` answers
-/// the links of a door, batch by batch, and logs them, and `help` prints the commands. The clause speaks of what is
-/// seen of the world before and after the call. The gate is told before and after each call of a node.
+/// the links of a door, batch by batch, and logs them, `help` prints the commands, and `simulate FILE ITEMS` lets the
+/// items run on simulated processors and prints how long that takes. The clause speaks of what is seen of the world
+/// before and after the call. The gate is told before and after each call of a node, but for those of `simulate`.
 pub fn top<
     S: Store,
     F: Folder,
@@ -138,7 +142,8 @@ pub fn top<
     // Each accepted link has gone back to the door.
     ensures out { D.out world.new.door ≡ 0 }
     ensures done { let seen = seen_by S.files S.asked S.faults F.folders F.asked F.faults O.written O.faults
-        E.written E.faults (door_by (link_by D.Link.left D.Link.written D.Link.faults) D.to_come D.taken_back D.open_at D.faults D.late) in
+        E.written E.faults (door_by (link_by D.Link.had D.Link.left D.Link.written D.Link.faults)
+        D.to_come D.taken_back D.open_at D.faults D.late) in
         HasDone built_in words.now (seen world.old) result (seen world.new) }
 {
     if !needs_threads(words) {
@@ -182,7 +187,8 @@ pub fn answer<
     ensures words { IsErr words → (result ≡ Status.Memory) × (world.new ≡ world.old) }
     ensures world { IsErr world.old → result ≡ Status.Memory }
     ensures done { let seen = seen_by S.files S.asked S.faults F.folders F.asked F.faults O.written O.faults
-        E.written E.faults (door_by (link_by D.Link.left D.Link.written D.Link.faults) D.to_come D.taken_back D.open_at D.faults D.late) in
+        E.written E.faults (door_by (link_by D.Link.had D.Link.left D.Link.written D.Link.faults)
+        D.to_come D.taken_back D.open_at D.faults D.late) in
         IfOk words (λ given. IfOk world.old (λ before. IfOk world.new (λ after.
         HasDone built_in given (seen before) result (seen after)))) }
 {

@@ -1,40 +1,29 @@
 //! The run of items, from a checked program to what is printed of it.
 
-ghost use Rattle.std.specs.Prelude.{◌≡◌, ◌≤◌, [], length, IfOk};
+ghost use Rattle.std.specs.Prelude.{◌≡◌, [], IfOk};
 ghost use Rattle.std.specs.Arc.{arc_value};
-ghost use Rattle.flux_model.specs.declared.programs.TheConstants.{COUNT_LIMIT};
 ghost use Rattle.flow_model.specs.CellsAfter.{cells_after};
 ghost use Rattle.flux_cells.specs.Kept.{cells_of};
 ghost use Rattle.flow_core.specs.States.{setup_in};
+ghost use Rattle.flux_runs.specs.Opening.{CanRun};
 ghost use Rattle.flux_driver.specs.BuiltIn.{meaning_in};
-ghost use Rattle.flux_driver.specs.TrueRuns.{printed_in, printed_by};
-ghost use Rattle.flux_driver.specs.steps.Running.{CanRun, IsDriven, DrivesTo, CanDrive, IsRun, HasParts};
+ghost use Rattle.flux_driver.specs.steps.Running.{IsDriven, DrivesTo, CanDrive, IsRun};
 
-use crate::summaries::print_summary;
-use flow_core::{Core, Gate, Setup};
+use flow_core::{Core, Gate};
 use flow_model::Journal;
 use flux_cells::Cells;
-use flux_compile::compile;
 use flux_hoist::Checked;
-use flux_journal::{print_journal, print_journal_2};
 use flux_library::Library;
-use flux_model::{Item, Program};
-use flux_plan::VerifiedPlan;
+use flux_model::Item;
+use flux_runs::{Printing, open, print};
 use flux_values::{Bytes, List, Memory};
-use flux_words::{JournalFormat, Runtime};
+use flux_words::Runtime;
 use nodes_all::All;
 use rt_all::Chosen;
 use std::alloc::Global;
 use std::marker::{Send, Sync};
 use std::sync::{Arc, Wait};
 use std::thread::Threads;
-
-/// What is printed of a run.
-#[derive(Clone, Copy, Debug, PartialEq, Eq)]
-pub enum Printing {
-    Journal(JournalFormat),
-    Summary,
-}
 
 /// How items are run, and what is printed of the run.
 #[derive(Debug, Drop)]
@@ -92,61 +81,6 @@ fn drive<D: Fn(Core<All>, Runtime) -> Result<Core<All>, Memory>>(
     }
 }
 
-/// What the items' flows run in: cells that are all empty at the start.
-pub fn set_up<L: Library>(
-    alloc: Global,
-    library: Arc<L>,
-    program: Arc<Program>,
-    plans: List<VerifiedPlan>,
-    items: List<Item>,
-) -> Result<Setup<L>, Memory>
-    ensures { IfOk result (HasParts (arc_value program) plans items (arc_value library)) }
-{
-    let plans = Arc::new(alloc, plans)?;
-    Ok(Setup {
-        program,
-        plans,
-        items,
-        opening: Cells::new(alloc),
-        library,
-    })
-}
-
-/// The text of a journal of so many flows.
-fn print_format(
-    alloc: Global,
-    format: JournalFormat,
-    program: &Program,
-    flows: u32,
-    journal: &Journal,
-) -> Result<Bytes, Memory>
-    ensures { IfOk result (λ text. text ≡ printed_in format program.now flows journal.now) }
-{
-    match format {
-        JournalFormat::One => print_journal(alloc, program, journal),
-        JournalFormat::Two => print_journal_2(alloc, program, journal, flows),
-    }
-}
-
-/// What is printed of a run of so many flows, by its journal and the cells at its end.
-fn print(
-    alloc: Global,
-    printing: Printing,
-    program: &Program,
-    flows: u32,
-    journal: &Journal,
-    cells: &Cells,
-) -> Result<Bytes, Memory>
-    requires { length program.now.classes ≤ COUNT_LIMIT }
-    ensures { IfOk result (λ text. text
-        ≡ printed_by printing program.now flows journal.now (cells_of cells.now)) }
-{
-    match printing {
-        Printing::Journal(format) => print_format(alloc, format, program, flows, journal),
-        Printing::Summary => print_summary(alloc, program, flows, journal, cells),
-    }
-}
-
 /// What is printed of the run of items.
 pub fn run_items<D: Fn(Core<All>, Runtime) -> Result<Core<All>, Memory>>(
     alloc: Global,
@@ -161,11 +95,14 @@ pub fn run_items<D: Fn(Core<All>, Runtime) -> Result<Core<All>, Memory>>(
     ensures { IfOk result (IsRun (meaning_in (arc_value library)) checked.program items wanted) }
 {
     let flows = items.len() as u32;
-    let plans = compile(alloc, &checked)?;
-    let program = Arc::new(alloc, checked.program)?;
-    let kept = Arc::try_clone(&program)?;
-    let setup = set_up(alloc, library, program, plans, items)?;
-    let core = Core::new(alloc, setup)?;
-    let (journal, cells) = drive(core, wanted.runtime, driver)?;
-    print(alloc, wanted.printing, &kept, flows, &journal, &cells)
+    let opened = open(alloc, library, checked, items)?;
+    let (journal, cells) = drive(opened.core, wanted.runtime, driver)?;
+    print(
+        alloc,
+        wanted.printing,
+        &opened.program,
+        flows,
+        &journal,
+        &cells,
+    )
 }

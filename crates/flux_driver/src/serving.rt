@@ -4,6 +4,7 @@ ghost use Rattle.std.specs.Prelude.{◌≡◌, ◌<◌, ◌≤◌, IfOk};
 ghost use Rattle.std.specs.Arc.{arc_value};
 ghost use Rattle.flux_model.specs.Kinds.{kinds_at};
 ghost use Rattle.flux_model.specs.Soundness.{IsSound};
+ghost use Rattle.flux_batches.specs.Links.{seen_by};
 ghost use Rattle.flux_serve.specs.Served.{IsServed, CanServe};
 ghost use Rattle.flux_serve.specs.Batches as batches;
 ghost use Rattle.flux_serve.specs.Ends.{HasServed};
@@ -16,14 +17,39 @@ use flux_compile::compile;
 use flux_doors::Door;
 use flux_hoist::Checked;
 use flux_library::Library;
+use flux_model::Program;
 use flux_outside::Sink;
+use flux_plan::VerifiedPlan;
 use flux_serve::{ServeEnd, Served, serve};
-use flux_values::Memory;
+use flux_values::{List, Memory};
 use rt_all::Chosen;
 use std::alloc::Global;
 use std::marker::Sync;
 use std::sync::{Arc, Wait};
 use std::thread::Threads;
+
+/// A program with its plans, to be served.
+fn assemble<L: Library>(
+    alloc: Global,
+    library: Arc<L>,
+    program: Program,
+    plans: List<VerifiedPlan>,
+    framing: Framing,
+) -> Result<Served<L>, Memory>
+    requires { CanServe (L.meaning (arc_value library)) program plans framing }
+    ensures can { IfOk result (λ served. CanServe (L.meaning (arc_value served.library)) (arc_value served.program)
+        (arc_value served.plans) served.framing) }
+    ensures program { IfOk result (λ served. arc_value served.program ≡ program) }
+    ensures library { IfOk result (λ served. arc_value served.library ≡ arc_value library) }
+    ensures framing { IfOk result (λ served. served.framing ≡ framing) }
+{
+    Ok(Served {
+        program: Arc::new(alloc, program)?,
+        plans: Arc::new(alloc, plans)?,
+        library,
+        framing,
+    })
+}
 
 /// A checked program with its plans.
 fn plan_all<L: Library>(
@@ -41,12 +67,7 @@ fn plan_all<L: Library>(
     ensures framing { IfOk result (λ served. served.framing ≡ framing) }
 {
     let plans = compile(alloc, &checked)?;
-    Ok(Served {
-        program: Arc::new(alloc, checked.program)?,
-        plans: Arc::new(alloc, plans)?,
-        library,
-        framing,
-    })
+    assemble(alloc, library, checked.program, plans, framing)
 }
 
 /// Serves a program that is ready: plans it, opens the door, and serves its batches.
@@ -70,7 +91,7 @@ pub fn serve_ready<L: Library, D: Door, O: Sink, G: Gate, Rt: Threads + Wait + S
     ensures later_log { O.faults log.old ≤ O.faults log.new }
     ensures served { let own : batches.Service = (record { program = ready.checked.program; framing = ready.framing; meaning = L.meaning (arc_value ready.library) }) in
         HasServed
-        (λ link. record { left = D.Link.left link; written = D.Link.written link; faults = D.Link.faults link })
+        (seen_by D.Link.had D.Link.left D.Link.written D.Link.faults)
         own service.entry.batches
         (record {
           to_come = D.to_come door.old;

@@ -11,6 +11,7 @@ use Rattle.flux_doors.specs.declared.doors.TheConstants.{OUT_LIMIT}
 use Rattle.flux_words.specs.declared.values.TheConstants.{DIGIT_LIMIT, NUMBER_LIMIT, WORKER_LIMIT}
 use Rattle.flux_words.specs.declared.values.TheConstants.{PORT_LIMIT, BATCHES_LIMIT}
 use Rattle.flux_words.specs.declared.loads.TheConstants.{LOAD_LIMIT, FIRST_LIMIT}
+use Rattle.flux_words.specs.declared.costs.TheConstants.{PROCESSOR_LIMIT, COST_LIMIT, COSTS_LIMIT}
 use Rattle.flux_driver.specs.declared.files.TheConstants.{PROGRAM_FILE_LIMIT, ITEMS_FILE_LIMIT, JOURNAL_FILE_LIMIT}
 use Rattle.nodes_cache.specs.declared.entries.TheConstants.{NAME_LIMIT, ENTRY_LIMIT}
 use Rattle.nodes_web.specs.declared.requests.TheConstants.{FIELD_LIMIT}
@@ -40,7 +41,7 @@ pub record AreValueLimits : Type 0 where
 
 -- in the words of a command: digits of a number, the highest number of a flow, the most workers of a
 -- pool, the most items of a load and the highest number that they may be made from, the highest port,
--- the most batches
+-- the most batches, the most processors of a simulation, what a call costs at most, and the most costs
 pub record AreWordLimits : Type 0 where
   pub digits : DIGIT_LIMIT ≡ 10
   pub flow : NUMBER_LIMIT ≡ 4095
@@ -49,6 +50,9 @@ pub record AreWordLimits : Type 0 where
   pub first : FIRST_LIMIT ≡ 4294967295
   pub port : PORT_LIMIT ≡ 65535
   pub batches : BATCHES_LIMIT ≡ 4294967295
+  pub processors : PROCESSOR_LIMIT ≡ 64
+  pub cost : COST_LIMIT ≡ 1000
+  pub costs : COSTS_LIMIT ≡ 4096
 
 -- in nodes: bytes of a cached name, entries of a cache, fields of a request's head
 pub record AreNodeLimits : Type 0 where

@@ -37,7 +37,9 @@ use Rattle.flux_driver.specs.BuiltIn.{meaning_in}
 use Rattle.flux_driver.specs.declared.refusals.Refusal.{Refusal}
 use Rattle.flux_driver.specs.declared.refusals.Refusal.TheVariants.{Usage, Static, Items, Read, Missing, NotServed, Memory as NoMemory}
 use Rattle.flux_driver.specs.declared.running.Wanted.{Wanted}
-use Rattle.flux_driver.specs.TrueRuns.{IsTrueRun, setup_of, printed_by}
+use Rattle.flux_runs.specs.Setups.{setup_of}
+use Rattle.flux_runs.specs.Printed.{printed_by}
+use Rattle.flux_driver.specs.TrueRuns.{IsTrueRun}
 
 -- the kinds of what a node gives
 abbrev pub outs_at : List NodeSig → NodeNo → List Kind
@@ -51,13 +53,6 @@ pub record HasSources (p : Program) (locks : Holds) (sizes : List ℕ) : Type 0 
       → slice_get p.sources b ≡ Some second
       → source_name p (Some first) ≡ source_name p (Some second) → a ≡ b
   pub sizes_ : sizes ≡ map (source_size locks p) p.sources
-
--- items of a sound program: they have the values that their sources give, and are not too many
-pub record CanRun (meaning : LibraryMeaning) (p : Program) (items : List Item) : Type 0 where
-  pub kinds : ℕ → NodeKinds
-  pub sound : IsSound meaning p kinds
-  pub fit : AllByRecursion (IsItemFor p kinds) items
-  pub few : length items ≤ ITEM_LIMIT
 
 -- a core was driven to its end by a runtime, from an empty journal
 pub record IsDriven (setup : Setup) (runtime : Runtime) (entries : List Entry) : Type 0 where
@@ -77,15 +72,6 @@ pub record CanDrive (pre : CoreState All → Runtime → Type 0)
   pub may : (core : CoreState All) (runtime : Runtime) → core.entries ≡ [] → pre core runtime
   pub drives : (core : CoreState All) (runtime : Runtime) (result : Result (CoreState All) Memory)
       → core.entries ≡ [] → post core runtime result → IfOk result (DrivesTo meaning_in runtime core)
-
--- a setup is made of these, and of empty cells
-pub record HasParts {L : Type 0} (program : Program) (plans : List Plan) (items : List Item) (library : L)
-    (setup : code.Setup L) : Type 0 where
-  pub program_ : arc_value setup.program ≡ program
-  pub plans_ : arc_value setup.plans ≡ plans
-  pub items_ : setup.items ≡ items
-  pub opening : setup.opening ≡ []
-  pub library_ : arc_value setup.library ≡ library
 
 -- what is wanted of a true run of the items is printed
 pub record IsRun (meaning : LibraryMeaning) (p : Program) (items : List Item) (wanted : Wanted)

@@ -1,14 +1,15 @@
-use Rattle.std.proofs.Common.{subst, IfOk}
+use Rattle.std.proofs.Common.{subst, sym, IfOk}
+use Rattle.flux_model.specs.declared.programs.Program.{Program}
+use Rattle.flux_model.specs.Names.{IsNamed}
 use Rattle.flow_model.specs.Setup.{Setup}
 use Rattle.flux_audit.specs.Verdicts.{HasVerdict}
-use Rattle.flux_compile.proofs.Apart.{sound_apart}
-use Rattle.flux_driver.proofs.Runs.{setup_is}
 use Rattle.flux_driver.proofs.audited.judge.Goals as goal
 
-pub compile-requires : goal.compile-requires
-compile-requires g c = let can = c.requires.can in record { apart = sound_apart _ _ _ can.sound }
+pub audit-requires-clause-run : goal.audit-requires-clause-run
+audit-requires-clause-run g c = c.in_ok-setup.ensures.may
+
+pub audit-requires-clause-named : goal.audit-requires-clause-named
+audit-requires-clause-named g c = subst IsNamed (sym c.in_ok-setup.ensures.program_) c.requires.named
 
 pub returns : goal.returns
-returns g c =
-    let same = setup_is g.L.Meaning.meaning _ _ _ _ c.in_ok-setup.setup c.in_ok-setup.ensures in
-    rw c.in_ok-program.ensures.ok at (subst (λ (s : Setup). IfOk c.audit.result (HasVerdict s c.args.journal.now)) same c.audit.ensures.cause)
+returns g c = subst (λ (s : Setup). IfOk c.audit.result (HasVerdict s c.args.journal.now)) c.in_ok-setup.ensures.is c.audit.ensures.cause

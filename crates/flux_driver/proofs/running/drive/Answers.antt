@@ -1,6 +1,18 @@
+use Rattle.std.proofs.Common.{List, sym, subst}
+use Rattle.flow_model.specs.declared.journals.Entry.{Entry}
+use Rattle.flow_core.specs.States.{setup_in}
 use Rattle.flux_cells.specs.Kept.{cells_of}
+use Rattle.flux_driver.specs.BuiltIn.{meaning_in}
+use Rattle.flux_driver.specs.steps.Running.{IsDriven, DrivesTo}
 use Rattle.flux_driver.proofs.Runs.{cells_driven}
 use Rattle.flux_driver.proofs.running.drive.Goals as goal
+
+pub returns-in-Ok-clause-driven : goal.returns-in-Ok-clause-driven
+returns-in-Ok-clause-driven g c =
+    let driven : DrivesTo meaning_in c.args.runtime c.args.core c.in-Ok.core =
+    rw c.in-Ok.is at (c.requires.drives.drives c.args.core c.args.runtime c.driver.result c.requires.empty c.driver.ensures) in
+    subst (λ (entries : List Entry). IsDriven (setup_in meaning_in c.args.core) c.args.runtime entries)
+    (sym c.into_parts.ensures.journal) driven.driven
 
 pub returns-in-Ok-clause-cells : goal.returns-in-Ok-clause-cells
 returns-in-Ok-clause-cells g c =

@@ -1,6 +1,6 @@
 use Rattle.std.specs.Arc.{arc_value}
 use Rattle.std.proofs.Common.{ap, refl, ◌∙◌, subst, inl, inr}
-use Rattle.flux_batches.specs.Links.{Seen}
+use Rattle.flux_batches.specs.Links.{Seen, seen_by}
 use Rattle.flux_serve.specs.Batches.{Service}
 use Rattle.flux_serve.specs.Ends.{Sight, HasServed}
 use Rattle.flux_driver.proofs.Serves.{unplanned, unopened, service_same, sight_same}
@@ -24,7 +24,7 @@ returns-clause-opened g c = inl (c.serve.ensures.open ∙ c.in-Ok-open.ensures.o
 
 pub returns-clause-served : goal.returns-clause-served
 returns-clause-served g c =
-    let see : g.row.D-Link.Denot → Seen = λ link. record { left = g.D.Link.Link.left link; written = g.D.Link.Link.written link; faults = g.D.Link.Link.faults link } in
+    let see : g.row.D-Link.Denot → Seen = seen_by g.D.Link.Link.had g.D.Link.Link.left g.D.Link.Link.written g.D.Link.Link.faults in
     let meaning = g.L.Meaning.meaning in
     let checked = c.args.ready.checked in
     let own : Service = record { program = checked.program; framing = c.args.ready.framing; meaning = meaning (arc_value c.args.ready.library) } in

@@ -3,7 +3,7 @@
 ghost use Rattle.std.specs.Prelude.{◌≡◌, ◌≤◌, Some, IfOk, position, length};
 ghost use Rattle.flux_model.specs.declared.programs.TheConstants.{COUNT_LIMIT};
 ghost use Rattle.flux_cells.specs.Kept.{cells_of};
-ghost use Rattle.flux_driver.specs.Summaries.{is_step, step_count, is_shared, shared_key, number_at, total_in, printed_summary};
+ghost use Rattle.flux_runs.specs.Summaries.{is_step, step_count, is_shared, shared_key, number_at, total_in, printed_summary};
 
 use flow_model::{Entry, Event, Journal, Key};
 use flux_cells::Cells;

@@ -1,0 +1,6 @@
+mod Assembled
+mod GivenCosts
+mod Areas
+mod Ends
+mod Made
+mod Ready

@@ -1,0 +1,6 @@
+pub mod Setups
+pub mod Opening
+pub mod Summaries
+pub mod Printed
+pub mod Simulations
+pub mod steps

@@ -1,0 +1,3 @@
+-- Mirrors of what the code does step by step. No public clause cites them.
+pub mod Parts
+pub mod Work
