@@ -2,11 +2,11 @@
 
 use crate::entries::{Entry, Line};
 use crate::spellings::{number_of, text_of, word_of};
-use crate::troubles::LineFault;
 use flux_outside::FileBytes;
 use flux_spelling::append_number;
 use flux_values::{Bytes, List, Memory};
 use std::alloc::Global;
+use trial_ends::Trouble;
 
 /// Documents of one body. `{n}` in the name stands for each number in turn.
 #[derive(Drop)]
@@ -76,7 +76,7 @@ pub fn append_piece(
     out: &mut Bytes,
     piece: &str,
     lines: &[Line],
-) -> Result<(), LineFault> {
+) -> Result<(), Trouble> {
     if piece == "|" {
         Ok(out.append(b"\n")?)
     } else if let Some(line) = piece.strip_prefix("| ") {
@@ -94,7 +94,7 @@ pub fn append_piece(
 }
 
 /// Adds a text so many times: where the count is odd once, and then half as often what is twice as long.
-fn append_times(alloc: Global, out: &mut Bytes, count: usize, text: &str) -> Result<(), LineFault> {
+fn append_times(alloc: Global, out: &mut Bytes, count: usize, text: &str) -> Result<(), Trouble> {
     let mut block = text_of(alloc, text)?;
     let mut left = count;
     for _ in 0..usize::BITS {
@@ -112,7 +112,7 @@ fn append_times(alloc: Global, out: &mut Bytes, count: usize, text: &str) -> Res
 }
 
 /// Adds a template for each number of a range, as `1 to 4 "Pass_{n} "`. A range may go down.
-fn append_range(alloc: Global, out: &mut Bytes, rest: &str) -> Result<(), LineFault> {
+fn append_range(alloc: Global, out: &mut Bytes, rest: &str) -> Result<(), Trouble> {
     let (first, last, spelling) = range_of(rest)?;
     let template = text_of(alloc, spelling)?;
     let least = first.min(last);
@@ -128,9 +128,9 @@ fn append_range(alloc: Global, out: &mut Bytes, rest: &str) -> Result<(), LineFa
 }
 
 /// The first and the last number of a range, and what stands behind it.
-fn range_of(text: &str) -> Result<(usize, usize, &str), LineFault> {
+fn range_of(text: &str) -> Result<(usize, usize, &str), Trouble> {
     let Some((first, behind)) = text.split_once(" to ") else {
-        return Err(LineFault::NoLine);
+        return Err(Trouble::Words);
     };
     let (last, rest) = behind.split_once(' ').unwrap_or((behind, ""));
     Ok((number_of(first)?, number_of(last)?, rest))
@@ -142,9 +142,9 @@ fn append_named(
     out: &mut Bytes,
     piece: &str,
     lines: &[Line],
-) -> Result<(), LineFault> {
+) -> Result<(), Trouble> {
     let Some((name, "")) = piece.trim_start_matches('<').split_once('>') else {
-        return Err(LineFault::NoLine);
+        return Err(Trouble::Words);
     };
     for line in lines {
         match &line.entry {
@@ -154,11 +154,11 @@ fn append_named(
             _ => {}
         }
     }
-    Err(LineFault::NoLine)
+    Err(Trouble::Words)
 }
 
 /// A name, with the piece that stands behind it or nothing.
-pub fn named(alloc: Global, rest: &str, lines: &[Line]) -> Result<FileBytes, LineFault> {
+pub fn named(alloc: Global, rest: &str, lines: &[Line]) -> Result<FileBytes, Trouble> {
     let (name, piece) = rest.split_once(' ').unwrap_or((rest, ""));
     Ok(FileBytes {
         name: word_of(alloc, name)?,
@@ -167,7 +167,7 @@ pub fn named(alloc: Global, rest: &str, lines: &[Line]) -> Result<FileBytes, Lin
 }
 
 /// A text that begins with a piece or with nothing.
-pub fn begun(alloc: Global, piece: &str, lines: &[Line]) -> Result<Bytes, LineFault> {
+pub fn begun(alloc: Global, piece: &str, lines: &[Line]) -> Result<Bytes, Trouble> {
     let mut text = Bytes::new(alloc);
     if !piece.is_empty() {
         append_piece(alloc, &mut text, piece, lines)?;
@@ -176,7 +176,7 @@ pub fn begun(alloc: Global, piece: &str, lines: &[Line]) -> Result<Bytes, LineFa
 }
 
 /// Numbered documents, as `1 to 9 doc{n}`, or one where there is no range.
-pub fn read_documents(alloc: Global, rest: &str, lines: &[Line]) -> Result<Documents, LineFault> {
+pub fn read_documents(alloc: Global, rest: &str, lines: &[Line]) -> Result<Documents, Trouble> {
     let (first, last, behind) = range_of(rest)?;
     let file = named(alloc, behind, lines)?;
     Ok(Documents {
@@ -188,7 +188,7 @@ pub fn read_documents(alloc: Global, rest: &str, lines: &[Line]) -> Result<Docum
 }
 
 /// One document.
-pub fn read_document(alloc: Global, rest: &str, lines: &[Line]) -> Result<Documents, LineFault> {
+pub fn read_document(alloc: Global, rest: &str, lines: &[Line]) -> Result<Documents, Trouble> {
     let file = named(alloc, rest, lines)?;
     Ok(Documents {
         first: 1,

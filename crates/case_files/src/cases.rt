@@ -28,6 +28,8 @@ pub struct Case<'a> {
     pub folder: Option<&'a [u8]>,
     /// How many calls of nodes the gate has to be told of.
     pub calls: Option<usize>,
+    /// How often the gate looks, at most, for a call of another flow while it holds the first call. One has to come.
+    pub hold: Option<usize>,
     pub out: Shape,
     pub err: Shape,
 }
@@ -47,6 +49,7 @@ impl<'a> Case<'a> {
             opened: None,
             folder: None,
             calls: None,
+            hold: None,
             out: shape,
             err: shape,
         };
@@ -65,6 +68,7 @@ impl<'a> Case<'a> {
             Entry::Opened(names) => self.opened = self.opened.or(Some(names.as_slice())),
             Entry::Folder(dir) => self.folder = self.folder.or(Some(dir.as_bytes())),
             Entry::Calls(calls) => self.calls = self.calls.or(Some(*calls)),
+            Entry::Hold(looks) => self.hold = self.hold.or(Some(*looks)),
             Entry::Room(Stream::Out, bytes) => self.out.room = self.out.room.or(Some(*bytes)),
             Entry::Room(Stream::Err, bytes) => self.err.room = self.err.room.or(Some(*bytes)),
             Entry::Piece(Stream::Out, bytes) => self.out.piece = self.out.piece.or(Some(*bytes)),

@@ -74,6 +74,8 @@ pub enum Entry {
     Status(usize),
     /// How many calls of nodes the gate is told of.
     Calls(usize),
+    /// How often the gate looks, at most, for a call of another flow while it holds the first call.
+    Hold(usize),
     /// The files that are asked for, in order.
     Asked(List<Bytes>),
     /// The folders that are asked for, in order.

@@ -13,7 +13,6 @@ mod lines;
 mod reports;
 mod settings;
 mod spellings;
-mod troubles;
 
 pub use bodies::Documents;
 pub use cases::{Case, Shape};
@@ -21,4 +20,4 @@ pub use differences::Differences;
 pub use entries::{Entry, Gain, Line, Measure, Part, Stream};
 pub use lines::read_lines;
 pub use reports::Report;
-pub use troubles::Trouble;
+pub use trial_ends::Trouble;

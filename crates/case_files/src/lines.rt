@@ -3,9 +3,9 @@
 use crate::bodies::is_piece;
 use crate::entries::{Entry, Line};
 use crate::settings::{add_piece, read_entry};
-use crate::troubles::LineFault;
 use flux_values::Memory;
 use std::alloc::Global;
+use trial_ends::Trouble;
 
 /// What a text's lines say. Blank lines and those that begin with `#` say nothing.
 pub fn read_lines(alloc: Global, text: &str) -> Result<Vec<Line>, Memory> {
@@ -35,11 +35,11 @@ fn read_line(
     };
     match read {
         Ok(()) => Ok(()),
-        Err(LineFault::NoLine) => Ok(lines.push(Line {
+        Err(Trouble::Words) => Ok(lines.push(Line {
             number,
             entry: Entry::Faulty,
         })?),
-        Err(LineFault::Memory) => Err(Memory),
+        Err(_) => Err(Memory),
     }
 }
 
@@ -48,7 +48,7 @@ fn add_entry(
     lines: &mut Vec<Line>,
     number: usize,
     line: &str,
-) -> Result<(), LineFault> {
+) -> Result<(), Trouble> {
     let entry = read_entry(alloc, line, lines.as_slice())?;
     Ok(lines.push(Line { number, entry })?)
 }

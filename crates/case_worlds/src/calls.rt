@@ -3,27 +3,90 @@
 use flow_core::Gate;
 use flux_model::{FlowNo, NodeNo};
 use flux_values::Bytes;
+use std::sync::Wait;
 use std::sync::atomic::{AtomicBool, AtomicU32, AtomicU64, Ordering};
+use std::time::Duration;
 
-/// A gate that counts calls, and keeps whether the begin of one was told before the end of another.
+/// No call has begun.
+const NONE: u64 = 0;
+
+/// A call of another flow began while the first call was held.
+const MET: u64 = u64::MAX;
+
+/// The first call went on, and none of another flow had begun.
+const ALONE: u64 = u64::MAX - 1;
+
+/// How long the first call sleeps between two looks, in milliseconds.
+const SLEEP: u64 = 1;
+
+/// A gate that counts calls, and keeps whether the begin of one was told before the end of another. It may hold the first call
+/// until one of another flow begins.
 #[derive(Drop)]
-pub struct CountingGate {
+pub struct CountingGate<'a, R> {
+    rt: &'a R,
     begun: AtomicU64,
     ended: AtomicU64,
     flow: AtomicU32,
     node: AtomicU32,
     mixed_up: AtomicBool,
+    /// How often the first call looks for one of another flow, at most.
+    looks: u64,
+    /// `NONE`, then one more than the number of the flow whose call is held, then `MET` or `ALONE`.
+    held: AtomicU64,
 }
 
-impl CountingGate {
-    pub fn new() -> CountingGate {
+impl<'a, R: Wait> CountingGate<'a, R> {
+    /// A gate that holds the first call for so many looks at most.
+    pub fn new(rt: &'a R, looks: u64) -> CountingGate<'a, R> {
         CountingGate {
+            rt,
             begun: AtomicU64::new(0),
             ended: AtomicU64::new(0),
             flow: AtomicU32::new(0),
             node: AtomicU32::new(0),
             mixed_up: AtomicBool::new(false),
+            looks,
+            held: AtomicU64::new(NONE),
         }
+    }
+
+    /// Whether a call of another flow began while the first call was held.
+    pub fn was_met(&self) -> bool {
+        self.held.load(Ordering::SeqCst) == MET
+    }
+
+    /// Puts one number in another's place, if that is there.
+    fn swap(&self, old: u64, new: u64) -> bool {
+        let swapped = self
+            .held
+            .compare_exchange(old, new, Ordering::SeqCst, Ordering::SeqCst);
+        swapped.is_ok()
+    }
+
+    /// Holds the first call. The begin of one of another flow lets it go.
+    fn meet(&self, flow: FlowNo) {
+        let own = u64::from(flow.0) + 1;
+        if self.swap(NONE, own) {
+            self.hold(own);
+            return;
+        }
+        let held = self.held.load(Ordering::SeqCst);
+        if held != own && held < ALONE {
+            let _ = self.swap(held, MET);
+        }
+    }
+
+    /// Waits until a call of another flow began, and for no more looks than were said. It sleeps between them, since what giving a
+    /// processor away takes depends on what else runs: from less than a microsecond to some milliseconds.
+    fn hold(&self, own: u64) {
+        let bed = AtomicU64::new(0);
+        for _ in 0..self.looks {
+            if self.was_met() {
+                return;
+            }
+            bed.park_timeout(self.rt, 0, Duration::from_millis(SLEEP));
+        }
+        let _ = self.swap(own, ALONE);
     }
 
     /// How many calls were told of; none where not each had its end. Where calls don't run beside each other, each end was told
@@ -39,7 +102,7 @@ impl CountingGate {
     }
 }
 
-impl Gate for CountingGate {
+impl<R: Wait> Gate for CountingGate<'_, R> {
     fn before(&self, flow: FlowNo, node: NodeNo) {
         let before = self.begun.fetch_add(1, Ordering::SeqCst);
         if before != self.ended.load(Ordering::SeqCst) {
@@ -47,6 +110,7 @@ impl Gate for CountingGate {
         }
         self.flow.store(flow.0, Ordering::SeqCst);
         self.node.store(node.0, Ordering::SeqCst);
+        self.meet(flow);
     }
 
     fn after(&self, flow: FlowNo, node: NodeNo) {

@@ -49,6 +49,18 @@ pub fn compare_links(
     Ok(())
 }
 
+/// Tells where the first call of a case was to be held until another flow's, and wasn't met by one.
+pub fn compare_held(
+    differences: &mut Differences,
+    case: &Case,
+    was_met: bool,
+) -> Result<(), Memory> {
+    if case.hold.is_some() && !was_met {
+        differences.tell(b"no call of another flow while the first was held")?;
+    }
+    Ok(())
+}
+
 /// Compares the calls that the gate was told of with those that are wanted, and with those that were printed.
 pub fn compare_told(
     differences: &mut Differences,

@@ -5,8 +5,8 @@ ghost use Rattle.std.specs.Prelude.{◌≡◌};
 use crate::worlds::{Memories, world_from};
 use case_files::{Case, Differences, Entry, Line, Report, Trouble};
 use case_worlds::{
-    CountingGate, audit_parts, audit_words, compare_gains, compare_links, compare_names,
-    compare_told, is_command, parts_of,
+    CountingGate, audit_parts, audit_words, compare_gains, compare_held, compare_links,
+    compare_names, compare_told, is_command, parts_of,
 };
 use flux_doors::Door;
 use flux_driver::{World, needs_threads, top};
@@ -89,7 +89,7 @@ fn answer<S: Store, F: Folder, O: Sink, E: Sink, D: Door, Rt: Threads + Wait + S
     alloc: Global,
     words: &[Bytes],
     world: &mut World<S, F, O, E, D>,
-    gate: &CountingGate,
+    gate: &CountingGate<'_, Rt>,
 ) -> u8
     requires { D.out world.old.door ≡ 0 }
 {
@@ -118,12 +118,13 @@ fn judge_words<Rt: Threads + Wait + Sync>(
     differences: &mut Differences,
 ) -> Result<(), Memory> {
     let mut world = world_from(parts_of(alloc, case)?);
-    let gate = CountingGate::new();
+    let gate = CountingGate::new(rt, case.hold.unwrap_or(0) as u64);
     let status = answer(rt, alloc, words, &mut world, &gate);
     differences.compare_status(status, case.status.unwrap_or(0))?;
     compare_world(alloc, differences, case, &world)?;
     let told = gate.calls(needs_threads(words));
     compare_told(differences, case, status, words, told, world.out.written())?;
+    compare_held(differences, case, gate.was_met())?;
     if status == 0 && is_command(words, b"run") {
         audit(rt, alloc, case, words, world.out.written(), differences)?;
     }
@@ -153,7 +154,7 @@ fn audit<Rt: Threads + Wait + Sync>(
 ) -> Result<(), Memory> {
     let words = audit_words(alloc, words)?;
     let mut world = world_from(audit_parts(alloc, case, journal)?);
-    let gate = CountingGate::new();
+    let gate = CountingGate::new(rt, 0);
     let status = answer(rt, alloc, words.as_slice(), &mut world, &gate);
     if status == 0 && world.out.written().starts_with(b"ok ") {
         return Ok(());

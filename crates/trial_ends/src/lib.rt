@@ -8,11 +8,11 @@ use std::alloc::{AllocError, AllocFailed};
 use std::io::{self, ErrorKind};
 
 /// Why a trial came to no end.
-#[derive(Clone, Copy, Debug, PartialEq, Eq)]
+#[derive(Clone, Copy)]
 pub enum Trouble {
     /// What is tried isn't as it must be, or can't be tried.
     Wrong,
-    /// The words are none that are known.
+    /// The words, or those of a line, are none that are known.
     Words,
     /// Words or output failed.
     System,
