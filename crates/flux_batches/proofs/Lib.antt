@@ -5,3 +5,4 @@ mod Pieces
 pub mod Giving
 mod GatheredLemmas
 mod ItemLemmas
+mod Spanning

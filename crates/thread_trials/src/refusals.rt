@@ -1,7 +1,6 @@
 //! A library that answers want of memory once.
 
-use crate::burdens::Burden;
-use crate::runs::{Driver, drive, ended_in};
+use crate::runs::{Driver, audit_run, drive, run_of};
 use flow_core::{Core, OpenGate};
 use flux_library::Library;
 use plain_journals::Given;
@@ -10,10 +9,10 @@ use std::marker::{Send, Sync};
 use std::sync::Wait;
 use std::thread::Threads;
 use trial_ends::Trouble;
-use trial_programs::{COUNTING, Watched, open};
+use trial_programs::{Burden, COUNTING, Flows, Opened, Watched, open};
 
 /// What came of two drives.
-#[derive(Clone, Copy, Debug)]
+#[derive(Clone, Copy)]
 pub struct Drives {
     pub first_stopped: bool,
     /// How many flows have ended behind the second.
@@ -32,7 +31,7 @@ fn drive_on<L: Library + Send + Sync, R: Threads + Wait + Sync>(
     }
 }
 
-/// Drives four flows, of which one call is refused, and then drives the core again.
+/// Drives four flows, of which one call is refused, and then drives the core again. The journal is audited.
 pub fn driven_twice<R: Threads + Wait + Sync>(
     rt: &R,
     alloc: Global,
@@ -44,14 +43,20 @@ pub fn driven_twice<R: Threads + Wait + Sync>(
         number: 1,
     }; 4];
     let watcher = Burden::refusing(call);
-    let core = open(alloc, COUNTING, &given, Watched { watcher })?.core;
+    let Opened { core, program } = open(alloc, COUNTING, &given, Watched { watcher })?;
     let (first_stopped, core) = drive_on(rt, driver, core);
     let (second_stopped, core) = drive_on(rt, driver, core);
     if second_stopped {
         return Err(Trouble::Memory);
     }
+    let flows = Flows {
+        text: COUNTING,
+        given: &given,
+    };
+    let run = run_of(core, program);
+    audit_run(alloc, flows, &run)?;
     Ok(Drives {
         first_stopped,
-        ended: ended_in(&core),
+        ended: run.ended,
     })
 }
