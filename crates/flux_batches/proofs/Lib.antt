@@ -5,4 +5,3 @@ mod Pieces
 pub mod Giving
 mod GatheredLemmas
 mod ItemLemmas
-mod Spanning

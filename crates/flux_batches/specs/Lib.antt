@@ -2,4 +2,3 @@ pub mod Texts
 pub mod Links
 pub mod Replies
 pub mod Gathered
-pub mod steps

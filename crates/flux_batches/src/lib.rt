@@ -10,7 +10,6 @@ mod gathering;
 mod items;
 mod reading;
 mod replying;
-mod spans;
 
 pub use framing::Framing;
 pub use gathering::{LINK_LIMIT, NoBatch, gather, give_back, give_back_held};

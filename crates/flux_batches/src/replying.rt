@@ -1,16 +1,14 @@
 //! Replies, which are written to the links.
 
-ghost use Rattle.std.specs.Prelude.{◌≡◌, ◌+◌, ◌<◌, ◌≤◌, length, OnOk, OnErr};
-ghost use Rattle.flux_batches.specs.steps.Spans.{AreSpans};
+ghost use Rattle.std.specs.Prelude.{◌≡◌, ◌+◌, ◌<◌, ◌≤◌, [], nat_eq, if◌then◌else◌, OnOk, OnErr};
 ghost use Rattle.std.specs.VecDeque.{deque_len};
 ghost use Rattle.flux_outside.specs.Streams.{Wrote, Broke, WroteOrBroke};
 ghost use Rattle.flux_batches.specs.Links.{seen_by};
-ghost use Rattle.flux_batches.specs.Replies.{reply_of, IsAnswered, flow_behind, AreAllAnswered};
+ghost use Rattle.flux_batches.specs.Replies.{emitted, reply_of, IsAnswered, flow_behind, AreAllAnswered};
 
 use crate::gathering::LINK_LIMIT;
 use crate::reading::{Held, Sent};
-use crate::spans::{Span, emission_of, spanned, spans_of};
-use flow_model::Entry;
+use flow_model::{Entry, Event};
 use flux_doors::{Door, Link};
 use flux_model::FlowNo;
 use flux_outside::Failed;
@@ -34,6 +32,20 @@ fn send<K: Link>(link: &mut K, bytes: &[u8]) -> Result<(), Failed>
     Ok(())
 }
 
+/// What an entry emits, if it is of a flow.
+fn emission_of(entry: &Entry, flow: FlowNo) -> &[u8]
+    ensures { result.now ≡ (if nat_eq entry.now.flow.0 flow.0 then emitted entry.now.event else []) }
+{
+    if entry.flow.0 != flow.0 {
+        return &[];
+    }
+    match &entry.event {
+        Event::Call(made) => made.answer.emits.as_bytes(),
+        Event::Take(_, _) | Event::Wait(_, _) | Event::Enter(_) | Event::Choose(_) => &[],
+        Event::Exit(_, _) | Event::Drop(_) | Event::End(_) => &[],
+    }
+}
+
 /// Writes a flow's reply to its link: what its calls emit, in order, until that fails.
 fn reply<K: Link>(link: &mut K, entries: &[Entry], flow: FlowNo)
     ensures same { K.had link.new ≡ K.had link.old }
@@ -51,9 +63,8 @@ fn reply<K: Link>(link: &mut K, entries: &[Entry], flow: FlowNo)
 }
 
 /// Answers a link, if it has an item; and the flow of the next link that has one.
-fn answer<K: Link + Drop>(held: Held<K>, entries: &[Entry], spans: &[Span], flow: u32) -> (K, u32)
-    requires bound { flow < length spans.now }
-    requires spans { AreSpans entries.now spans.now }
+fn answer<K: Link + Drop>(held: Held<K>, entries: &[Entry], flow: u32) -> (K, u32)
+    requires { flow < LINK_LIMIT }
     ensures same { K.had result.0 ≡ K.had held.link }
     ensures answered { IsAnswered entries.now flow (seen_by K.had K.left K.written K.faults held.link)
         (seen_by K.had K.left K.written K.faults result.0) held.sent }
@@ -63,8 +74,7 @@ fn answer<K: Link + Drop>(held: Held<K>, entries: &[Entry], spans: &[Span], flow
     let Held { mut link, sent } = held;
     match sent {
         Sent::Text(_) => {
-            let flow_no = FlowNo(flow);
-            reply(&mut link, spanned(entries, spans, flow_no), flow_no);
+            reply(&mut link, entries, FlowNo(flow));
             (link, flow + 1)
         }
         Sent::Failed => (link, flow),
@@ -84,10 +94,9 @@ pub fn answer_links<D: Door>(door: &mut D, links: VecDeque<Held<D::Link>>, entri
     ensures counts { (D.faults door.new ≡ D.faults door.old) × (D.late door.new ≡ D.late door.old) }
 {
     let mut links = links;
-    let spans = spans_of(entries);
     let mut flow = 0u32;
     'links: while let Some(held) = links.pop_front() {
-        let (link, next) = answer(held, entries, &spans, flow);
+        let (link, next) = answer(held, entries, flow);
         door.done(link);
         flow = next;
     }

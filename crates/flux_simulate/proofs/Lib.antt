@@ -18,4 +18,3 @@ mod Stopping
 mod Adding
 mod Opening
 mod Handing
-mod Watching

@@ -7,6 +7,7 @@
 #![tactic(auto)]
 
 mod clock;
+mod finding;
 mod processors;
 mod runs;
 mod simulating;

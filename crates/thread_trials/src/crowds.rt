@@ -12,7 +12,7 @@ use trial_ends::Trouble;
 use trial_programs::numbers;
 
 /// What came of a crowd.
-#[derive(Clone, Copy)]
+#[derive(Clone, Copy, Debug)]
 pub struct Crowd {
     /// How many flows have ended.
     pub ended: u32,

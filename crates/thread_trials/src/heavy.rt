@@ -1,5 +1,6 @@
 //! Flows whose calls take long.
 
+use crate::burdens::Burden;
 use crate::runs::{Driver, drive, ended_in};
 use flow_core::OpenGate;
 use std::alloc::Global;
@@ -7,7 +8,7 @@ use std::marker::Sync;
 use std::sync::Wait;
 use std::thread::Threads;
 use trial_ends::Trouble;
-use trial_programs::{Burden, FREE, Watched, numbers, open};
+use trial_programs::{FREE, Watched, numbers, open};
 
 /// How many of so many flows, each with one call of so many rounds, have ended.
 pub fn heavy_ended<R: Threads + Wait + Sync>(

@@ -1,10 +1,10 @@
 //! The program `thread_trials`: what only calls show of the hall, the queue and the runtimes with threads.
 //!
-//! It prints what came of each trial, which is the same whatever the order of the threads' turns. The first journal of each program
-//! and runtime is audited, in both formats and without some of its lines. With the words `heavy RUNTIME FLOWS ROUNDS` it drives
-//! flows of heavy calls, for the benches.
+//! It prints what came of each trial, which is the same whatever the order of the threads' turns. With the words
+//! `heavy RUNTIME FLOWS ROUNDS` it drives flows of heavy calls, for the benches.
 #![tactic(auto)]
 
+mod burdens;
 mod crowds;
 mod gates;
 mod halls;

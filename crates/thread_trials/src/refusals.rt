@@ -1,6 +1,7 @@
 //! A library that answers want of memory once.
 
-use crate::runs::{Driver, audit_run, drive, run_of};
+use crate::burdens::Burden;
+use crate::runs::{Driver, drive, ended_in};
 use flow_core::{Core, OpenGate};
 use flux_library::Library;
 use plain_journals::Given;
@@ -9,10 +10,10 @@ use std::marker::{Send, Sync};
 use std::sync::Wait;
 use std::thread::Threads;
 use trial_ends::Trouble;
-use trial_programs::{Burden, COUNTING, Flows, Opened, Watched, open};
+use trial_programs::{COUNTING, Watched, open};
 
 /// What came of two drives.
-#[derive(Clone, Copy)]
+#[derive(Clone, Copy, Debug)]
 pub struct Drives {
     pub first_stopped: bool,
     /// How many flows have ended behind the second.
@@ -31,7 +32,7 @@ fn drive_on<L: Library + Send + Sync, R: Threads + Wait + Sync>(
     }
 }
 
-/// Drives four flows, of which one call is refused, and then drives the core again. The journal is audited.
+/// Drives four flows, of which one call is refused, and then drives the core again.
 pub fn driven_twice<R: Threads + Wait + Sync>(
     rt: &R,
     alloc: Global,
@@ -43,20 +44,14 @@ pub fn driven_twice<R: Threads + Wait + Sync>(
         number: 1,
     }; 4];
     let watcher = Burden::refusing(call);
-    let Opened { core, program } = open(alloc, COUNTING, &given, Watched { watcher })?;
+    let core = open(alloc, COUNTING, &given, Watched { watcher })?.core;
     let (first_stopped, core) = drive_on(rt, driver, core);
     let (second_stopped, core) = drive_on(rt, driver, core);
     if second_stopped {
         return Err(Trouble::Memory);
     }
-    let flows = Flows {
-        text: COUNTING,
-        given: &given,
-    };
-    let run = run_of(core, program);
-    audit_run(alloc, flows, &run)?;
     Ok(Drives {
         first_stopped,
-        ended: run.ended,
+        ended: ended_in(&core),
     })
 }

@@ -15,10 +15,10 @@ use std::marker::{Send, Sync};
 use std::sync::{Arc, Wait};
 use std::thread::Threads;
 use trial_ends::Trouble;
-use trial_programs::{FREE, Flows, NESTED, Opened, numbers, numbers_of, open, text_of};
+use trial_programs::{FREE, NESTED, Opened, numbers, numbers_of, open, text_of};
 
 /// Which runtime.
-#[derive(Clone, Copy)]
+#[derive(Clone, Copy, Debug)]
 pub enum Driver {
     /// On the thread that calls.
     Event,
@@ -57,7 +57,7 @@ pub struct Run {
     pub ended: u32,
 }
 
-pub fn run_of<L: Library>(core: Core<L>, program: Arc<Program>) -> Run {
+fn run_of<L: Library>(core: Core<L>, program: Arc<Program>) -> Run {
     let ended = ended_in(&core);
     let (journal, _) = core.into_parts();
     Run {
@@ -83,33 +83,20 @@ pub fn run_text<G: Gate + Sync, R: Threads + Wait + Sync>(
     }
 }
 
-/// The auditor has to uphold the journal of flows.
-pub fn audit_run(alloc: Global, flows: Flows, run: &Run) -> Result<(), Trouble> {
-    if flows.are_told_by(alloc, &run.program, &run.journal)? {
-        Ok(())
-    } else {
-        Err(Trouble::Wrong)
-    }
-}
-
-/// Whether the journal of driven flows is what plain lists say that it must be. It may be audited too.
+/// Whether the journal of driven flows is what plain lists say that it must be.
 fn keeps_rules<R: Threads + Wait + Sync>(
     rt: &R,
     alloc: Global,
     driver: Driver,
     text: &[u8],
     given: &[Given],
-    is_audited: bool,
 ) -> Result<bool, Trouble> {
     let run = run_text(rt, alloc, driver, text, given, &OpenGate)?;
-    if is_audited {
-        audit_run(alloc, Flows { text, given }, &run)?;
-    }
     let entries = run.journal.entries.as_slice();
     Ok(check_journal(alloc, &run.program, given, entries).is_ok())
 }
 
-/// Of so many drives of a seed's program, how many made a journal that keeps each rule. The first one's is audited.
+/// Of so many drives of a seed's program, how many made a journal that keeps each rule.
 fn kept_of<R: Threads + Wait + Sync>(
     rt: &R,
     alloc: Global,
@@ -120,16 +107,8 @@ fn kept_of<R: Threads + Wait + Sync>(
     let text = text_of(alloc, seed)?;
     let given = numbers_of(alloc, seed)?;
     let mut kept: u32 = 0;
-    for time in 0..times {
-        let is_audited = time == 0;
-        if keeps_rules(
-            rt,
-            alloc,
-            driver,
-            text.as_bytes(),
-            given.as_slice(),
-            is_audited,
-        )? {
+    for _time in 0..times {
+        if keeps_rules(rt, alloc, driver, text.as_bytes(), given.as_slice())? {
             kept = kept.saturating_add(1);
         }
     }
@@ -151,7 +130,7 @@ pub fn kept<R: Threads + Wait + Sync>(
     Ok(kept)
 }
 
-/// Whether so many flows through nested nodes made a journal that keeps each rule, and that is audited.
+/// Whether so many flows through nested nodes made a journal that keeps each rule.
 pub fn nested_kept<R: Threads + Wait + Sync>(
     rt: &R,
     alloc: Global,
@@ -159,7 +138,7 @@ pub fn nested_kept<R: Threads + Wait + Sync>(
     flows: u32,
 ) -> Result<bool, Trouble> {
     let given = numbers(alloc, flows)?;
-    keeps_rules(rt, alloc, driver, NESTED, given.as_slice(), true)
+    keeps_rules(rt, alloc, driver, NESTED, given.as_slice())
 }
 
 /// Whether the first call of two flows was held until the other flow called.
@@ -171,5 +150,5 @@ pub fn calls_held<R: Threads + Wait + Sync>(
     let given = numbers(alloc, 2)?;
     let gate = Holding::new();
     drop(run_text(rt, alloc, driver, FREE, given.as_slice(), &gate)?);
-    Ok(gate.was_met())
+    Ok(gate.was_seen())
 }

@@ -24,18 +24,13 @@ pub const READING: &[u8] =
 pub const NESTED: &[u8] =
     b"Tick () => (int n);\nPass (int n) => (int n);\nAdd (int n) => (int n);\nBump (int n) => (int n);\ntypedef zero IsZero;\nsource Tick => Load;\nsession Tick => ByNumber;\nLoad:[zero] = Pass;\nLoad:[_] = Visit -> Add;\nVisit = Bump;\natomic Load:{aisle?};\natomic Visit:{zone?};\natomic Bump:{visits(session)};\natomic Add:{counter};\n";
 
-/// The numbers of so many flows, from 3 on: each is seven more than the one before, without its tens.
+/// The numbers of so many flows: each is seven more than the one before, without its tens.
 pub fn numbers(alloc: Global, flows: u32) -> Result<List<Given>, Trouble> {
-    numbers_from(alloc, 3, flows)
-}
-
-/// The same from another number on.
-pub fn numbers_from(alloc: Global, first: u8, flows: u32) -> Result<List<Given>, Trouble> {
     let mut all = List::new(alloc);
     for flow in 0..flows {
         all.add(Given {
             source: 0,
-            number: (i64::from(first) + 7 * i64::from(flow)) % 10,
+            number: (3 + 7 * flow as i64) % 10,
         })?;
     }
     Ok(all)

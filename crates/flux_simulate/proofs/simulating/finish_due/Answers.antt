@@ -22,7 +22,6 @@ loop-run-preserved g c = record {
       (stopped g.L.Meaning.meaning c.loop-run.core c.finish_call.new.core c.loop-run.clock c.in-Some.run'
       c.take_due.new.self c.loop-run.invariant.finishes c.in-Some.ensures.0 c.in-Some.ensures.1
       c.in_ok-finish_call.ensures.ends);
-  watched = c.in_ok-finish_call.ensures.watched;
   last = λ costs last. subst (λ (clock : Clock). AllLast costs clock) (sym c.in_ok-note_end.ensures.ok)
       (stopped-last g.L.Meaning.meaning c.loop-run.core c.finish_call.new.core c.loop-run.clock c.in-Some.run'
       c.take_due.new.self c.loop-run.invariant.finishes c.in-Some.ensures.0 c.in-Some.ensures.1

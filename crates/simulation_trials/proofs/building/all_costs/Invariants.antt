@@ -1,0 +1,8 @@
+use Rattle.std.proofs.Common.{◌≡◌, ◌≤◌, length}
+use Rattle.std.specs.List.{AllByRecursion}
+use Rattle.simulation_trials.proofs.building.all_costs.Given as goal
+
+-- so many costs
+abbrev pub invariant-loop-node : goal.invariant-loop-node
+invariant-loop-node l =
+    (length l.all ≡ l.node) × AllByRecursion (λ cost. (1 ≤ cost) × (cost ≤ 1000)) l.all
