@@ -122,9 +122,11 @@ load_locks = locks_of (program_of program_decls)
 
 module _ (docs : DocMap) where
   pub no_names_row : first_fault (rows (all_meaning docs) program_decls) ≡ None
+  unfolding all_meaning
   no_names_row = refl
 
   pub no_later_row : first_fault (later_rows (all_meaning docs) program_decls) ≡ None
+  unfolding all_meaning
   no_later_row = refl
 
   pub no_size_row : first_fault (size_rows load_locks program_decls) ≡ None

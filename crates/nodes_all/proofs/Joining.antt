@@ -11,7 +11,7 @@ use Rattle.nodes_web.specs.Webs.{web_meaning}
 use Rattle.nodes_cache.specs.Cachings.{caching_meaning}
 use Rattle.nodes_tracker.specs.Trackers.{tracker_meaning}
 use Rattle.nodes_all.specs.Joined.{joined, Has}
-use Rattle.nodes_all.specs.Alls.{HasCounter, HasWeb, HasCaching, HasTracker}
+use Rattle.nodes_all.specs.Alls.{all_meaning, HasCounter, HasWeb, HasCaching, HasTracker}
 
 -- ---- joined libraries
 
@@ -322,18 +322,22 @@ abbrev behind_web : DocMap → LibraryMeaning
 behind_web docs = joined (caching_meaning docs) tracker_meaning
 
 pub has_counter : HasCounter
+unfolding all_meaning
 has_counter docs = has_first counter_meaning (behind_counter docs)
 
 pub has_web : HasWeb
+unfolding all_meaning
 has_web docs = has_behind counter_meaning (behind_counter docs) (web_meaning docs)
     (has_first (web_meaning docs) (behind_web docs)) (counter_web docs)
 
 pub has_caching : HasCaching
+unfolding all_meaning
 has_caching docs = has_behind counter_meaning (behind_counter docs) (caching_meaning docs)
     (has_behind (web_meaning docs) (behind_web docs) (caching_meaning docs)
     (has_first (caching_meaning docs) tracker_meaning) (web_caching docs)) (counter_caching docs)
 
 pub has_tracker : HasTracker
+unfolding all_meaning
 has_tracker docs = has_behind counter_meaning (behind_counter docs) tracker_meaning
     (has_behind (web_meaning docs) (behind_web docs) tracker_meaning
     (has_behind (caching_meaning docs) tracker_meaning tracker_meaning (has_itself tracker_meaning)

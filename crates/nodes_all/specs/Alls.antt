@@ -8,7 +8,7 @@ use Rattle.nodes_tracker.specs.Trackers.{tracker_meaning}
 use Rattle.nodes_all.specs.Joined.{joined, Has}
 
 -- the libraries `Counter`, `Web`, `Caching` and `Tracker` as one
-abbrev pub all_meaning : DocMap → LibraryMeaning
+unfoldable pub all_meaning : DocMap → LibraryMeaning
 all_meaning docs = joined counter_meaning
     (joined (web_meaning docs) (joined (caching_meaning docs) tracker_meaning))
 

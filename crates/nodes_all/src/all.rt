@@ -1,4 +1,5 @@
 //! The library itself.
+#![tactic(auto, unfolding(crate::specs::Alls::all_meaning))]
 
 use flux_library::answers::good;
 use flux_library::sessions::first_as_u64;

@@ -41,6 +41,7 @@ joined_lawful first second one other = record {
 }
 
 pub all_lawful : (docs : DocMap) → IsLawful (all_meaning docs)
+unfolding all_meaning
 all_lawful docs =
     let last = joined (caching_meaning docs) tracker_meaning in
     joined_lawful counter_meaning (joined (web_meaning docs) last) (counter_lawful docs)
