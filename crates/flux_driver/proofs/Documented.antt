@@ -5,7 +5,7 @@ use Rattle.std.proofs.lemmas.List.{append-nil}
 use Rattle.flux_library.specs.Documents.{DocMap}
 use Rattle.flux_library.specs.laws.Documents.{same_docs}
 use Rattle.flux_docs.proofs.Once.{one_docs, not_lost}
-use Rattle.flux_words.specs.Commands.{Command, check, plan, format, run, audit, load, serve, help, simulate}
+use Rattle.flux_words.specs.Commands.{Command, check, plan, format, run, audit, load, serve, help, simulate, swarm}
 use Rattle.flux_driver.specs.declared.prepared.Prepared.{Prepared}
 use Rattle.flux_driver.specs.declared.prepared.Prepared.TheVariants.{Text, No}
 use Rattle.flux_driver.specs.declared.refusals.Refusal.{Refusal}
@@ -97,6 +97,7 @@ module _ (library : Libraries) (command : Command) (told : Told) where
   reads_program (serve file serving) unread = (file, refl)
   reads_program help unread = absurd unread
   reads_program (simulate file items simulating) unread = (file, refl)
+  reads_program (swarm file items journal hash docs) unread = (file, refl)
 
   none_unread : (dir : Option (List ℕ)) (refusal : Refusal) → (IsStopped dir (status_of refusal) → ⊥) → AreUnread told.folders dir refusal → ⊥
   none_unread dir refusal never unread = never (unread_stops told.folders dir refusal unread)

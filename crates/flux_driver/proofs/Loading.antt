@@ -42,7 +42,7 @@ use Rattle.flux_audit.specs.Verdicts.{HasVerdict}
 use Rattle.flux_load.specs.Loads.{program_text, items_text}
 use Rattle.flux_words.specs.declared.values.Runtime.{Runtime}
 use Rattle.flux_words.specs.Behind.{Manner, Simulating}
-use Rattle.flux_words.specs.Commands.{Command, check, plan, format, run, audit, load, simulate}
+use Rattle.flux_words.specs.Commands.{Command, check, plan, format, run, audit, load, simulate, swarm}
 use Rattle.flux_driver.specs.declared.files.TheConstants.{PROGRAM_FILE_LIMIT, ITEMS_FILE_LIMIT, JOURNAL_FILE_LIMIT}
 use Rattle.flux_driver.specs.declared.loaded.Loaded.{Loaded}
 use Rattle.flux_driver.specs.declared.prepared.Prepared.{Prepared}
@@ -61,13 +61,14 @@ use Rattle.flux_runs.specs.Simulations.{IsSimulationText}
 use Rattle.flux_driver.specs.TrueRuns.{IsRunText}
 use Rattle.flux_driver.specs.Simulated.{IsSimulated}
 use Rattle.flux_driver.specs.Audited.{IsAudited}
+use Rattle.flux_driver.specs.Swarmed.{IsSwarmOf, IsSwarmed}
 use Rattle.flux_driver.specs.Printed.{IsPrinted}
 use Rattle.flux_driver.specs.Causes.{item_fault_line, IsStaticOf, IsItemsText, IsItems, AreItemsLost}
 use Rattle.flux_driver.specs.steps.Running.{HasSources, IsRun, AreRefused}
 use Rattle.flux_driver.specs.steps.Refusals.{status_of, IsUnread, CountsRefusal, SaysOrMemory, IsFaultLine, IsTextRefused, IsCheckRefused, IsRefused}
 use Rattle.flux_driver.specs.steps.Preparing.{AsksFiles, IsPrepared, AreRead, StandsOnItems}
 use Rattle.flux_driver.specs.steps.Loading.{IsLoaded, AreItemsMissed, ReadsWell, IsUnloaded, AsksTwo}
-use Rattle.flux_driver.specs.steps.Auditing.{IsVerdictText}
+use Rattle.flux_driver.specs.steps.Auditing.{IsVerdictText, IsPreparedSwarm}
 use Rattle.flux_driver.proofs.Named.{sources_apart}
 use Rattle.flux_driver.proofs.RuleLists.{rules_are}
 use Rattle.flux_driver.proofs.Runs.{can_run, are_small}
@@ -196,6 +197,10 @@ module _ (meaning : LibraryMeaning) (told : Files) where
   audit_unloaded file items journal docs refusal u = unloaded (audit file items journal docs) (named file) (named items) refl (λ text fault is. is) (λ line is. is)
       (λ name missed. let is = named_missed file items name missed in record { is = is; lost = subst (λ (n : List ℕ). IsLost told n ITEMS_FILE_LIMIT) is missed.lost; decls = missed.decls; program_ = missed.program_ }) refusal u
 
+  pub swarm_unloaded : (file items journal hash : List ℕ) (docs : Option (List ℕ)) (refusal : Refusal) → IsUnloaded meaning told (named file) (named items) refusal → IsRefused meaning (swarm file items journal hash docs) told refusal
+  swarm_unloaded file items journal hash docs refusal u = unloaded (swarm file items journal hash docs) (named file) (named items) refl (λ text fault is. is) (λ line is. is)
+      (λ name missed. let is = named_missed file items name missed in record { is = is; lost = subst (λ (n : List ℕ). IsLost told n ITEMS_FILE_LIMIT) is missed.lost; decls = missed.decls; program_ = missed.program_ }) refusal u
+
   pub simulate_unloaded : (file items : List ℕ) (simulating : Simulating) (refusal : Refusal) → IsUnloaded meaning told (named file) (named items) refusal → IsRefused meaning (simulate file items simulating) told refusal
   simulate_unloaded file items simulating refusal u = unloaded (simulate file items simulating) (named file) (named items) refl (λ text fault is. is) (λ line is. is)
       (λ name missed. let is = named_missed file items name missed in record { is = is; lost = subst (λ (n : List ℕ). IsLost told n ITEMS_FILE_LIMIT) is missed.lost; decls = missed.decls; program_ = missed.program_ }) refusal u
@@ -258,6 +263,14 @@ audit_asks_all meaning told file items journal docs before mid after both behind
   more = behind ∙ ap (λ (l : List (List ℕ)). l ++ journal ∷ []) both ∙ append_assoc before (file ∷ items ∷ []) (journal ∷ []);
   are = inr (refl, given);
 }
+
+pub swarm_asks : (meaning : LibraryMeaning) (told : Files) (file items journal hash : List ℕ) (docs : Option (List ℕ)) (before after : List (List ℕ)) → AsksTwo meaning told file items before after → AsksFiles meaning (swarm file items journal hash docs) told before after
+swarm_asks meaning told file items journal hash docs before after asks = record { names = asks.names; more = asks.more; are = inl asks.are }
+
+pub swarm_asks_all : (meaning : LibraryMeaning) (told : Files) (file items journal hash : List ℕ) (docs : Option (List ℕ)) (before mid after : List (List ℕ)) → mid ≡ before ++ file ∷ items ∷ [] → after ≡ mid ++ journal ∷ [] → GivesItems meaning told (named file) (named items) → AsksFiles meaning (swarm file items journal hash docs) told before after
+swarm_asks_all meaning told file items journal hash docs before mid after both behind given =
+    let asks = audit_asks_all meaning told file items journal docs before mid after both behind given in
+    record { names = asks.names; more = asks.more; are = asks.are }
 
 -- ---- the sources' names
 
@@ -435,11 +448,27 @@ module _ (meaning : LibraryMeaning) (told : Files) (program items : Origin) (own
         (own_setup meaning l.text checked_.program checked_.sigs.nodes checked_.order.nodes checked_.sets.nodes checked_.sizes l.checked own.items) has;
   }
 
+  -- the swarm of a hash after a journal of them
+  pub loaded_swarm : (journal hash its text : List ℕ) → Gives told journal JOURNAL_FILE_LIMIT (Found its) → IsSwarmOf (setup_of checked_.program (locks_of checked_.program) own.items meaning) its hash text → IsSwarmed meaning told program items journal hash text
+  unfolding loaded_given given_items
+  loaded_swarm journal hash its text gives is = record {
+    given = loaded_given;
+    journal_text = its;
+    gives = gives;
+    is = subst (λ (s : Setup). IsSwarmOf s its hash text)
+        (own_setup meaning l.text checked_.program checked_.sigs.nodes checked_.order.nodes checked_.sets.nodes checked_.sizes l.checked own.items) is;
+  }
+
 module _ (meaning : LibraryMeaning) (told : Files) (file items : List ℕ) (own : Loaded) (l : IsLoaded meaning told (named file) (named items) own) where
   pub loaded_audit : (journal text : List ℕ) (docs : Option (List ℕ)) → Gives told journal JOURNAL_FILE_LIMIT (Found text)
       → (prepared : Prepared) → (let from = own.checked in IsVerdictText (setup_of from.program (locks_of from.program) own.items meaning) text prepared) → IsPrepared meaning (audit file items journal docs) told prepared
   loaded_audit journal text docs gives (prepared_.Text line) (events, has, is) = (events, loaded_verdict meaning told (named file) (named items) own l journal text gives (verdicts.Yes events) has, is)
   loaded_audit journal text docs gives (prepared_.No line) (at, rule, has, is) = (at, rule, loaded_verdict meaning told (named file) (named items) own l journal text gives (verdicts.No at rule) has, is)
+
+  pub loaded_swarmed : (journal hash its : List ℕ) (docs : Option (List ℕ)) → Gives told journal JOURNAL_FILE_LIMIT (Found its)
+      → (prepared : Prepared) → (let from = own.checked in IsPreparedSwarm (setup_of from.program (locks_of from.program) own.items meaning) its hash prepared) → IsPrepared meaning (swarm file items journal hash docs) told prepared
+  loaded_swarmed journal hash its docs gives (prepared_.Text text) is = loaded_swarm meaning told (named file) (named items) own l journal hash its text gives is
+  loaded_swarmed journal hash its docs gives (prepared_.No line) (at, rule, has, is) = (at, rule, loaded_verdict meaning told (named file) (named items) own l journal its gives (verdicts.No at rule) has, is)
 
   -- the journal's file wasn't read
   pub journal_unread : (journal : List ℕ) (docs : Option (List ℕ)) (refusal : Refusal) → IsUnread told journal JOURNAL_FILE_LIMIT refusal → IsRefused meaning (audit file items journal docs) told refusal
@@ -454,3 +483,16 @@ module _ (meaning : LibraryMeaning) (told : Files) (file items : List ℕ) (own 
   journal_unread journal docs refusals.NotServed u = absurd u
   journal_unread journal docs (refusals.Static line) u = absurd u
   journal_unread journal docs (refusals.Items fault) u = absurd u
+
+  pub swarm_unread : (journal hash : List ℕ) (docs : Option (List ℕ)) (refusal : Refusal) → IsUnread told journal JOURNAL_FILE_LIMIT refusal → IsRefused meaning (swarm file items journal hash docs) told refusal
+  swarm_unread journal hash docs (refusals.Missing lost) (same, gone) = inl (record {
+    name = lost.now;
+    lost = inr (inr (record { is = same; lost = gone; given = loaded_given meaning told (named file) (named items) own l }));
+    said = refl;
+  })
+  swarm_unread journal hash docs refusals.Read u = inr (inl (record { file = file; reads = refl; is = refl }))
+  swarm_unread journal hash docs refusals.Memory u = inr (inr refl)
+  swarm_unread journal hash docs refusals.Usage u = absurd u
+  swarm_unread journal hash docs refusals.NotServed u = absurd u
+  swarm_unread journal hash docs (refusals.Static line) u = absurd u
+  swarm_unread journal hash docs (refusals.Items fault) u = absurd u

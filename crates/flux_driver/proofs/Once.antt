@@ -1,5 +1,5 @@
 -- With their documents, a command and what it reads decide one status.
-use Rattle.std.proofs.Common.{◌≡◌, ℕ, inl, inr, ◌⊎◌, List, Some, None, IsSome, Ok, refl, sym, subst, ◌∙◌}
+use Rattle.std.proofs.Common.{◌≡◌, ℕ, inl, inr, ◌⊎◌, List, length, Some, None, IsSome, Ok, refl, sym, subst, ◌∙◌}
 use Rattle.flux_values.specs.Meanings.{LibraryMeaning}
 use Rattle.flux_outside.specs.declared.stores.File.{File}
 use Rattle.flux_outside.specs.declared.stores.File.TheVariants.{Found, Missing, Longer}
@@ -20,12 +20,13 @@ use Rattle.flux_values.specs.Answers.{IsOrMemory}
 use Rattle.flux_items.specs.declared.rules.ItemFault.TheVariants as item_faults
 use Rattle.flux_items.specs.Faults.{IsFaultOf}
 use Rattle.flux_items.proofs.OneAnswer.{no_items_and_fault, answers_items}
+use Rattle.flow_model.specs.declared.journals.Journal.{Journal}
 use Rattle.flow_model.specs.Setup.{Setup}
 use Rattle.flux_audit.specs.declared.verdicts.Verdict.{Verdict}
 use Rattle.flux_audit.specs.declared.verdicts.Verdict.TheVariants as verdicts
 use Rattle.flux_audit.specs.Verdicts.{HasVerdict}
 use Rattle.flux_audit.proofs.Judging.{one_verdict}
-use Rattle.flux_words.specs.Commands.{Command, check, plan, format, run, audit, load, serve, help, simulate}
+use Rattle.flux_words.specs.Commands.{Command, check, plan, format, run, audit, load, serve, help, simulate, swarm}
 use Rattle.flux_driver.specs.declared.files.TheConstants.{PROGRAM_FILE_LIMIT, ITEMS_FILE_LIMIT, JOURNAL_FILE_LIMIT}
 use Rattle.flux_driver.specs.declared.statuses.Status.{Status}
 use Rattle.flux_driver.specs.declared.statuses.Status.TheVariants as statuses
@@ -35,6 +36,7 @@ use Rattle.flux_driver.specs.Commands.{ReadsProgram, TellsFiles}
 use Rattle.flux_driver.specs.Inputs.{HasDecls, HasProgram, HasItems, GivesItems, HasServable, HasUnservable}
 use Rattle.flux_driver.specs.Items.{rules_of, rules_in, kinds_in}
 use Rattle.flux_driver.specs.Audited.{setup_given, IsAudited}
+use Rattle.flux_driver.specs.Swarmed.{IsSwarmed}
 use Rattle.flux_runs.specs.Setups.{setup_of}
 use Rattle.flux_driver.specs.Printed.{IsPrinted, IsRefuted}
 use Rattle.flux_driver.specs.Causes.{IsStaticOf, IsStatic, IsItemsText, IsItems, AreItemsLost, IsJournalLost, IsMissing, IsUnserved}
@@ -157,6 +159,7 @@ module _ (meaning : LibraryMeaning) (told : Files) where
   tells_program (serve file serving) program tells reads = subst (TellsText told) (sym reads) tells
   tells_program help program tells reads = absurd reads
   tells_program (simulate file items simulating) program tells reads = subst (TellsText told) (sym reads) tells
+  tells_program (swarm file items journal hash docs) program tells reads = subst (TellsText told) (sym reads) tells
 
   -- both are the program's
   same_program : (command : Command) (a b : Origin) → ReadsProgram command a → ReadsProgram command b → a ≡ b
@@ -169,6 +172,7 @@ module _ (meaning : LibraryMeaning) (told : Files) where
   same_program (serve file serving) a b x y = x ∙ sym y
   same_program help a b x y = absurd x
   same_program (simulate file items simulating) a b x y = x ∙ sym y
+  same_program (swarm file items journal hash docs) a b x y = x ∙ sym y
 
   -- a file is read, so that files are told
   some_read : (command : Command) (name : List ℕ) → TellsFiles told command → ReadsProgram command (named name) → IsSome told
@@ -181,6 +185,7 @@ module _ (meaning : LibraryMeaning) (told : Files) where
   some_read (serve file serving) name tells reads = tells
   some_read help name tells reads = absurd reads
   some_read (simulate file items simulating) name tells reads = tells
+  some_read (swarm file items journal hash docs) name tells reads = tells
 
   -- ---- what lies behind a sound program
   pub record IsSoundOf (command : Command) : Type 0 where
@@ -220,9 +225,11 @@ module _ (meaning : LibraryMeaning) (told : Files) where
   printed_sound (serve file serving) text p = let ready = p.1 in inr (sound_of (serve file serving) (named file) refl ready.decls ready.has (λ t f s. s))
   printed_sound help text p = inl refl
   printed_sound (simulate file items simulating) text p = let g = p.given in let h = g.has in inr (sound_of (simulate file items simulating) (named file) refl h.decls h.program_ (λ t f s. s))
+  printed_sound (swarm file items journal hash docs) text p = let g = p.given in let h = g.has in inr (sound_of (swarm file items journal hash docs) (named file) refl h.decls h.program_ (λ t f s. s))
 
   refuted_sound : (command : Command) (text : List ℕ) → IsRefuted meaning command told text → IsSoundOf command
   refuted_sound (audit file items journal docs) text (line, rule, a, is) = let g = a.given in let h = g.has in sound_of (audit file items journal docs) (named file) refl h.decls h.program_ (λ t f s. s)
+  refuted_sound (swarm file items journal hash docs) text (line, rule, a, is) = let g = a.given in let h = g.has in sound_of (swarm file items journal hash docs) (named file) refl h.decls h.program_ (λ t f s. s)
   refuted_sound other text r = absurd r
 
   items_sound : (command : Command) (line : List ℕ) → IsItems meaning command told line → IsSoundOf command
@@ -230,6 +237,7 @@ module _ (meaning : LibraryMeaning) (told : Files) where
   items_sound (audit file items journal docs) line i = let h = i.has in sound_of (audit file items journal docs) (named file) refl h.decls h.program_ (λ t f s. s)
   items_sound (load count first runtime) line i = let h = i.has in sound_of (load count first runtime) _ refl h.decls h.program_ (λ t f s. s)
   items_sound (simulate file items simulating) line i = let h = i.has in sound_of (simulate file items simulating) (named file) refl h.decls h.program_ (λ t f s. s)
+  items_sound (swarm file items journal hash docs) line i = let h = i.has in sound_of (swarm file items journal hash docs) (named file) refl h.decls h.program_ (λ t f s. s)
   items_sound other line i = absurd i
 
   missed_sound : (command : Command) (name : List ℕ) → AreItemsLost meaning command told name ⊎ IsJournalLost meaning command told name → IsSoundOf command
@@ -237,6 +245,8 @@ module _ (meaning : LibraryMeaning) (told : Files) where
   missed_sound (audit file items journal docs) name (inl l) = sound_of (audit file items journal docs) (named file) refl l.decls l.program_ (λ t f s. s)
   missed_sound (audit file items journal docs) name (inr l) = let g = l.given in let h = g.has in sound_of (audit file items journal docs) (named file) refl h.decls h.program_ (λ t f s. s)
   missed_sound (simulate file items simulating) name (inl l) = sound_of (simulate file items simulating) (named file) refl l.decls l.program_ (λ t f s. s)
+  missed_sound (swarm file items journal hash docs) name (inl l) = sound_of (swarm file items journal hash docs) (named file) refl l.decls l.program_ (λ t f s. s)
+  missed_sound (swarm file items journal hash docs) name (inr l) = let g = l.given in let h = g.has in sound_of (swarm file items journal hash docs) (named file) refl h.decls h.program_ (λ t f s. s)
   missed_sound other name (inl l) = absurd l
   missed_sound other name (inr l) = absurd l
 
@@ -285,12 +295,16 @@ module _ (meaning : LibraryMeaning) (told : Files) where
   printed_late (audit file items journal docs) text name tells p (inl l) = let a = p.1 in let g = a.given in let h = g.has in not_lost told items ITEMS_FILE_LIMIT h.text tells h.gives l.lost
   printed_late (audit file items journal docs) text name tells p (inr l) = let a = p.1 in not_lost told journal JOURNAL_FILE_LIMIT a.text tells a.gives l.lost
   printed_late (simulate file items simulating) text name tells p (inl l) = let g = p.given in let h = g.has in not_lost told items ITEMS_FILE_LIMIT h.text tells h.gives l.lost
+  printed_late (swarm file items journal hash docs) text name tells p (inl l) = let g = p.given in let h = g.has in not_lost told items ITEMS_FILE_LIMIT h.text tells h.gives l.lost
+  printed_late (swarm file items journal hash docs) text name tells p (inr l) = not_lost told journal JOURNAL_FILE_LIMIT p.journal_text tells p.gives l.lost
   printed_late other text name tells p (inl l) = absurd l
   printed_late other text name tells p (inr l) = absurd l
 
   refuted_late : (command : Command) (text : List ℕ) (name : List ℕ) → TellsFiles told command → IsRefuted meaning command told text → AreItemsLost meaning command told name ⊎ IsJournalLost meaning command told name → ⊥
   refuted_late (audit file items journal docs) text name tells r (inl l) = let a = r.2 in let g = a.given in let h = g.has in not_lost told items ITEMS_FILE_LIMIT h.text tells h.gives l.lost
   refuted_late (audit file items journal docs) text name tells r (inr l) = let a = r.2 in not_lost told journal JOURNAL_FILE_LIMIT a.text tells a.gives l.lost
+  refuted_late (swarm file items journal hash docs) text name tells r (inl l) = let a = r.2 in let g = a.given in let h = g.has in not_lost told items ITEMS_FILE_LIMIT h.text tells h.gives l.lost
+  refuted_late (swarm file items journal hash docs) text name tells r (inr l) = let a = r.2 in not_lost told journal JOURNAL_FILE_LIMIT a.text tells a.gives l.lost
   refuted_late other text name tells r late = absurd r
 
   items_late : (command : Command) (line : List ℕ) (name : List ℕ) → TellsFiles told command → ReadsItems meaning command told → IsItems meaning command told line → AreItemsLost meaning command told name ⊎ IsJournalLost meaning command told name → ⊥
@@ -298,6 +312,8 @@ module _ (meaning : LibraryMeaning) (told : Files) where
   items_late (audit file items journal docs) line name tells read i (inl l) = let h = i.has in not_lost told items ITEMS_FILE_LIMIT h.text tells h.gives l.lost
   items_late (audit file items journal docs) line name tells read i (inr l) = no_fault meaning told (named file) tells (named items) tells read line l.given i
   items_late (simulate file items simulating) line name tells read i (inl l) = let h = i.has in not_lost told items ITEMS_FILE_LIMIT h.text tells h.gives l.lost
+  items_late (swarm file items journal hash docs) line name tells read i (inl l) = let h = i.has in not_lost told items ITEMS_FILE_LIMIT h.text tells h.gives l.lost
+  items_late (swarm file items journal hash docs) line name tells read i (inr l) = no_fault meaning told (named file) tells (named items) tells read line l.given i
   items_late other line name tells read i (inl l) = absurd l
   items_late other line name tells read i (inr l) = absurd l
 
@@ -306,15 +322,25 @@ module _ (meaning : LibraryMeaning) (told : Files) where
   printed_items (audit file items journal docs) text line tells read p i = let a = p.1 in no_fault meaning told (named file) tells (named items) tells read line a.given i
   printed_items (load count first runtime) text line tells read p i = no_fault meaning told _ tt _ tt read line p.given i
   printed_items (simulate file items simulating) text line tells read p i = no_fault meaning told (named file) tells (named items) tells read line p.given i
+  printed_items (swarm file items journal hash docs) text line tells read p i = no_fault meaning told (named file) tells (named items) tells read line p.given i
   printed_items other text line tells read p i = absurd i
 
   refuted_items : (command : Command) (text line : List ℕ) → TellsFiles told command → ReadsItems meaning command told → IsRefuted meaning command told text → IsItems meaning command told line → ⊥
   refuted_items (audit file items journal docs) text line tells read r i = let a = r.2 in no_fault meaning told (named file) tells (named items) tells read line a.given i
+  refuted_items (swarm file items journal hash docs) text line tells read r i = let a = r.2 in no_fault meaning told (named file) tells (named items) tells read line a.given i
   refuted_items other text line tells read r i = absurd r
+
+  -- a swarm is printed after a journal that is right
+  swarm_right : (program items : Origin) (journal hash text : List ℕ) → IsSwarmed meaning told program items journal hash text → (events : ℕ) × IsAudited meaning told program items journal (verdicts.Yes events)
+  swarm_right program items journal hash text p = let s = p.is in let own : Journal = s.journal in
+      (length own.entries, record { given = p.given; text = p.journal_text; gives = p.gives; has_verdict = (own, s.is_true, refl) })
 
   printed_refuted : (command : Command) (text other : List ℕ) → TellsFiles told command → ReadsItems meaning command told → IsPrinted meaning command told text → IsRefuted meaning command told other → ⊥
   printed_refuted (audit file items journal docs) text other tells read p r =
       let e = one_verdict_here meaning told (named file) tells (named items) tells read journal (verdicts.Yes p.0) (verdicts.No r.0 r.1) tells p.1 r.2 in absurd cc
+  printed_refuted (swarm file items journal hash docs) text other tells read p r =
+      let a = swarm_right (named file) (named items) journal hash text p in
+      let e = one_verdict_here meaning told (named file) tells (named items) tells read journal (verdicts.Yes a.0) (verdicts.No r.0 r.1) tells a.1 r.2 in absurd cc
   printed_refuted own text other tells read p r = absurd r
 
 -- ---- programs that can't be served

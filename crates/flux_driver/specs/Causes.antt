@@ -11,7 +11,7 @@ use Rattle.flux_items.specs.declared.rules.ItemFault.{ItemFault}
 use Rattle.flux_items.specs.declared.rules.ItemFault.TheVariants as items_
 use Rattle.flux_items.specs.Faults.{line_of, IsFaultOf}
 use Rattle.flux_load.specs.Loads.{program_text, items_text}
-use Rattle.flux_words.specs.Commands.{Command, check, plan, format, run, audit, load, serve, help, simulate}
+use Rattle.flux_words.specs.Commands.{Command, check, plan, format, run, audit, load, serve, help, simulate, swarm}
 use Rattle.flux_driver.specs.declared.files.TheConstants.{PROGRAM_FILE_LIMIT, ITEMS_FILE_LIMIT, JOURNAL_FILE_LIMIT}
 use Rattle.flux_driver.specs.Worlds.{Files, IsLost}
 use Rattle.flux_driver.specs.Origins.{Origin, named, made, GivesText}
@@ -67,6 +67,7 @@ IsStaticOf meaning (load count first runtime) text fault = IsTextFault meaning t
 IsStaticOf meaning (serve file serving) text fault = IsTextFault meaning text fault
 IsStaticOf meaning help text fault = ⊥
 IsStaticOf meaning (simulate file items simulating) text fault = IsTextFault meaning text fault
+IsStaticOf meaning (swarm file items journal hash docs) text fault = IsTextFault meaning text fault
 
 pub record IsStatic (meaning : LibraryMeaning) (command : Command) (told : Files) (line : List ℕ)
     : Type 0 where
@@ -101,6 +102,8 @@ IsItems meaning (serve file serving) told line = ⊥
 IsItems meaning help told line = ⊥
 IsItems meaning (simulate file items simulating) told line =
     IsItemsText meaning told (named file) (named items) line
+IsItems meaning (swarm file items journal hash docs) told line =
+    IsItemsText meaning told (named file) (named items) line
 
 -- ---- a file isn't there, or is past its limit
 
@@ -119,6 +122,8 @@ AreItemsLost meaning (audit file items journal docs) told name =
     IsItemsFileLost meaning told file items name
 AreItemsLost meaning (simulate file items simulating) told name =
     IsItemsFileLost meaning told file items name
+AreItemsLost meaning (swarm file items journal hash docs) told name =
+    IsItemsFileLost meaning told file items name
 AreItemsLost meaning other told name = ⊥
 
 -- the journal's file, behind the items
@@ -130,6 +135,8 @@ pub record IsJournalFileLost (meaning : LibraryMeaning) (told : Files)
 
 abbrev pub IsJournalLost : LibraryMeaning → Command → Files → List ℕ → Type 0
 IsJournalLost meaning (audit file items journal docs) told name =
+    IsJournalFileLost meaning told file items journal name
+IsJournalLost meaning (swarm file items journal hash docs) told name =
     IsJournalFileLost meaning told file items journal name
 IsJournalLost meaning other told name = ⊥
 
@@ -153,3 +160,4 @@ IsUnserved meaning (load count first runtime) told line = ⊥
 IsUnserved meaning (serve file serving) told line = HasUnservable meaning told (named file) × (line ≡ not_served_line)
 IsUnserved meaning help told line = ⊥
 IsUnserved meaning (simulate file items simulating) told line = ⊥
+IsUnserved meaning (swarm file items journal hash docs) told line = ⊥

@@ -1,7 +1,7 @@
 -- What a command reads.
 use Rattle.std.specs.Prelude.{◌≡◌, ℕ, List, Option, None, IsSome, ⊤}
 use Rattle.flux_load.specs.Loads.{program_text}
-use Rattle.flux_words.specs.Commands.{Command, check, plan, format, run, audit, load, serve, help, simulate}
+use Rattle.flux_words.specs.Commands.{Command, check, plan, format, run, audit, load, serve, help, simulate, swarm}
 use Rattle.flux_driver.specs.Worlds.{Files}
 use Rattle.flux_driver.specs.Origins.{Origin, named, made}
 
@@ -16,6 +16,7 @@ ReadsProgram (load count first runtime) from = from ≡ made program_text
 ReadsProgram (serve file serving) from = from ≡ named file
 ReadsProgram help from = ⊥
 ReadsProgram (simulate file items simulating) from = from ≡ named file
+ReadsProgram (swarm file items journal hash docs) from = from ≡ named file
 
 -- the folder of documents, where one is named
 abbrev pub folder_of : Command → Option (List ℕ)
@@ -28,6 +29,7 @@ folder_of (load count first runtime) = None
 folder_of (serve file serving) = serving.docs
 folder_of help = None
 folder_of (simulate file items simulating) = simulating.docs
+folder_of (swarm file items journal hash docs) = docs
 
 -- what files hold is told, where the command reads any
 abbrev pub TellsFiles : Files → Command → Type 0
@@ -40,3 +42,4 @@ TellsFiles told (load count first runtime) = ⊤
 TellsFiles told (serve file serving) = IsSome told
 TellsFiles told help = ⊤
 TellsFiles told (simulate file items simulating) = IsSome told
+TellsFiles told (swarm file items journal hash docs) = IsSome told

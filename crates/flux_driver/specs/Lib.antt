@@ -9,16 +9,10 @@ pub mod Items
 pub mod TrueRuns
 pub mod Audited
 pub mod Simulated
+pub mod Swarmed
 pub mod Printed
 pub mod Causes
 pub mod Answers
 pub mod Serving
 pub mod Top
 pub mod BuiltIn
-pub mod Headline
-pub mod Audits
-pub mod Loads
-pub mod Simulations
-pub mod Prints
-pub mod ServedHeadline
-pub mod Explained

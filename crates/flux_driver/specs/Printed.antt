@@ -12,7 +12,7 @@ use Rattle.flux_load.specs.Loads.{program_text, items_text}
 use Rattle.flux_audit.specs.declared.verdicts.Rule.{Rule}
 use Rattle.flux_audit.specs.declared.verdicts.Verdict.TheVariants.{Yes, No}
 use Rattle.flux_audit.specs.Printed.{printed_verdict}
-use Rattle.flux_words.specs.Commands.{Command, check, plan, format, run, audit, load, serve, help, simulate}
+use Rattle.flux_words.specs.Commands.{Command, check, plan, format, run, audit, load, serve, help, simulate, swarm}
 use Rattle.flux_runs.specs.declared.printing.Printing.TheVariants.{Journal, Summary}
 use Rattle.flux_driver.specs.Worlds.{Files}
 use Rattle.flux_driver.specs.Origins.{Origin, named, made}
@@ -20,10 +20,11 @@ use Rattle.flux_driver.specs.Inputs.{HasDecls, HasProgram, HasServable}
 use Rattle.flux_driver.specs.TrueRuns.{IsRunText}
 use Rattle.flux_driver.specs.Audited.{IsAudited}
 use Rattle.flux_driver.specs.Simulated.{IsSimulated}
+use Rattle.flux_driver.specs.Swarmed.{IsSwarmed}
 
 -- a line for each command that is built
 abbrev pub help_text : List ℕ
-help_text = codes "flux check FILE\nflux plan FILE\nflux format FILE\nflux run FILE ITEMS [--runtime R] [--docs DIR] [--journal J]\nflux audit FILE ITEMS JOURNAL [--docs DIR]\nflux load N K [--runtime R]\nflux serve FILE --port P [--docs DIR] [--batches B] [--runtime R]\nflux help or --help\nflux simulate FILE ITEMS --processors N [--costs LIST] [--docs DIR]\n"
+help_text = codes "flux check FILE\nflux plan FILE\nflux format FILE\nflux run FILE ITEMS [--runtime R] [--docs DIR] [--journal J]\nflux audit FILE ITEMS JOURNAL [--docs DIR]\nflux load N K [--runtime R]\nflux serve FILE --port P [--docs DIR] [--batches B] [--runtime R]\nflux help or --help\nflux simulate FILE ITEMS --processors N [--costs LIST] [--docs DIR]\nflux swarm FILE ITEMS JOURNAL HASH [--docs DIR]\n"
 
 -- the report on the locks of a sound program
 pub record IsReportText (meaning : LibraryMeaning) (told : Files) (program : Origin) (text : List ℕ)
@@ -43,8 +44,8 @@ pub record IsPlanText (meaning : LibraryMeaning) (told : Files) (program : Origi
 
 -- `check` prints the report, `plan` the plan, `format` the formatted text of the declarations, `run` a journal, `audit`
 -- that a journal is right, with the number of its events, `load` the summary of a run of its own two texts, `help` the
--- help text, and `simulate` the three lines of a run on simulated processors; `serve` prints nothing before it serves,
--- and then its log
+-- help text, `simulate` the three lines of a run on simulated processors, and `swarm` the peers of a hash after a journal
+-- that is right; `serve` prints nothing before it serves, and then its log
 abbrev pub IsPrinted : LibraryMeaning → Command → Files → List ℕ → Type 0
 IsPrinted meaning (check file) told text = IsReportText meaning told (named file) text
 IsPrinted meaning (plan file) told text = IsPlanText meaning told (named file) text
@@ -61,10 +62,19 @@ IsPrinted meaning (serve file serving) told text = (text ≡ []) × HasServable 
 IsPrinted meaning help told text = text ≡ help_text
 IsPrinted meaning (simulate file items simulating) told text =
     IsSimulated meaning told (named file) (named items) simulating text
+IsPrinted meaning (swarm file items journal hash docs) told text =
+    IsSwarmed meaning told (named file) (named items) journal hash text
 
--- `audit` prints that a journal isn't right: the first line that breaks a rule, and the rule
-abbrev pub IsRefuted : LibraryMeaning → Command → Files → List ℕ → Type 0
-IsRefuted meaning (audit file items journal docs) told text = (line : ℕ) × (rule : Rule)
-    × IsAudited meaning told (named file) (named items) journal (No line rule)
+-- a journal isn't right: the text tells the first line that breaks a rule, and the rule
+abbrev pub IsNoText : LibraryMeaning → Files → Origin → Origin → List ℕ → List ℕ → Type 0
+IsNoText meaning told program items journal text = (line : ℕ) × (rule : Rule)
+    × IsAudited meaning told program items journal (No line rule)
     × (text ≡ printed_verdict (No line rule))
+
+-- `audit` and `swarm` print that a journal isn't right
+abbrev pub IsRefuted : LibraryMeaning → Command → Files → List ℕ → Type 0
+IsRefuted meaning (audit file items journal docs) told text =
+    IsNoText meaning told (named file) (named items) journal text
+IsRefuted meaning (swarm file items journal hash docs) told text =
+    IsNoText meaning told (named file) (named items) journal text
 IsRefuted meaning other told text = ⊥

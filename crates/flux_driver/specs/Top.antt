@@ -3,7 +3,7 @@ use Rattle.std.specs.Prelude.{◌≡◌, ◌≢◌, ◌≤◌, ℕ, ◌⊎◌, L
 use Rattle.flux_values.specs.Meanings.{LibraryMeaning}
 use Rattle.flux_outside.specs.Causes.{Rose}
 use Rattle.flux_syntax.specs.declared.declarations.Decl.{Decl}
-use Rattle.flux_words.specs.Commands.{Command, check, plan, format, run, audit, load, serve, help, simulate, Spells, SpellsNone}
+use Rattle.flux_words.specs.Commands.{Command, check, plan, format, run, audit, load, serve, help, simulate, swarm, Spells, SpellsNone}
 use Rattle.flux_driver.specs.declared.statuses.Status.{Status}
 use Rattle.flux_driver.specs.declared.statuses.Status.TheVariants as statuses
 use Rattle.flux_outside.specs.Streams.{Wrote, Broke, WroteOrBroke}
@@ -24,19 +24,25 @@ AreTwoFiles meaning told file items names = (names ≡ file ∷ [])
     ⊎ ((names ≡ file ∷ items ∷ [])
     × (decls : List Decl) × HasProgram meaning told (named file) decls)
 
--- the names of files that a command asks for, in order: a journal is asked for only behind items
+-- these, or that of a journal too, behind items
+abbrev pub AreThreeFiles : LibraryMeaning → Files → List ℕ → List ℕ → List ℕ → List (List ℕ) → Type 0
+AreThreeFiles meaning told file items journal names = AreTwoFiles meaning told file items names
+    ⊎ ((names ≡ file ∷ items ∷ journal ∷ []) × GivesItems meaning told (named file) (named items))
+
+-- the names of files that a command asks for, in order
 abbrev pub AreFiles : LibraryMeaning → Command → Files → List (List ℕ) → Type 0
 AreFiles meaning (check file) told names = names ≡ file ∷ []
 AreFiles meaning (plan file) told names = names ≡ file ∷ []
 AreFiles meaning (format file) told names = names ≡ file ∷ []
 AreFiles meaning (run file items manner) told names = AreTwoFiles meaning told file items names
 AreFiles meaning (audit file items journal docs) told names =
-    AreTwoFiles meaning told file items names
-    ⊎ ((names ≡ file ∷ items ∷ journal ∷ []) × GivesItems meaning told (named file) (named items))
+    AreThreeFiles meaning told file items journal names
 AreFiles meaning (load count first runtime) told names = names ≡ []
 AreFiles meaning (serve file serving) told names = names ≡ file ∷ []
 AreFiles meaning help told names = names ≡ []
 AreFiles meaning (simulate file items simulating) told names = AreTwoFiles meaning told file items names
+AreFiles meaning (swarm file items journal hash docs) told names =
+    AreThreeFiles meaning told file items journal names
 
 -- the statuses that come where the documents weren't read; where no folder is named, memory was short
 abbrev pub IsStopped : Option (List ℕ) → Status → Type 0

@@ -31,6 +31,7 @@ fn dir_of<'a>(wanted: &Asked<'a>) -> Option<&'a [u8]>
         Asked::Audit { docs, .. } => *docs,
         Asked::Serve { docs, .. } => *docs,
         Asked::Simulate { docs, .. } => *docs,
+        Asked::Swarm { docs, .. } => *docs,
         _ => None,
     }
 }

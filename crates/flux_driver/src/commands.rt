@@ -2,7 +2,7 @@
 
 ghost use Rattle.std.specs.Prelude.{◌≡◌, ◌≤◌, IfOk, IfErr, ℕ, List, Option};
 ghost use Rattle.std.specs.Arc.{arc_value};
-ghost use Rattle.flux_words.specs.Commands.{IsServe, check, plan, format, audit, load};
+ghost use Rattle.flux_words.specs.Commands.{IsServe, check, plan, format, audit, load, swarm};
 ghost use Rattle.flux_words.specs.Asking.{asked};
 ghost use Rattle.flux_driver.specs.BuiltIn.{meaning_in};
 ghost use Rattle.flux_driver.specs.Worlds.{Files};
@@ -11,7 +11,7 @@ ghost use Rattle.flux_driver.specs.steps.Refusals.{Counts, IsRefused};
 ghost use Rattle.flux_driver.specs.steps.Running.{CanDrive};
 ghost use Rattle.flux_driver.specs.steps.Preparing.{run_of, simulate_of, AsksFiles, IsPrepared, prepared_status, IsFirm};
 
-use crate::audited::audit_text;
+use crate::audited::{audit_text, swarm_text};
 use crate::files::{JOURNAL_FILE_LIMIT, PROGRAM_FILE_LIMIT, load};
 use crate::loaded::{Loaded, load_files, load_texts};
 use crate::prepared::Prepared;
@@ -33,7 +33,7 @@ use std::sync::Arc;
 
 /// What `help` prints: a line for each command that is built.
 const HELP: &[u8] =
-    b"flux check FILE\nflux plan FILE\nflux format FILE\nflux run FILE ITEMS [--runtime R] [--docs DIR] [--journal J]\nflux audit FILE ITEMS JOURNAL [--docs DIR]\nflux load N K [--runtime R]\nflux serve FILE --port P [--docs DIR] [--batches B] [--runtime R]\nflux help or --help\nflux simulate FILE ITEMS --processors N [--costs LIST] [--docs DIR]\n";
+    b"flux check FILE\nflux plan FILE\nflux format FILE\nflux run FILE ITEMS [--runtime R] [--docs DIR] [--journal J]\nflux audit FILE ITEMS JOURNAL [--docs DIR]\nflux load N K [--runtime R]\nflux serve FILE --port P [--docs DIR] [--batches B] [--runtime R]\nflux help or --help\nflux simulate FILE ITEMS --processors N [--costs LIST] [--docs DIR]\nflux swarm FILE ITEMS JOURNAL HASH [--docs DIR]\n";
 
 /// The report that `check` prints.
 fn prepare_check<'a, L: Library, S: Store>(
@@ -233,6 +233,36 @@ fn prepare_simulation<'a, L: Library, S: Store>(
     Ok(Prepared::Text(text))
 }
 
+/// The peers that `swarm` prints.
+fn prepare_swarm<'a, L: Library, S: Store>(
+    alloc: Global,
+    library: Arc<L>,
+    store: &mut S,
+    file: &'a [u8],
+    items: &'a [u8],
+    journal: &'a [u8],
+    hash: &[u8],
+) -> Result<Prepared, Refusal<'a>>
+    ensures kept { S.files store.new ≡ S.files store.old }
+    ensures later { S.faults store.old ≤ S.faults store.new }
+    ensures asked { (docs : Option (List ℕ)) → AsksFiles (L.meaning (arc_value library))
+        (swarm file.now items.now journal.now hash.now docs) (S.files store.old)
+        (S.asked store.old) (S.asked store.new) }
+    ensures done { (docs : Option (List ℕ)) → IfOk result (IsPrepared (L.meaning (arc_value library))
+        (swarm file.now items.now journal.now hash.now docs) (S.files store.old)) }
+    ensures refused { (docs : Option (List ℕ)) → IfErr result (IsRefused (L.meaning (arc_value library))
+        (swarm file.now items.now journal.now hash.now docs) (S.files store.old)) }
+    ensures counts { Counts result (S.faults store.old) (S.faults store.new) }
+    ensures firm { (docs : Option (List ℕ)) → IsFirm (L.meaning (arc_value library))
+        (swarm file.now items.now journal.now hash.now docs) (S.files store.old)
+        (prepared_status result) }
+{
+    let loaded = load_files(alloc, &*library, store, file, items)?;
+    let text = load(alloc, store, journal, JOURNAL_FILE_LIMIT)?;
+    let Loaded { checked, items } = loaded;
+    Ok(swarm_text(alloc, library, checked, items, text.as_bytes(), hash)?)
+}
+
 /// What `help` prints.
 fn prepare_help(alloc: Global) -> Result<Bytes, Memory>
     ensures { IfOk result (λ text. text ≡ help_text) }
@@ -294,5 +324,12 @@ pub fn prepare<'a, S: Store, D: Fn(Core<All>, Runtime) -> Result<Core<All>, Memo
             costs,
             docs: _,
         } => prepare_simulation(alloc, library, store, file, items, processors, costs),
+        Asked::Swarm {
+            file,
+            items,
+            journal,
+            hash,
+            docs: _,
+        } => prepare_swarm(alloc, library, store, file, items, journal, hash.as_bytes()),
     }
 }

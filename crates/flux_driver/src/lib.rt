@@ -10,7 +10,6 @@ mod audited;
 mod commands;
 mod documents;
 mod files;
-mod laws;
 mod loaded;
 mod outermost;
 mod prepared;
@@ -25,10 +24,5 @@ mod texts;
 
 pub use flow_core::{Gate, OpenGate};
 pub use flux_words::needs_threads;
-pub use laws::{
-    audits_are_answered, audits_are_true, loads_are_answered, loads_are_true, looks_are_answered,
-    prints_are_true, runs_are_answered, runs_are_true, serving_is_answered, serving_is_true,
-    simulations_are_answered, simulations_are_true, statuses_are_explained,
-};
 pub use outermost::{World, answer, top, top_alone};
 pub use statuses::Status;

@@ -126,9 +126,10 @@ fn serve_words<S: Store, F: Folder, O: Sink, E: Sink, D: Door, G: Gate, Rt: Thre
 /// `format FILE` prints its formatted text, `run FILE ITEMS` runs the items of one file through the program
 /// of another and prints the journal of their flows, `audit FILE ITEMS JOURNAL` prints whether a file is the
 /// journal of such a run, `load N K` runs a large load of its own and prints what it counted, `serve FILE` answers
-/// the links of a door, batch by batch, and logs them, `help` prints the commands, and `simulate FILE ITEMS` lets the
-/// items run on simulated processors and prints how long that takes. The clause speaks of what is seen of the world
-/// before and after the call. The gate is told before and after each call of a node, but for those of `simulate`.
+/// the links of a door, batch by batch, and logs them, `help` prints the commands, `simulate FILE ITEMS` lets the items
+/// run on simulated processors and prints how long that takes, and `swarm FILE ITEMS JOURNAL HASH` prints the peers of a
+/// tracker's hash after a journal of such a run. The clause speaks of what is seen of the world before and after the
+/// call. The gate is told before and after each call of a node, but for those of `simulate`.
 pub fn top<
     S: Store,
     F: Folder,

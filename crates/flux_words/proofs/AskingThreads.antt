@@ -12,7 +12,7 @@ use Rattle.flux_words.specs.declared.loads.TheConstants.{LOAD_LIMIT, FIRST_LIMIT
 use Rattle.flux_words.specs.Names.{IsNamed}
 use Rattle.flux_words.specs.Values.{SpellsNumber, IsRuntime, IsFormat}
 use Rattle.flux_words.specs.Behind.{Serving, HasParts, FitsServe}
-use Rattle.flux_words.specs.Commands.{Command, check, plan, format, run, audit, load, serve, help, simulate, Spells, SpellsNone, NeedsThreads}
+use Rattle.flux_words.specs.Commands.{Command, check, plan, format, run, audit, load, serve, help, simulate, swarm, Spells, SpellsNone, NeedsThreads}
 use Rattle.flux_words.specs.steps.Given.{files_of, listed, IsGiven}
 use Rattle.flux_words.specs.steps.Found.{IsThreaded}
 use Rattle.flux_words.specs.steps.Asking.{IsCommand, AskThreads}
@@ -45,6 +45,7 @@ calm name words no_run no_load no_serve = not_so (AskThreads name words) (λ ask
     by (serve file serving) c needs = no_serve c.is
     by help c needs = needs
     by (simulate file items simulating) c needs = needs
+    by (swarm file items journal hash docs) c needs = needs
 
 module _ (words : List (List ℕ)) (given : Given) (is : IsGiven words given) (r : Bool) (told : IsTrue r ↔ IsThreaded (listed given.runtime)) where
   pub run_asks : (file items : List ℕ) (journal : JournalFormat) → files_of given.files ≡ file ∷ items ∷ [] → IsFormat (listed given.journal) journal → listed given.port ≡ [] → listed given.batches ≡ []
@@ -72,6 +73,7 @@ module _ (words : List (List ℕ)) (given : Given) (is : IsGiven words given) (r
       by (audit f i j docs) c needs = absurd needs
       by help c needs = absurd needs
       by (simulate f i m) c needs = absurd needs
+      by (swarm f i j h docs) c needs = absurd needs
 
   pub load_asks : (x y : List ℕ) (count first : ℕ) → files_of given.files ≡ x ∷ y ∷ [] → SpellsNumber 1 LOAD_LIMIT x count → SpellsNumber 0 FIRST_LIMIT y first
       → listed given.docs ≡ [] → listed given.journal ≡ [] → listed given.port ≡ [] → listed given.batches ≡ []
@@ -99,6 +101,7 @@ module _ (words : List (List ℕ)) (given : Given) (is : IsGiven words given) (r
       by (audit f i j docs) c needs = absurd needs
       by help c needs = absurd needs
       by (simulate f i m) c needs = absurd needs
+      by (swarm f i j h docs) c needs = absurd needs
 
 -- `serve` asks for threads
 pub serve_asks : (words : List (List ℕ)) (r : Bool) → IsTrue r ↔ ((file : List ℕ) × (serving : Serving) × HasParts words (FitsServe file serving)) → IsTrue r ↔ AskThreads names.Serve words

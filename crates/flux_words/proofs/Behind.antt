@@ -5,6 +5,7 @@ use Rattle.std.specs.Option.{is_some}
 use Rattle.std.proofs.lemmas.List.{take_all}
 use Rattle.std.specs.Borrow.{Bor}
 use Rattle.flux_values.specs.declared.failures.Memory.{Memory}
+use Rattle.nodes_tracker.specs.Asks.{hash_of}
 use Rattle.flux_words.specs.declared.names.CommandName.{CommandName}
 use Rattle.flux_words.specs.declared.names.CommandName.TheVariants as names
 use Rattle.flux_words.specs.declared.given.Files.{Files}
@@ -18,12 +19,12 @@ use Rattle.flux_words.specs.Names.{IsNamed}
 use Rattle.flux_words.specs.Parts.{Part, BeginWith, words_in, values_of}
 use Rattle.flux_words.specs.Values.{SpellsNumber, IsRuntime, IsFormat, IsPort, IsBatches}
 use Rattle.flux_words.specs.Costs.{IsProcessors, AreCosts}
-use Rattle.flux_words.specs.Behind.{Manner, Serving, Simulating, IsFile, HasParts, HasNoServing, HasNoSimulating, FitsRun, FitsAudit, FitsLoad, FitsServe, FitsSimulate}
-use Rattle.flux_words.specs.Commands.{Command, check, plan, format, run, audit, load, serve, help, simulate, name_of, StandsBehind, Spells, SpellsNone, IsServe, NeedsThreads}
+use Rattle.flux_words.specs.Behind.{Manner, Serving, Simulating, IsFile, HasParts, HasNoServing, HasNoSimulating, FitsRun, FitsAudit, FitsLoad, FitsServe, FitsSimulate, FitsSwarm}
+use Rattle.flux_words.specs.Commands.{Command, check, plan, format, run, audit, load, serve, help, simulate, swarm, name_of, StandsBehind, Spells, SpellsNone, IsServe, NeedsThreads}
 use Rattle.flux_words.specs.Asking.{asked}
 use Rattle.flux_words.specs.steps.Given.{files_of, listed, IsGiven, IsTooMuch}
 use Rattle.flux_words.specs.steps.Asking.{IsAsked, IsCommand, IsAskedBehind, IsServeRead}
-use Rattle.flux_words.proofs.Gathered.{fits_given, takes_less, few_run, few_audit, few_load, few_serve, few_simulate}
+use Rattle.flux_words.proofs.Gathered.{fits_given, takes_less, few_run, few_audit, few_load, few_serve, few_simulate, few_swarm}
 use Rattle.flux_words.proofs.OneCommand.{one_name, one_command}
 
 pub if_none : {A : Type 0} (r : Option A) (P : Type 0) → P → IfNone r P
@@ -65,7 +66,13 @@ pub none_of_simulate : (words : List (List ℕ)) → ((file items : List ℕ) (s
 none_of_simulate words none (simulate file items simulating) c = none file items simulating c.behind
 none_of_simulate words none command c = let e = c.is in absurd cc
 
--- more than three words, or an option twice
+pub none_of_swarm : (words : List (List ℕ))
+    → ((file items journal hash : List ℕ) (docs : Option (List ℕ)) → HasParts words (FitsSwarm file items journal hash docs) → ⊥)
+    → Nothing names.Swarm words
+none_of_swarm words none (swarm file items journal hash docs) c = none file items journal hash docs c.behind
+none_of_swarm words none command c = let e = c.is in absurd cc
+
+-- more than four words, or an option twice
 module _ (words : List (List ℕ)) (much : (parts : List Part) → BeginWith parts words [] → IsTooMuch parts) where
   pub run_of_too_much : Nothing names.Run words
   run_of_too_much = none_of_run words (λ file items manner has. takes_less words (FitsRun file items manner) (few_run file items manner) much has)
@@ -82,23 +89,38 @@ module _ (words : List (List ℕ)) (much : (parts : List Part) → BeginWith par
   pub simulate_of_too_much : Nothing names.Simulate words
   simulate_of_too_much = none_of_simulate words (λ file items simulating has. takes_less words (FitsSimulate file items simulating) (few_simulate file items simulating) much has)
 
+  pub swarm_of_too_much : Nothing names.Swarm words
+  swarm_of_too_much = none_of_swarm words (λ file items journal hash docs has.
+      takes_less words (FitsSwarm file items journal hash docs) (few_swarm file items journal hash docs) much has)
+
 not_one : (fs : Files) (file : List ℕ) → ((x : Bor (List ℕ)) → fs ≡ files.One x → ⊥) → files_of fs ≡ file ∷ [] → ⊥
 not_one files.None file other e = let n = ap length e in omega arith
 not_one (files.One x) file other e = other x (λ i. files.One x)
 not_one (files.Two x y) file other e = let n = ap length e in omega arith
 not_one (files.Three x y z) file other e = let n = ap length e in omega arith
+not_one (files.Four x y z v) file other e = let n = ap length e in omega arith
 
 not_two : (fs : Files) (file items : List ℕ) → ((x y : Bor (List ℕ)) → fs ≡ files.Two x y → ⊥) → files_of fs ≡ file ∷ items ∷ [] → ⊥
 not_two files.None file items other e = let n = ap length e in omega arith
 not_two (files.One x) file items other e = let n = ap length e in omega arith
 not_two (files.Two x y) file items other e = other x y (λ i. files.Two x y)
 not_two (files.Three x y z) file items other e = let n = ap length e in omega arith
+not_two (files.Four x y z v) file items other e = let n = ap length e in omega arith
 
 not_three : (fs : Files) (file items journal : List ℕ) → ((x y z : Bor (List ℕ)) → fs ≡ files.Three x y z → ⊥) → files_of fs ≡ file ∷ items ∷ journal ∷ [] → ⊥
 not_three files.None file items journal other e = let n = ap length e in omega arith
 not_three (files.One x) file items journal other e = let n = ap length e in omega arith
 not_three (files.Two x y) file items journal other e = let n = ap length e in omega arith
 not_three (files.Three x y z) file items journal other e = other x y z (λ i. files.Three x y z)
+not_three (files.Four x y z v) file items journal other e = let n = ap length e in omega arith
+
+not_four : (fs : Files) (file items journal digits : List ℕ) → ((x y z v : Bor (List ℕ)) → fs ≡ files.Four x y z v → ⊥)
+    → files_of fs ≡ file ∷ items ∷ journal ∷ digits ∷ [] → ⊥
+not_four files.None file items journal digits other e = let n = ap length e in omega arith
+not_four (files.One x) file items journal digits other e = let n = ap length e in omega arith
+not_four (files.Two x y) file items journal digits other e = let n = ap length e in omega arith
+not_four (files.Three x y z) file items journal digits other e = let n = ap length e in omega arith
+not_four (files.Four x y z v) file items journal digits other e = other x y z v (λ i. files.Four x y z v)
 
 module _ (words : List (List ℕ)) (given : Given) (is : IsGiven words given) where
   pub run_fits : (file items : List ℕ) (manner : Manner) → HasParts words (FitsRun file items manner) → FitsRun file items manner is.parts
@@ -115,6 +137,10 @@ module _ (words : List (List ℕ)) (given : Given) (is : IsGiven words given) wh
 
   simulate_fits : (file items : List ℕ) (simulating : Simulating) → HasParts words (FitsSimulate file items simulating) → FitsSimulate file items simulating is.parts
   simulate_fits file items simulating has = fits_given words given is (FitsSimulate file items simulating) has
+
+  swarm_fits : (file items journal hash : List ℕ) (docs : Option (List ℕ)) → HasParts words (FitsSwarm file items journal hash docs)
+      → FitsSwarm file items journal hash docs is.parts
+  swarm_fits file items journal hash docs has = fits_given words given is (FitsSwarm file items journal hash docs) has
 
   no_serving : listed given.port ≡ [] → listed given.batches ≡ [] → HasNoServing is.parts
   no_serving p b = record { no_port = sym is.holds.port_ ∙ p; no_batches = sym is.holds.batches_ ∙ b }
@@ -326,6 +352,54 @@ module _ (words : List (List ℕ)) (given : Given) (is : IsGiven words given) wh
     };
   }
 
+  -- ---- `swarm`
+
+  pub swarm_of_serving : (listed given.port ≡ [] → listed given.batches ≡ [] → ⊥) → Nothing names.Swarm words
+  swarm_of_serving some = none_of_swarm words (λ file items journal hash docs has.
+      serving_given some (swarm_fits file items journal hash docs has).no_serving)
+
+  pub swarm_of_simulating : (listed given.processors ≡ [] → listed given.costs ≡ [] → ⊥) → Nothing names.Swarm words
+  swarm_of_simulating some = none_of_swarm words (λ file items journal hash docs has.
+      simulating_given some (swarm_fits file items journal hash docs has).no_simulating)
+
+  pub swarm_of_files : ((x y z v : Bor (List ℕ)) → given.files ≡ files.Four x y z v → ⊥) → Nothing names.Swarm words
+  swarm_of_files other = none_of_swarm words (λ file items journal hash docs has.
+      let fits = swarm_fits file items journal hash docs has in
+      not_four given.files file items journal fits.digits other (is.holds.words_ ∙ fits.files))
+
+  pub swarm_of_options : ((listed given.runtime ≡ []) → (listed given.journal ≡ []) → ⊥) → Nothing names.Swarm words
+  swarm_of_options some = none_of_swarm words (λ file items journal hash docs has.
+      let fits = swarm_fits file items journal hash docs has in
+      some (is.holds.runtime_ ∙ fits.no_runtime) (is.holds.journal_ ∙ fits.no_journal))
+
+  pub swarm_of_hash : (x y z digits : List ℕ) → files_of given.files ≡ x ∷ y ∷ z ∷ digits ∷ [] → None ≡ hash_of digits
+      → Nothing names.Swarm words
+  swarm_of_hash x y z digits files_ none = none_of_swarm words (λ file items journal hash docs has.
+      let fits = swarm_fits file items journal hash docs has in
+      let all : file ∷ items ∷ journal ∷ fits.digits ∷ [] ≡ x ∷ y ∷ z ∷ digits ∷ [] = sym (is.holds.words_ ∙ fits.files) ∙ files_ in
+      let same : digits ≡ fits.digits = cc in
+      let e : None ≡ Some hash = none ∙ ap hash_of same ∙ fits.hash_ in
+      absurd cc)
+
+  pub swarm_given : (file items journal digits hash : List ℕ) → files_of given.files ≡ file ∷ items ∷ journal ∷ digits ∷ []
+      → hash_of digits ≡ Some hash → listed given.runtime ≡ [] → listed given.journal ≡ []
+      → listed given.port ≡ [] → listed given.batches ≡ [] → listed given.processors ≡ [] → listed given.costs ≡ []
+      → HasParts words (FitsSwarm file items journal hash (option_copied given.docs))
+  swarm_given file items journal digits hash files_ h r j p b n c = record {
+    parts = is.parts;
+    laid = is.laid;
+    fits = record {
+      digits = digits;
+      files = sym is.holds.words_ ∙ files_;
+      hash_ = h;
+      docs_ = sym is.holds.docs_;
+      no_runtime = sym is.holds.runtime_ ∙ r;
+      no_journal = sym is.holds.journal_ ∙ j;
+      no_serving = no_serving p b;
+      no_simulating = no_simulating n c;
+    };
+  }
+
 -- ---- all words
 
 -- the one command that words spell is what is read
@@ -401,6 +475,7 @@ module _ (words : List (List ℕ)) where
   serve_found (load count first runtime, spells, is) = absurd is
   serve_found (help, spells, is) = absurd is
   serve_found (simulate file items simulating, spells, is) = absurd is
+  serve_found (swarm file items journal hash docs, spells, is) = absurd is
 
 -- `serve` needs threads
 pub serve_needs : (command : Command) → IsServe command → NeedsThreads command

@@ -9,7 +9,7 @@ use Rattle.flux_words.specs.declared.values.Runtime as values
 use Rattle.flux_words.specs.declared.values.JournalFormat.{JournalFormat}
 use Rattle.flux_words.specs.Values.{IsRuntime, IsFormat, IsPort, IsBatches}
 use Rattle.flux_words.specs.Costs.{IsProcessors, AreCosts}
-use Rattle.flux_words.specs.Behind.{Manner, Serving, Simulating, HasParts, HasNoServing, HasNoSimulating, FitsRun, FitsAudit, FitsLoad, FitsServe, FitsSimulate}
+use Rattle.flux_words.specs.Behind.{Manner, Serving, Simulating, HasParts, HasNoServing, HasNoSimulating, FitsRun, FitsAudit, FitsLoad, FitsServe, FitsSimulate, FitsSwarm}
 use Rattle.flux_words.specs.Parts.{Part, word, option, Begins, BeginWith, if_for, words_in, values_of}
 use Rattle.flux_words.specs.steps.Given.{files_of, listed, HoldsAll, Adds, IsFull, IsTooMuch, IsGiven, AreSoFar}
 use Rattle.flux_words.proofs.Laid.{begin_more, past, one_part, one_parting, words_in-append, values_of-append, if_for-same}
@@ -83,9 +83,9 @@ all_given words rest given sofar none = record { parts = sofar.parts; laid = sub
 
 -- ---- what commands take
 
--- no command takes more words than three, nor an option twice
+-- no command takes more words than four, nor an option twice
 pub record IsFew (parts : List Part) : Type 0 where
-  pub words_ : length (words_in parts) ≤ 3
+  pub words_ : length (words_in parts) ≤ 4
   pub once : (name : OptionName) → length (values_of name parts) ≤ 1
 
 not_too_much : (parts : List Part) → IsFew parts → IsTooMuch parts → ⊥
@@ -224,5 +224,20 @@ few_simulate file items simulating parts fits = record {
     batches_ = none_once (values_of Batches parts) fits.no_serving.no_batches;
     processors_ = processors_once (values_of Processors parts) simulating.processors fits.processors_;
     costs_ = costs_once (values_of Costs parts) simulating.costs fits.costs_;
+  });
+}
+
+pub few_swarm : (file items journal hash : List ℕ) (docs : Option (List ℕ)) (parts : List Part)
+    → FitsSwarm file items journal hash docs parts → IsFew parts
+few_swarm file items journal hash docs parts fits = record {
+  words_ = omega (arith, ap length fits.files);
+  once = by_name parts (record {
+    runtime_ = none_once (values_of Runtime parts) fits.no_runtime;
+    docs_ = docs_once (values_of Docs parts) docs fits.docs_;
+    journal_ = none_once (values_of Journal parts) fits.no_journal;
+    port_ = none_once (values_of Port parts) fits.no_serving.no_port;
+    batches_ = none_once (values_of Batches parts) fits.no_serving.no_batches;
+    processors_ = none_once (values_of Processors parts) fits.no_simulating.no_processors;
+    costs_ = none_once (values_of Costs parts) fits.no_simulating.no_costs;
   });
 }

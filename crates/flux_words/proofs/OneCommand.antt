@@ -1,6 +1,7 @@
 -- Words spell one command.
 use Rattle.std.proofs.Common.{◌≡◌, inl, inr, ℕ, ◌+◌, List, [], ◌∷◌, length, get_or, eqb, if◌then◌else◌, Option, Some, None, refl, sym, ap, ◌∙◌, subst, arith}
 use Rattle.std.specs.Prelude.{option_to_list}
+use Rattle.nodes_tracker.specs.Asks.{hash_of}
 use Rattle.flux_words.specs.declared.names.CommandName.{CommandName}
 use Rattle.flux_words.specs.declared.names.CommandName.TheVariants as commands
 use Rattle.flux_words.specs.declared.names.OptionName.TheVariants as names
@@ -9,8 +10,8 @@ use Rattle.flux_words.specs.declared.loads.TheConstants.{LOAD_LIMIT, FIRST_LIMIT
 use Rattle.flux_words.specs.Names.{IsNamed}
 use Rattle.flux_words.specs.Parts.{Part, words_in, values_of}
 use Rattle.flux_words.specs.Values.{SpellsNumber, IsRuntime, IsFormat}
-use Rattle.flux_words.specs.Behind.{Manner, Serving, Simulating, IsFile, HasParts, FitsRun, FitsAudit, FitsLoad, FitsServe, FitsSimulate}
-use Rattle.flux_words.specs.Commands.{Command, check, plan, format, run, audit, load, serve, help, simulate, name_of, StandsBehind, Spells}
+use Rattle.flux_words.specs.Behind.{Manner, Serving, Simulating, IsFile, HasParts, FitsRun, FitsAudit, FitsLoad, FitsServe, FitsSimulate, FitsSwarm}
+use Rattle.flux_words.specs.Commands.{Command, check, plan, format, run, audit, load, serve, help, simulate, swarm, name_of, StandsBehind, Spells}
 use Rattle.flux_words.proofs.Laid.{one_parting}
 use Rattle.flux_words.proofs.Numbers.{one_number, one_runtime, one_format, one_port, one_batches}
 use Rattle.flux_words.proofs.CostLists.{one_processors, one_costs}
@@ -28,6 +29,7 @@ letters commands.Load = 327
 letters commands.Serve = 331
 letters commands.Help = 309
 letters commands.Simulate = 335
+letters commands.Swarm = 349
 
 -- what a word's first letters tell of the command: `--help` is `help`
 told_by : List ℕ → ℕ
@@ -45,6 +47,7 @@ told commands.Serve word is = ap told_by is
 told commands.Help word (inl is) = ap told_by is
 told commands.Help word (inr is) = ap told_by is
 told commands.Simulate word is = ap told_by is
+told commands.Swarm word is = ap told_by is
 
 by_letters : (a b : CommandName) → letters a ≡ letters b → a ≡ b
 unfolding letters
@@ -57,6 +60,7 @@ by_letters commands.Load commands.Load e = refl
 by_letters commands.Serve commands.Serve e = refl
 by_letters commands.Help commands.Help e = refl
 by_letters commands.Simulate commands.Simulate e = refl
+by_letters commands.Swarm commands.Swarm e = refl
 by_letters a b e = absurd (omega (arith, e))
 
 pub one_name : (a b : CommandName) (word : List ℕ) → IsNamed a word → IsNamed b word → a ≡ b
@@ -118,6 +122,15 @@ same_simulate f i g j m n parts a b =
     (one_costs (values_of names.Costs parts) m.costs n.costs a.costs_ b.costs_) (one_option m.docs n.docs (sym a.docs_ ∙ b.docs_)) in
     cc (files, simulating)
 
+same_swarm : (f i j h g k l m : List ℕ) (d e : Option (List ℕ)) (parts : List Part)
+    → FitsSwarm f i j h d parts → FitsSwarm g k l m e parts → swarm f i j h d ≡ swarm g k l m e
+same_swarm f i j h g k l m d e parts a b =
+    let words : f ∷ i ∷ j ∷ a.digits ∷ [] ≡ g ∷ k ∷ l ∷ b.digits ∷ [] = sym a.files ∙ b.files in
+    let digits : a.digits ≡ b.digits = cc in
+    let hashes : Some h ≡ Some m = sym a.hash_ ∙ ap hash_of digits ∙ b.hash_ in
+    let docs = one_option d e (sym a.docs_ ∙ b.docs_) in
+    cc (words, hashes, docs)
+
 -- both fit the same parts
 on_parts : (words : List (List ℕ)) (First Second : List Part → Type 0) (X : Type 0) → HasParts words First → HasParts words Second → ((parts : List Part) → First parts → Second parts → X) → X
 on_parts words First Second X a b f = f b.parts (subst First (one_parting a.parts b.parts words a.laid b.laid) a.fits) b.fits
@@ -133,6 +146,9 @@ one_behind words (load n k r) (load m l q) e s t = on_parts words (FitsLoad n k 
 one_behind words (serve f m) (serve g n) e s t = on_parts words (FitsServe f m) (FitsServe g n) (serve f m ≡ serve g n) s t (same_serve f g m n)
 one_behind words help help e s t = refl
 one_behind words (simulate f i m) (simulate g j n) e s t = on_parts words (FitsSimulate f i m) (FitsSimulate g j n) (simulate f i m ≡ simulate g j n) s t (same_simulate f i g j m n)
+one_behind words (swarm f i j h d) (swarm g k l m c) e s t =
+    on_parts words (FitsSwarm f i j h d) (FitsSwarm g k l m c) (swarm f i j h d ≡ swarm g k l m c) s t
+    (same_swarm f i j h g k l m d c)
 one_behind words a b e s t = absurd (omega (arith, e))
 
 -- ---- one command

@@ -2,7 +2,7 @@
 use Rattle.std.specs.Prelude.{option_copied}
 use Rattle.flux_words.specs.declared.commands.Asked.{Asked}
 use Rattle.flux_words.specs.declared.commands.Asked.TheVariants as reads
-use Rattle.flux_words.specs.Commands.{Command, check, plan, format, run, audit, load, serve, help, simulate}
+use Rattle.flux_words.specs.Commands.{Command, check, plan, format, run, audit, load, serve, help, simulate, swarm}
 
 -- the command that was asked for
 abbrev pub asked : Asked → Command
@@ -29,3 +29,5 @@ asked (reads.Simulate file items processors costs docs) = simulate file.now item
   costs = costs.list;
   docs = option_copied docs;
 })
+asked (reads.Swarm file items journal hash docs) =
+    swarm file.now items.now journal.now hash (option_copied docs)

@@ -1,5 +1,6 @@
 -- What stands behind the word of each command.
-use Rattle.std.specs.Prelude.{◌≡◌, ℕ, List, [], ◌∷◌, Option, option_to_list}
+use Rattle.std.specs.Prelude.{◌≡◌, ℕ, List, [], ◌∷◌, Option, Some, option_to_list}
+use Rattle.nodes_tracker.specs.Asks.{hash_of}
 use Rattle.flux_words.specs.declared.names.OptionName.TheVariants as names
 use Rattle.flux_words.specs.declared.values.Runtime.{Runtime}
 use Rattle.flux_words.specs.declared.values.JournalFormat.{JournalFormat}
@@ -60,6 +61,18 @@ pub record FitsRun (file items : List ℕ) (manner : Manner) (parts : List Part)
 pub record FitsAudit (file items journal : List ℕ) (docs : Option (List ℕ)) (parts : List Part)
     : Type 0 where
   pub files : words_in parts ≡ file ∷ items ∷ journal ∷ []
+  pub docs_ : values_of names.Docs parts ≡ option_to_list docs
+  pub no_runtime : values_of names.Runtime parts ≡ []
+  pub no_journal : values_of names.Journal parts ≡ []
+  pub no_serving : HasNoServing parts
+  pub no_simulating : HasNoSimulating parts
+
+-- `swarm`: FILE, ITEMS, JOURNAL, HASH in hexadecimal, and anywhere `--docs DIR`, at most once
+pub record FitsSwarm (file items journal hash : List ℕ) (docs : Option (List ℕ)) (parts : List Part)
+    : Type 0 where
+  pub digits : List ℕ
+  pub files : words_in parts ≡ file ∷ items ∷ journal ∷ digits ∷ []
+  pub hash_ : hash_of digits ≡ Some hash
   pub docs_ : values_of names.Docs parts ≡ option_to_list docs
   pub no_runtime : values_of names.Runtime parts ≡ []
   pub no_journal : values_of names.Journal parts ≡ []

@@ -5,11 +5,11 @@ use Rattle.flux_words.specs.declared.names.CommandName.TheVariants as names
 use Rattle.flux_words.specs.declared.values.Runtime.{Runtime}
 use Rattle.flux_words.specs.Values.{StartsThreads}
 use Rattle.flux_words.specs.Names.{IsNamed}
-use Rattle.flux_words.specs.Behind.{Manner, Serving, Simulating, IsFile, HasParts, FitsRun, FitsAudit, FitsLoad, FitsServe, FitsSimulate}
+use Rattle.flux_words.specs.Behind.{Manner, Serving, Simulating, IsFile, HasParts, FitsRun, FitsAudit, FitsLoad, FitsServe, FitsSimulate, FitsSwarm}
 
 -- `check FILE`, `plan FILE`, `format FILE`, `run FILE ITEMS` with options, `audit FILE ITEMS JOURNAL` with documents,
--- `load N K` with a runtime, `serve FILE` with a port and options, `help` or `--help`, and `simulate FILE ITEMS` with
--- processors and options
+-- `load N K` with a runtime, `serve FILE` with a port and options, `help` or `--help`, `simulate FILE ITEMS` with
+-- processors and options, and `swarm FILE ITEMS JOURNAL HASH` with documents
 pub data Command : Type 0 where
   check : List ℕ → Command
   plan : List ℕ → Command
@@ -20,6 +20,7 @@ pub data Command : Type 0 where
   serve : List ℕ → Serving → Command
   help : Command
   simulate : List ℕ → List ℕ → Simulating → Command
+  swarm : List ℕ → List ℕ → List ℕ → List ℕ → Option (List ℕ) → Command
 
 -- a command's name
 abbrev pub name_of : Command → CommandName
@@ -32,6 +33,7 @@ name_of (load count first runtime) = names.Load
 name_of (serve file serving) = names.Serve
 name_of help = names.Help
 name_of (simulate file items simulating) = names.Simulate
+name_of (swarm file items journal hash docs) = names.Swarm
 
 -- these words stand behind its name
 abbrev pub StandsBehind : Command → List (List ℕ) → Type 0
@@ -45,6 +47,8 @@ StandsBehind (load count first runtime) words = HasParts words (FitsLoad count f
 StandsBehind (serve file serving) words = HasParts words (FitsServe file serving)
 StandsBehind help words = words ≡ []
 StandsBehind (simulate file items simulating) words = HasParts words (FitsSimulate file items simulating)
+StandsBehind (swarm file items journal hash docs) words =
+    HasParts words (FitsSwarm file items journal hash docs)
 
 -- the words spell this command: the first is its name
 pub record Spells (words : List (List ℕ)) (command : Command) : Type 0 where
@@ -69,6 +73,7 @@ IsServe (load count first runtime) = ⊥
 IsServe (serve file serving) = ⊤
 IsServe help = ⊥
 IsServe (simulate file items simulating) = ⊥
+IsServe (swarm file items journal hash docs) = ⊥
 
 -- a command that needs threads: a runtime that starts some, or `serve`, which may wait for clients
 abbrev pub NeedsThreads : Command → Type 0
@@ -81,3 +86,4 @@ NeedsThreads (load count first runtime) = StartsThreads runtime
 NeedsThreads (serve file serving) = ⊤
 NeedsThreads help = ⊥
 NeedsThreads (simulate file items simulating) = ⊥
+NeedsThreads (swarm file items journal hash docs) = ⊥

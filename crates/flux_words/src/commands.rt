@@ -13,6 +13,7 @@ use crate::parts::is_positional;
 use crate::runs::read_run;
 use crate::serves::{is_serve, read_serve};
 use crate::simulations::read_simulation;
+use crate::swarms::read_swarm;
 use crate::values::{JournalFormat, Runtime};
 use flux_values::{Bytes, Memory};
 use std::alloc::Global;
@@ -68,6 +69,15 @@ pub enum Asked<'a> {
         /// The folder of documents.
         docs: Option<&'a [u8]>,
     },
+    Swarm {
+        file: &'a [u8],
+        items: &'a [u8],
+        journal: &'a [u8],
+        /// The 20 bytes that its word spells.
+        hash: Bytes,
+        /// The folder of documents.
+        docs: Option<&'a [u8]>,
+    },
 }
 
 /// The one file that words are.
@@ -104,6 +114,7 @@ fn read_behind<'a>(
         CommandName::Help if words.is_empty() => Ok(Some(Asked::Help)),
         CommandName::Help => Ok(None),
         CommandName::Simulate => read_simulation(alloc, words),
+        CommandName::Swarm => read_swarm(alloc, words),
     }
 }
 
@@ -123,8 +134,9 @@ fn read_command<'a>(alloc: Global, words: &'a [Bytes]) -> Result<Option<Asked<'a
 ///
 /// The words are those behind the program's own name: `check FILE`, `plan FILE`, `format FILE`,
 /// `run FILE ITEMS [--runtime R] [--docs DIR] [--journal J]`, `audit FILE ITEMS JOURNAL [--docs DIR]`,
-/// `load N K [--runtime R]`, `serve FILE --port P [--docs DIR] [--batches B] [--runtime R]`, `help` or `--help`, and
-/// `simulate FILE ITEMS --processors N [--costs LIST] [--docs DIR]`.
+/// `load N K [--runtime R]`, `serve FILE --port P [--docs DIR] [--batches B] [--runtime R]`, `help` or `--help`,
+/// `simulate FILE ITEMS --processors N [--costs LIST] [--docs DIR]`, and
+/// `swarm FILE ITEMS JOURNAL HASH [--docs DIR]`.
 pub fn read_words<'a>(alloc: Global, words: &'a [Bytes]) -> Result<Option<Asked<'a>>, Memory>
     // Each answer has its cause.
     ensures found { IfOk result (λ found. IfSome found (λ a. Spells words.now (asked a))) }

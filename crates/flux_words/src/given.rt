@@ -9,13 +9,14 @@ use crate::names::OptionName;
 use crate::parts::{Part, take_part};
 use flux_values::Bytes;
 
-/// The positional words, of which no command takes more than three.
+/// The positional words, of which no command takes more than four.
 #[derive(Clone, Copy, Debug)]
 pub enum Files<'a> {
     None,
     One(&'a [u8]),
     Two(&'a [u8], &'a [u8]),
     Three(&'a [u8], &'a [u8], &'a [u8]),
+    Four(&'a [u8], &'a [u8], &'a [u8], &'a [u8]),
 }
 
 /// The positional words, and the value of each option.
@@ -35,13 +36,14 @@ impl<'a> Files<'a> {
     /// With one word more, where there is room.
     fn with(self, word: &'a [u8]) -> Option<Files<'a>>
         ensures added { IfSome result (λ files. files_of files ≡ files_of self.entry ++ word.now ∷ []) }
-        ensures full { IfNone result (length (files_of self.entry) ≡ 3) }
+        ensures full { IfNone result (length (files_of self.entry) ≡ 4) }
     {
         match self {
             Files::None => Some(Files::One(word)),
             Files::One(first) => Some(Files::Two(first, word)),
             Files::Two(first, second) => Some(Files::Three(first, second, word)),
-            Files::Three(_, _, _) => None,
+            Files::Three(first, second, third) => Some(Files::Four(first, second, third, word)),
+            Files::Four(_, _, _, _) => None,
         }
     }
 }

@@ -15,6 +15,7 @@ mod parts;
 mod runs;
 mod serves;
 mod simulations;
+mod swarms;
 mod values;
 mod workers;
 

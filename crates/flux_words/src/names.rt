@@ -18,6 +18,7 @@ pub enum CommandName {
     Serve,
     Help,
     Simulate,
+    Swarm,
 }
 
 /// An option of the command line.
@@ -47,6 +48,7 @@ pub fn read_name(word: &[u8]) -> Option<CommandName>
         b"serve" => Some(CommandName::Serve),
         b"help" | b"--help" => Some(CommandName::Help),
         b"simulate" => Some(CommandName::Simulate),
+        b"swarm" => Some(CommandName::Swarm),
         _ => None,
     }
 }

@@ -88,6 +88,7 @@ fn behind_needs(name: CommandName, words: &[Bytes]) -> bool
         CommandName::Audit => false,
         CommandName::Help => false,
         CommandName::Simulate => false,
+        CommandName::Swarm => false,
     }
 }
 

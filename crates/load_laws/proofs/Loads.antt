@@ -23,10 +23,10 @@ use Rattle.flux_driver.specs.Causes.{IsStatic, IsItemsText, IsMissing}
 use Rattle.flux_driver.specs.BuiltIn.{built_in}
 use Rattle.flux_driver.specs.Answers.{Decided, Happened, OrMemory}
 use Rattle.flux_driver.specs.Top.{HasDone}
-use Rattle.flux_driver.specs.Headline.{NoneRose}
-use Rattle.flux_driver.specs.Loads.{IsLoadable}
+use Rattle.flux_headline.specs.Headline.{NoneRose}
+use Rattle.flux_headline.specs.Loads.{IsLoadable}
 use Rattle.flux_driver.proofs.Once.{gives_here, not_faulty, fault_here}
-use Rattle.flux_driver.proofs.Answering.{answered_of, of_command}
+use Rattle.flux_headline.proofs.Answering.{answered_of, of_command}
 use Rattle.load_laws.specs.Declarations.{program_decls}
 use Rattle.load_laws.specs.Loads.{LoadsAreLoadable, IsDoneOrUnwritten, LoadsEndSo, LoadsAreDone, NoLoadHasFault}
 use Rattle.load_laws.proofs.Declared.{declared}

@@ -10,8 +10,8 @@ use Rattle.flux_driver.specs.Worlds.{Told, Seen}
 use Rattle.flux_driver.specs.BuiltIn.{built_in}
 use Rattle.flux_driver.specs.Answers.{OrMemory}
 use Rattle.flux_driver.specs.Top.{HasDone}
-use Rattle.flux_driver.specs.Headline.{NoneRose}
-use Rattle.flux_driver.specs.Loads.{IsLoadable}
+use Rattle.flux_headline.specs.Headline.{NoneRose}
+use Rattle.flux_headline.specs.Loads.{IsLoadable}
 
 -- with the library that the program is built with, the texts of a load of at most 4,096 items have
 -- no fault, whatever the world tells and whichever the first number

@@ -9,7 +9,7 @@ use Rattle.flux_syntax.specs.ProgramOfText.{program_of}
 use Rattle.flux_load.specs.Loads.{program_text}
 use Rattle.flux_words.specs.declared.values.Runtime.{Runtime}
 use Rattle.flux_words.specs.declared.values.JournalFormat.{JournalFormat}
-use Rattle.flux_words.specs.Commands.{Command, run, audit, load, simulate, Spells}
+use Rattle.flux_words.specs.Commands.{Command, run, audit, load, simulate, swarm, Spells}
 use Rattle.flux_driver.specs.declared.refusals.Refusal.{Refusal}
 use Rattle.flux_driver.specs.declared.refusals.Refusal.TheVariants.{Usage, Static, Items, Read, Missing, NotServed, Memory}
 use Rattle.flux_driver.specs.declared.statuses.Status.{Status}
@@ -86,6 +86,7 @@ ReadsItems meaning (run file items manner) told = AreRead meaning told (named fi
 ReadsItems meaning (audit file items journal docs) told = AreRead meaning told (named file)
 ReadsItems meaning (load count first runtime) told = AreRead meaning told (made program_text)
 ReadsItems meaning (simulate file items simulating) told = AreRead meaning told (named file)
+ReadsItems meaning (swarm file items journal hash docs) told = AreRead meaning told (named file)
 ReadsItems meaning other told = ⊤
 
 abbrev pub IsFirm : LibraryMeaning → Command → Files → Status → Type 0

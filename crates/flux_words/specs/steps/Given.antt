@@ -14,6 +14,8 @@ files_of files.None = []
 files_of (files.One first) = first.now ∷ []
 files_of (files.Two first second) = first.now ∷ second.now ∷ []
 files_of (files.Three first second third) = first.now ∷ second.now ∷ third.now ∷ []
+files_of (files.Four first second third fourth) =
+    first.now ∷ second.now ∷ third.now ∷ fourth.now ∷ []
 
 -- a value, or none
 abbrev pub listed : Option (Bor (List ℕ)) → List (List ℕ)
@@ -48,9 +50,9 @@ pub record Adds (before after : Given) (part : Part) : Type 0 where
   pub processors_ : listed after.processors ≡ listed before.processors ++ values_of Processors (part ∷ [])
   pub costs_ : listed after.costs ≡ listed before.costs ++ values_of Costs (part ∷ [])
 
--- there is no room for a part: three words, or a value of its option, are given
+-- there is no room for a part: four words, or a value of its option, are given
 abbrev pub IsFull : Given → Part → Type 0
-IsFull given (word name) = length (files_of given.files) ≡ 3
+IsFull given (word name) = length (files_of given.files) ≡ 4
 IsFull given (option Runtime value) = length (listed given.runtime) ≡ 1
 IsFull given (option Docs value) = length (listed given.docs) ≡ 1
 IsFull given (option Journal value) = length (listed given.journal) ≡ 1
@@ -65,10 +67,10 @@ pub record IsGiven (words : List (List ℕ)) (given : Given) : Type 0 where
   pub laid : BeginWith parts words []
   pub holds : HoldsAll given parts
 
--- more than three positional words, or an option twice
+-- more than four positional words, or an option twice
 abbrev pub IsTooMuch : List Part → Type 0
 IsTooMuch parts =
-    (3 < length (words_in parts)) ⊎ ((name : OptionName) × (1 < length (values_of name parts)))
+    (4 < length (words_in parts)) ⊎ ((name : OptionName) × (1 < length (values_of name parts)))
 
 -- the parts so far, and what they give
 pub record AreSoFar (words rest files runtime docs journal port batches processors costs : List (List ℕ))

@@ -68,14 +68,29 @@ returns-in-Load-clause-counts g c = c.prepare_load.ensures.counts (g.S.Store.fau
 pub returns-in-Load-clause-firm : goal.returns-in-Load-clause-firm
 returns-in-Load-clause-firm g c = rw c.in-Load.is (c.prepare_load.ensures.firm (g.S.Store.files c.args.store.now))
 
+pub returns-in-Simulate-clause-asked : goal.returns-in-Simulate-clause-asked
+returns-in-Simulate-clause-asked g c = rw c.in-Simulate.is (c.prepare_simulation.ensures.asked (option_copied c.in-Simulate.docs))
+
+pub returns-in-Simulate-clause-done : goal.returns-in-Simulate-clause-done
+returns-in-Simulate-clause-done g c = rw c.in-Simulate.is (c.prepare_simulation.ensures.done (option_copied c.in-Simulate.docs))
+
+pub returns-in-Simulate-clause-refused : goal.returns-in-Simulate-clause-refused
+returns-in-Simulate-clause-refused g c = rw c.in-Simulate.is (c.prepare_simulation.ensures.refused (option_copied c.in-Simulate.docs))
+
+pub returns-in-Simulate-clause-firm : goal.returns-in-Simulate-clause-firm
+returns-in-Simulate-clause-firm g c = rw c.in-Simulate.is (c.prepare_simulation.ensures.firm (option_copied c.in-Simulate.docs))
+
 pub returns-clause-asked : goal.returns-clause-asked
-returns-clause-asked g c = rw c.in-Simulate.is (c.prepare_simulation.ensures.asked (option_copied c.in-Simulate.docs))
+returns-clause-asked g c =
+    rw c.in-Swarm.is (rw c.as_bytes.ensures at (c.prepare_swarm.ensures.asked (option_copied c.in-Swarm.docs)))
 
 pub returns-clause-done : goal.returns-clause-done
-returns-clause-done g c = rw c.in-Simulate.is (c.prepare_simulation.ensures.done (option_copied c.in-Simulate.docs))
+returns-clause-done g c =
+    rw c.in-Swarm.is (rw c.as_bytes.ensures at (c.prepare_swarm.ensures.done (option_copied c.in-Swarm.docs)))
 
 pub returns-clause-refused : goal.returns-clause-refused
-returns-clause-refused g c = rw c.in-Simulate.is (c.prepare_simulation.ensures.refused (option_copied c.in-Simulate.docs))
+returns-clause-refused g c =
+    rw c.in-Swarm.is (rw c.as_bytes.ensures at (c.prepare_swarm.ensures.refused (option_copied c.in-Swarm.docs)))
 
 pub returns-clause-firm : goal.returns-clause-firm
-returns-clause-firm g c = rw c.in-Simulate.is (c.prepare_simulation.ensures.firm (option_copied c.in-Simulate.docs))
+returns-clause-firm g c = rw c.in-Swarm.is (c.prepare_swarm.ensures.firm (option_copied c.in-Swarm.docs))

@@ -1,5 +1,0 @@
-use Rattle.flux_driver.proofs.Loads.{loads_answered}
-use Rattle.flux_driver.proofs.laws.loads_are_answered.Goals as goal
-
-pub returns : goal.returns
-returns c = loads_answered

@@ -1,5 +1,0 @@
-use Rattle.flux_driver.proofs.Headline.{runs_answered}
-use Rattle.flux_driver.proofs.laws.runs_are_answered.Goals as goal
-
-pub returns : goal.returns
-returns c = runs_answered

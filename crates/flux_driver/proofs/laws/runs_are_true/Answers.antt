@@ -1,5 +1,0 @@
-use Rattle.flux_driver.proofs.Headline.{runs_true}
-use Rattle.flux_driver.proofs.laws.runs_are_true.Goals as goal
-
-pub returns : goal.returns
-returns c = runs_true

@@ -1,5 +1,0 @@
-use Rattle.flux_driver.proofs.ServedHeadline.{serving_true}
-use Rattle.flux_driver.proofs.laws.serving_is_true.Goals as goal
-
-pub returns : goal.returns
-returns c = serving_true

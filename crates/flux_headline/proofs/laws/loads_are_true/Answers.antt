@@ -1,0 +1,5 @@
+use Rattle.flux_headline.proofs.Loads.{loads_true}
+use Rattle.flux_headline.proofs.laws.loads_are_true.Goals as goal
+
+pub returns : goal.returns
+returns c = loads_true
