@@ -1,7 +1,8 @@
 //! A run on simulated processors, and what is printed of it.
 
 ghost use Rattle.std.specs.Prelude.{◌≡◌, ◌≤◌, ◌<◌, ◌-◌, ◌*◌, IfOk, length};
-ghost use Rattle.std.specs.List.{sum_by, AllByRecursion};
+ghost use Rattle.std.specs.List.{sum_by, slice_get, AllByRecursion};
+ghost use Rattle.std.specs.Option.{unwrap_or};
 ghost use Rattle.std.specs.Arc.{arc_value};
 ghost use Rattle.flux_laws.specs.Hoisted.{locks_of};
 ghost use Rattle.flux_runs.specs.Setups.{setup_of};
@@ -20,13 +21,20 @@ use flux_words::{Costs, Processors};
 use std::alloc::Global;
 use std::sync::Arc;
 
-/// What the calls of so many nodes cost: so much as is given, and 1 where nothing is.
+/// What the calls of a node cost: so much as is given, and 1 where nothing is.
+fn cost_of(given: &List<u32>, node: usize) -> u32
+    ensures { result ≡ unwrap_or (slice_get given.now node) 1 }
+{
+    given.get(node).copied().unwrap_or(1)
+}
+
+/// What the calls of so many nodes cost.
 fn costs_for(alloc: Global, nodes: usize, given: &List<u32>) -> Result<List<u32>, Memory>
     ensures { IfOk result (λ costs. costs ≡ costs_for nodes given.now) }
 {
     let mut costs = List::new(alloc);
     for node in 0..nodes {
-        costs.add(given.get(node).copied().unwrap_or(1))?;
+        costs.add(cost_of(given, node))?;
     }
     Ok(costs)
 }
