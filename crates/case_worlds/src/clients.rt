@@ -1,10 +1,10 @@
 //! The links that a case's door gives.
 
-ghost use Rattle.std.specs.Prelude.{◌≡◌, ◌<◌, IfOk};
-ghost use Rattle.flux_doors.specs.Memory.{door_out};
+ghost use Rattle.std.specs.Prelude.{◌<◌};
 
+use crate::parts::Entrance;
 use case_files::{Case, Entry, Line, Part, Stream};
-use flux_doors::{MemoryDoor, MemoryLink};
+use flux_doors::MemoryLink;
 use flux_outside::MemorySink;
 use flux_values::{Bytes, List, Memory};
 use std::alloc::Global;
@@ -63,10 +63,8 @@ fn add_clients<'a>(
     Ok(batch)
 }
 
-/// The door that gives a case's links. None is out yet.
-pub fn door_of(alloc: Global, case: &Case) -> Result<MemoryDoor, Memory>
-    ensures { IfOk result (λ door. door_out door ≡ 0) }
-{
+/// The links of a case, and which calls of the door fail.
+pub fn entrance_of(alloc: Global, case: &Case) -> Result<Entrance, Memory> {
     let clients = clients_of(alloc, case)?;
     let mut batches = List::new(alloc);
     for batch in clients.chunk_by(|one, next| one.batch == next.batch) {
@@ -76,7 +74,8 @@ pub fn door_of(alloc: Global, case: &Case) -> Result<MemoryDoor, Memory>
         }
         batches.add(links)?;
     }
-    MemoryDoor::new(alloc, batches, case.fails(alloc, Part::Door)?)
+    let fails = case.fails(alloc, Part::Door)?;
+    Ok(Entrance { batches, fails })
 }
 
 fn link(alloc: Global, case: &Case, client: &Client) -> Result<MemoryLink, Memory> {

@@ -2,37 +2,56 @@
 
 use crate::calls::{calls_in, has_journal};
 use crate::clients::clients_of;
-use crate::watched::{WatchedFolder, WatchedStore};
+use crate::parts::Parts;
 use case_files::{Case, Differences, Stream};
 use flux_doors::MemoryDoor;
-use flux_outside::MemorySink;
+use flux_spelling::append_text;
 use flux_values::{Bytes, Memory};
 use std::alloc::Global;
 
-/// Compares what the streams gained.
-pub fn compare_gains(
-    differences: &mut Differences,
-    case: &Case,
-    out: &MemorySink,
-    err: &MemorySink,
-) -> Result<(), Memory> {
-    differences.compare_gain(b"out", Stream::Out, out.written(), case.gains(Stream::Out))?;
-    differences.compare_gain(b"err", Stream::Err, err.written(), case.gains(Stream::Err))
+/// What a command line came to.
+#[derive(Drop)]
+pub struct Outcome {
+    pub status: u8,
+    /// How many calls of nodes the gate was told of; none where it was told of them mixed up.
+    pub told: Option<u64>,
+    /// Whether a call of another flow began while the first one was held.
+    pub was_met: bool,
+    /// What is left of the world.
+    pub parts: Parts<MemoryDoor>,
 }
 
-/// Compares what was asked for.
-pub fn compare_names(
+/// Compares what a case's words came to with what it wants.
+pub fn compare_outcome(
+    alloc: Global,
     differences: &mut Differences,
     case: &Case,
-    store: &WatchedStore,
-    folder: &WatchedFolder,
+    words: &[Bytes],
+    outcome: &Outcome,
 ) -> Result<(), Memory> {
-    differences.compare_names(b"asked", store.names.all(), case.asked)?;
-    differences.compare_names(b"opened", folder.names.all(), case.opened)
+    differences.compare_status(outcome.status, case.status.unwrap_or(0))?;
+    compare_parts(alloc, differences, case, &outcome.parts)?;
+    compare_told(differences, case, words, outcome)?;
+    compare_held(differences, case, outcome.was_met)
+}
+
+/// Compares what the streams gained, what was asked for and what the links were written.
+fn compare_parts(
+    alloc: Global,
+    differences: &mut Differences,
+    case: &Case,
+    parts: &Parts<MemoryDoor>,
+) -> Result<(), Memory> {
+    let (out, err) = (parts.out.written(), parts.err.written());
+    differences.compare_gain(b"out", Stream::Out, out, case.gains(Stream::Out))?;
+    differences.compare_gain(b"err", Stream::Err, err, case.gains(Stream::Err))?;
+    differences.compare_names(b"asked", parts.store.names.all(), case.asked)?;
+    differences.compare_names(b"opened", parts.folder.names.all(), case.opened)?;
+    compare_links(alloc, differences, case, &parts.door)
 }
 
 /// Compares what each link was written with what it has to be. A link that didn't come to the door was written nothing.
-pub fn compare_links(
+fn compare_links(
     alloc: Global,
     differences: &mut Differences,
     case: &Case,
@@ -50,11 +69,7 @@ pub fn compare_links(
 }
 
 /// Tells where the first call of a case was to be held until another flow's, and wasn't met by one.
-pub fn compare_held(
-    differences: &mut Differences,
-    case: &Case,
-    was_met: bool,
-) -> Result<(), Memory> {
+fn compare_held(differences: &mut Differences, case: &Case, was_met: bool) -> Result<(), Memory> {
     if case.hold.is_some() && !was_met {
         differences.tell(b"no call of another flow while the first was held")?;
     }
@@ -62,19 +77,32 @@ pub fn compare_held(
 }
 
 /// Compares the calls that the gate was told of with those that are wanted, and with those that were printed.
-pub fn compare_told(
+fn compare_told(
     differences: &mut Differences,
     case: &Case,
-    status: u8,
     words: &[Bytes],
-    told: Option<u64>,
-    printed: &[u8],
+    outcome: &Outcome,
 ) -> Result<(), Memory> {
     if let Some(calls) = case.calls {
-        differences.compare_calls(told, calls as u64)?;
+        differences.compare_calls(outcome.told, calls as u64)?;
     }
-    if status == 0 && has_journal(words) {
-        differences.compare_calls(told, calls_in(printed))?;
+    if outcome.status == 0 && has_journal(words) {
+        differences.compare_calls(outcome.told, calls_in(outcome.parts.out.written()))?;
     }
     Ok(())
+}
+
+/// Tells where the audit of a journal that was printed didn't say yes.
+pub fn compare_verdict(
+    alloc: Global,
+    differences: &mut Differences,
+    outcome: &Outcome,
+) -> Result<(), Memory> {
+    let verdict = outcome.parts.out.written();
+    if outcome.status == 0 && verdict.starts_with(b"ok ") {
+        return Ok(());
+    }
+    let mut line = Bytes::copy(alloc, b"its journal is refused: ")?;
+    append_text(&mut line, verdict)?;
+    differences.tell(line.as_bytes())
 }

@@ -3,10 +3,10 @@
 ghost use Rattle.std.specs.Prelude.{◌≡◌, IfOk};
 ghost use Rattle.flux_doors.specs.Memory.{door_out};
 
-use crate::clients::door_of;
+use crate::clients::entrance_of;
 use crate::watched::{Names, WatchedFolder, WatchedStore};
 use case_files::{Case, Entry, Part, Shape, Stream};
-use flux_doors::MemoryDoor;
+use flux_doors::{MemoryDoor, MemoryLink};
 use flux_outside::{FileBytes, MemoryFolder, MemorySink, MemoryStore};
 use flux_values::{Bytes, List, Memory};
 use std::alloc::Global;
@@ -14,26 +14,40 @@ use std::alloc::Global;
 /// How many bytes a stream has room for, and takes a call, where a case says nothing of it.
 const ROOM: usize = 16_777_216;
 
-/// A store and a folder, which are watched, two streams, and a door.
+/// The links that a door gives, by their batches, and which of its calls fail.
 #[derive(Drop)]
-pub struct Parts {
+pub struct Entrance {
+    pub batches: List<List<MemoryLink>>,
+    pub fails: List<u64>,
+}
+
+impl Entrance {
+    /// The door that gives these links. None is out yet.
+    pub fn open(self, alloc: Global) -> Result<MemoryDoor, Memory>
+        ensures { IfOk result (λ door. door_out door ≡ 0) }
+    {
+        MemoryDoor::new(alloc, self.batches, self.fails)
+    }
+}
+
+/// A store and a folder, which are watched, two streams, and what a door is made of, or the door itself.
+#[derive(Drop)]
+pub struct Parts<D> {
     pub store: WatchedStore,
     pub folder: WatchedFolder,
     pub out: MemorySink,
     pub err: MemorySink,
-    pub door: MemoryDoor,
+    pub door: D,
 }
 
-/// The parts of the world that a case's command line meets. No link of its door is out yet.
-pub fn parts_of(alloc: Global, case: &Case) -> Result<Parts, Memory>
-    ensures { IfOk result (λ parts. door_out parts.door ≡ 0) }
-{
+/// The parts of the world that a case's command line meets.
+pub fn parts_of(alloc: Global, case: &Case) -> Result<Parts<Entrance>, Memory> {
     Ok(Parts {
         store: store_of(alloc, case)?,
         folder: folder_of(alloc, case)?,
         out: out_of(alloc, case)?,
         err: err_of(alloc, case)?,
-        door: door_of(alloc, case)?,
+        door: entrance_of(alloc, case)?,
     })
 }
 

@@ -5,11 +5,12 @@
 //! written. A wrong case is told with its file, its line and what differs. The last line counts them.
 #![tactic(auto)]
 
-mod judging;
-mod worlds;
+mod outcomes;
 
 use case_files::{Report, Trouble, read_lines};
-use judging::judge_file;
+use case_worlds::{Entrance, Parts, judge_file};
+use flux_values::Bytes;
+use outcomes::outcome_of;
 use std::alloc::Global;
 use std::fs;
 use std::io::Write;
@@ -40,7 +41,14 @@ fn report_on<Rt: Threads + Wait + Sync>(
     text: &str,
 ) -> Result<Report, Trouble> {
     let lines = read_lines(alloc, text)?;
-    judge_file(threads, alloc, name, lines.as_slice())
+    judge_file(
+        alloc,
+        name,
+        lines.as_slice(),
+        &|words: &[Bytes], parts: Parts<Entrance>, looks: u64| {
+            outcome_of(threads, alloc, words, parts, looks)
+        },
+    )
 }
 
 /// Runs the cases of all files. A command line may start threads.
