@@ -1,27 +1,32 @@
-//! The program `flow_trials`: drives a core by its calls, without any runtime, for the benches.
+//! The program `flow_trials`: drives a core by its calls, without any runtime, and simulates one, for trials and benches.
 //!
 //! `core N` drives N flows to their ends, and prints how many flows and events there are. `journal N P R` makes their
 //! journal's text P times and reads it R times, and prints how many events and bytes there are. `text N` prints that text.
 //! `watch N` does what `core N` does; then it drives N flows by the loop of the runtimes, over a library that refuses one call
 //! for want of memory, each call in turn, and prints how many calls there are where each was made once and told of before and
-//! after.
+//! after, and how many of all these journals the auditor upholds. `trials` does what `watch 16` does, and simulates small programs
+//! and flows of the load, whose journals are audited too.
 #![tactic(auto)]
 
 mod journals;
+mod readying;
+mod simulations;
 mod turns;
 mod watching;
 mod words;
 
 use flow_core::Core;
+use flux_library::Library;
 use flux_values::Bytes;
 use journals::{entry_count, journal_of, print_again, read_again};
 use nodes_counter::Counter;
+use simulations::answer_rows;
 use std::alloc::Global;
 use std::env;
 use std::io::Write;
 use std::process::ExitCode;
 use trial_ends::Trouble;
-use trial_programs::{NESTED, Watched, checked_of, numbers, open};
+use trial_programs::{Flows, LEFT_OUT, NESTED, Watched, checked_of, numbers, open};
 use turns::drive;
 use watching::{Calls, Refusing, drain_told};
 use words::{Words, read_words};
@@ -76,8 +81,36 @@ fn answer_text(rt: &HostRuntime, flows: u32) -> Result<(), Trouble> {
     Ok(())
 }
 
+/// What came of flows whose calls are watched.
+struct Watch {
+    calls: u32,
+    /// How many journals the auditor upholds.
+    upheld: u32,
+}
+
+/// 1 where the auditor upholds the journal of so many flows, without one of so many lines too, and else 0.
+fn upheld<L: Library>(
+    alloc: Global,
+    flows: u32,
+    core: &Core<L>,
+    left_out: usize,
+) -> Result<u32, Trouble> {
+    let given = numbers(alloc, flows)?;
+    let flows = Flows {
+        text: NESTED,
+        given: given.as_slice(),
+    };
+    Ok(u32::from(flows.uphold(alloc, journal_of(core), left_out)?))
+}
+
+/// The same of flows that are driven by turns.
+fn upheld_by_turns(alloc: Global, flows: u32) -> Result<u32, Trouble> {
+    let core = driven(alloc, flows)?;
+    upheld(alloc, flows, &core, LEFT_OUT)
+}
+
 /// How many calls flows make, of which one is refused and made again. Behind the refusal each call was told of, too.
-fn watched_calls(alloc: Global, flows: u32, refused: u32) -> Result<u32, Trouble> {
+fn watched(alloc: Global, flows: u32, refused: u32) -> Result<Watch, Trouble> {
     let calls = Calls::new();
     let numbers = numbers(alloc, flows)?;
     let watcher = Refusing {
@@ -91,18 +124,34 @@ fn watched_calls(alloc: Global, flows: u32, refused: u32) -> Result<u32, Trouble
             return Err(Trouble::Memory);
         }
     }
-    calls.count()
+    Ok(Watch {
+        calls: calls.count()?,
+        upheld: upheld(alloc, flows, &core, 0)?,
+    })
+}
+
+/// The same, without a refusal and with each call refused in turn.
+fn watched_all(alloc: Global, flows: u32) -> Result<Watch, Trouble> {
+    let Watch { calls, mut upheld } = watched(alloc, flows, u32::MAX)?;
+    for refused in 0..calls {
+        let Watch {
+            calls: made,
+            upheld: more,
+        } = watched(alloc, flows, refused)?;
+        if made != calls.saturating_add(1) {
+            return Err(Trouble::Wrong);
+        }
+        upheld = upheld.saturating_add(more);
+    }
+    Ok(Watch { calls, upheld })
 }
 
 fn answer_watch(rt: &HostRuntime, flows: u32) -> Result<(), Trouble> {
     answer_core(rt, flows)?;
-    let whole = watched_calls(rt.alloc(), flows, u32::MAX)?;
-    for refused in 0..whole {
-        if watched_calls(rt.alloc(), flows, refused)? != whole.saturating_add(1) {
-            return Err(Trouble::Wrong);
-        }
-    }
-    println!(rt; "calls {whole}")?;
+    let by_turns = upheld_by_turns(rt.alloc(), flows)?;
+    let Watch { calls, upheld } = watched_all(rt.alloc(), flows)?;
+    println!(rt; "calls {calls}")?;
+    println!(rt; "journals upheld: {by_turns} by turns, {upheld} of watched calls")?;
     Ok(())
 }
 
@@ -117,6 +166,10 @@ fn answer(rt: &HostRuntime) -> Result<(), Trouble> {
         } => answer_journal(rt, flows, prints, reads),
         Words::Text { flows } => answer_text(rt, flows),
         Words::Watch { flows } => answer_watch(rt, flows),
+        Words::Trials => {
+            answer_watch(rt, 16)?;
+            answer_rows(rt)
+        }
     }
 }
 

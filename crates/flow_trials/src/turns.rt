@@ -11,7 +11,7 @@ use std::alloc::Global;
 use std::collections::{BTreeMap, VecDeque};
 
 /// What a flow did in its turn.
-#[derive(Clone, Copy, Debug, PartialEq, Eq)]
+#[derive(Clone, Copy)]
 pub enum Turn {
     Went,
     Waits(Key),

@@ -9,6 +9,7 @@ pub enum Words {
     Journal { flows: u32, prints: u32, reads: u32 },
     Text { flows: u32 },
     Watch { flows: u32 },
+    Trials,
 }
 
 /// The numbers that words spell.
@@ -32,6 +33,7 @@ fn command_of(command: &str, numbers: &[u32]) -> Result<Words, Trouble> {
         }),
         ("text", [flows]) => Ok(Words::Text { flows: *flows }),
         ("watch", [flows]) => Ok(Words::Watch { flows: *flows }),
+        ("trials", []) => Ok(Words::Trials),
         _ => Err(Trouble::Words),
     }
 }

@@ -9,15 +9,17 @@ use std::marker::Sync;
 use std::sync::Wait;
 use std::thread::Threads;
 use trial_ends::Trouble;
-use trial_programs::numbers;
+use trial_programs::{Flows, numbers};
 
 /// What came of a crowd.
-#[derive(Clone, Copy, Debug)]
+#[derive(Clone, Copy)]
 pub struct Crowd {
     /// How many flows have ended.
     pub ended: u32,
     /// The greatest number that a call put into a cell.
     pub greatest: i64,
+    /// Whether the auditor upholds the journal.
+    pub is_upheld: bool,
 }
 
 /// The greatest of a number and those that are put.
@@ -51,9 +53,11 @@ pub fn drive_crowd<R: Threads + Wait + Sync>(
     flows: u32,
 ) -> Result<Crowd, Trouble> {
     let given = numbers(alloc, flows)?;
-    let run = run_text(rt, alloc, driver, text, given.as_slice(), &OpenGate)?;
+    let given = given.as_slice();
+    let run = run_text(rt, alloc, driver, text, given, &OpenGate)?;
     Ok(Crowd {
         ended: run.ended,
         greatest: greatest_in(run.journal.entries.as_slice()),
+        is_upheld: Flows { text, given }.uphold(alloc, &run.journal, 0)?,
     })
 }

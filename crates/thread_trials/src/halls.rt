@@ -14,7 +14,7 @@ use trial_ends::Trouble;
 use trial_programs::{FREE, open};
 
 /// What two seats got.
-#[derive(Clone, Copy, Debug)]
+#[derive(Clone, Copy)]
 pub struct Tries {
     /// Whether the first one's flow made a step in its turn.
     pub stepped: bool,
@@ -109,6 +109,11 @@ pub fn two_tries<R: Wait>(rt: &R, alloc: Global) -> Result<Tries, Trouble> {
         number: 5,
     }];
     let core = open(alloc, FREE, &given, Counter)?.core;
+    tries_of(rt, alloc, core)
+}
+
+/// Two seats try at a hall with this core.
+fn tries_of<R: Wait>(rt: &R, alloc: Global, core: Core<Counter>) -> Result<Tries, Trouble> {
     match Hall::new(alloc, core) {
         Ok((hall, seat)) => tries_at(rt, hall, seat),
         Err(_) => Err(Trouble::Memory),

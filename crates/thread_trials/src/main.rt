@@ -1,7 +1,8 @@
 //! The program `thread_trials`: what only calls show of the hall, the queue and the runtimes with threads.
 //!
-//! It prints what came of each trial, which is the same whatever the order of the threads' turns. With the words
-//! `heavy RUNTIME FLOWS ROUNDS` it drives flows of heavy calls, for the benches.
+//! It prints what came of each trial, which is the same whatever the order of the threads' turns. Each journal of flows that were driven
+//! to their ends is audited. With the words `heavy RUNTIME FLOWS ROUNDS` it drives flows of heavy calls, for the benches, and audits
+//! nothing.
 #![tactic(auto)]
 
 mod burdens;
@@ -37,7 +38,7 @@ use words::{DRIVERS, Words, read_words};
 const SEEDS: u32 = 10;
 
 /// So often each of them is driven.
-const TIMES: u32 = 20;
+const TIMES: u32 = 10;
 
 /// The programs of the crowds, and what their flows do.
 const CROWDS: &[(&[u8], &str)] = &[
@@ -83,7 +84,9 @@ fn answer_seeds<R: Threads + Wait + Sync + Print>(
     name: &str,
 ) -> Result<(), Trouble> {
     let kept = kept(rt, alloc, driver, SEEDS, TIMES)?;
-    println!(rt; "{name}: {SEEDS} programs, {TIMES} times each: {kept} journals keep each rule")?;
+    println!(rt;
+        "{name}: {SEEDS} programs, {TIMES} times each: {kept} journals keep each rule and are upheld"
+    )?;
     Ok(())
 }
 
@@ -96,7 +99,9 @@ fn answer_nested<R: Threads + Wait + Sync + Print>(
 ) -> Result<(), Trouble> {
     for flows in [0, 1, 65] {
         let nested = nested_kept(rt, alloc, driver, flows)?;
-        println!(rt; "{name}: {flows} flows through nested nodes keep each rule: {nested}")?;
+        println!(rt;
+            "{name}: {flows} flows through nested nodes keep each rule and are upheld: {nested}"
+        )?;
     }
     Ok(())
 }
@@ -111,8 +116,8 @@ fn answer_refusals<R: Threads + Wait + Sync + Print>(
     for call in 1..=4 {
         let drives = driven_twice(rt, alloc, driver, call)?;
         println!(rt;
-            "{name}: call {call} is refused: stopped {}, ended then {}",
-            drives.first_stopped, drives.ended
+            "{name}: call {call} is refused: stopped {}, ended then {}, upheld {}",
+            drives.first_stopped, drives.ended, drives.is_upheld
         )?;
     }
     Ok(())
@@ -126,7 +131,9 @@ fn answer_beside<R: Threads + Wait + Sync + Print>(
     name: &str,
 ) -> Result<(), Trouble> {
     let held = calls_held(rt, alloc, driver)?;
-    println!(rt; "{name}: the first call waited for another flow's: {held}")?;
+    println!(rt;
+        "{name}: the first call waited for another flow's, and the journal is upheld: {held}"
+    )?;
     Ok(())
 }
 
@@ -140,8 +147,8 @@ fn answer_crowds<R: Threads + Wait + Sync + Print>(
     for (text, kind) in CROWDS {
         let crowd = drive_crowd(rt, alloc, driver, text, 4_096)?;
         println!(rt;
-            "{name}: {kind}: {} flows have ended, the greatest put is {}",
-            crowd.ended, crowd.greatest
+            "{name}: {kind}: {} flows have ended, the greatest put is {}, upheld {}",
+            crowd.ended, crowd.greatest, crowd.is_upheld
         )?;
     }
     Ok(())

@@ -1,7 +1,7 @@
 //! A library that answers want of memory once.
 
 use crate::burdens::Burden;
-use crate::runs::{Driver, drive, ended_in};
+use crate::runs::{Driver, drive, run_of};
 use flow_core::{Core, OpenGate};
 use flux_library::Library;
 use plain_journals::Given;
@@ -10,14 +10,16 @@ use std::marker::{Send, Sync};
 use std::sync::Wait;
 use std::thread::Threads;
 use trial_ends::Trouble;
-use trial_programs::{COUNTING, Watched, open};
+use trial_programs::{COUNTING, Flows, LEFT_OUT, Opened, Watched, open};
 
 /// What came of two drives.
-#[derive(Clone, Copy, Debug)]
+#[derive(Clone, Copy)]
 pub struct Drives {
     pub first_stopped: bool,
     /// How many flows have ended behind the second.
     pub ended: u32,
+    /// Whether the auditor upholds the journal.
+    pub is_upheld: bool,
 }
 
 /// Drives a core, and says whether it stopped before its end.
@@ -44,14 +46,20 @@ pub fn driven_twice<R: Threads + Wait + Sync>(
         number: 1,
     }; 4];
     let watcher = Burden::refusing(call);
-    let core = open(alloc, COUNTING, &given, Watched { watcher })?.core;
+    let Opened { core, program } = open(alloc, COUNTING, &given, Watched { watcher })?;
     let (first_stopped, core) = drive_on(rt, driver, core);
     let (second_stopped, core) = drive_on(rt, driver, core);
     if second_stopped {
         return Err(Trouble::Memory);
     }
+    let run = run_of(core, program);
+    let flows = Flows {
+        text: COUNTING,
+        given: &given,
+    };
     Ok(Drives {
         first_stopped,
-        ended: ended_in(&core),
+        ended: run.ended,
+        is_upheld: flows.uphold(alloc, &run.journal, LEFT_OUT)?,
     })
 }

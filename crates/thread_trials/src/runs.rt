@@ -15,10 +15,10 @@ use std::marker::{Send, Sync};
 use std::sync::{Arc, Wait};
 use std::thread::Threads;
 use trial_ends::Trouble;
-use trial_programs::{FREE, NESTED, Opened, numbers, numbers_of, open, text_of};
+use trial_programs::{FREE, Flows, LEFT_OUT, NESTED, Opened, numbers, numbers_of, open, text_of};
 
 /// Which runtime.
-#[derive(Clone, Copy, Debug)]
+#[derive(Clone, Copy)]
 pub enum Driver {
     /// On the thread that calls.
     Event,
@@ -57,7 +57,7 @@ pub struct Run {
     pub ended: u32,
 }
 
-fn run_of<L: Library>(core: Core<L>, program: Arc<Program>) -> Run {
+pub fn run_of<L: Library>(core: Core<L>, program: Arc<Program>) -> Run {
     let ended = ended_in(&core);
     let (journal, _) = core.into_parts();
     Run {
@@ -83,20 +83,23 @@ pub fn run_text<G: Gate + Sync, R: Threads + Wait + Sync>(
     }
 }
 
-/// Whether the journal of driven flows is what plain lists say that it must be.
+/// Whether the journal of driven flows is what plain lists say that it must be, and the auditor upholds it, without one of so many
+/// lines too.
 fn keeps_rules<R: Threads + Wait + Sync>(
     rt: &R,
     alloc: Global,
     driver: Driver,
     text: &[u8],
     given: &[Given],
+    left_out: usize,
 ) -> Result<bool, Trouble> {
     let run = run_text(rt, alloc, driver, text, given, &OpenGate)?;
     let entries = run.journal.entries.as_slice();
-    Ok(check_journal(alloc, &run.program, given, entries).is_ok())
+    let is_kept = check_journal(alloc, &run.program, given, entries).is_ok();
+    Ok(is_kept && Flows { text, given }.uphold(alloc, &run.journal, left_out)?)
 }
 
-/// Of so many drives of a seed's program, how many made a journal that keeps each rule.
+/// Of so many drives of a seed's program, how many made a journal that keeps each rule. Of the first one lines are left out.
 fn kept_of<R: Threads + Wait + Sync>(
     rt: &R,
     alloc: Global,
@@ -107,10 +110,13 @@ fn kept_of<R: Threads + Wait + Sync>(
     let text = text_of(alloc, seed)?;
     let given = numbers_of(alloc, seed)?;
     let mut kept: u32 = 0;
+    let mut left_out = LEFT_OUT;
     for _time in 0..times {
-        if keeps_rules(rt, alloc, driver, text.as_bytes(), given.as_slice())? {
+        let given = given.as_slice();
+        if keeps_rules(rt, alloc, driver, text.as_bytes(), given, left_out)? {
             kept = kept.saturating_add(1);
         }
+        left_out = 0;
     }
     Ok(kept)
 }
@@ -138,10 +144,10 @@ pub fn nested_kept<R: Threads + Wait + Sync>(
     flows: u32,
 ) -> Result<bool, Trouble> {
     let given = numbers(alloc, flows)?;
-    keeps_rules(rt, alloc, driver, NESTED, given.as_slice())
+    keeps_rules(rt, alloc, driver, NESTED, given.as_slice(), LEFT_OUT)
 }
 
-/// Whether the first call of two flows was held until the other flow called.
+/// Whether the first call of two flows was held until the other flow called, and the auditor upholds the journal.
 pub fn calls_held<R: Threads + Wait + Sync>(
     rt: &R,
     alloc: Global,
@@ -149,6 +155,10 @@ pub fn calls_held<R: Threads + Wait + Sync>(
 ) -> Result<bool, Trouble> {
     let given = numbers(alloc, 2)?;
     let gate = Holding::new();
-    drop(run_text(rt, alloc, driver, FREE, given.as_slice(), &gate)?);
-    Ok(gate.was_seen())
+    let run = run_text(rt, alloc, driver, FREE, given.as_slice(), &gate)?;
+    let flows = Flows {
+        text: FREE,
+        given: given.as_slice(),
+    };
+    Ok(gate.was_met() && flows.uphold(alloc, &run.journal, LEFT_OUT)?)
 }

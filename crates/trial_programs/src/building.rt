@@ -1,4 +1,4 @@
-//! From a text and the numbers that its sources give to a core whose flows have done nothing.
+//! From a text and the numbers that its sources give to what flows run in, and to a core whose flows have done nothing.
 
 ghost use Rattle.std.specs.Prelude.{◌≡◌, ◌≤◌, IfOk, length};
 ghost use Rattle.std.specs.Arc.{arc_value};
@@ -9,6 +9,7 @@ ghost use Rattle.flux_model.specs.Names.{IsNamed};
 ghost use Rattle.flux_model.specs.Numbered.{IsNumbered};
 ghost use Rattle.flux_model.specs.Soundness.{IsSound};
 ghost use Rattle.flow_state.specs.States.{MayRun};
+ghost use Rattle.trial_programs.specs.Made.{IsMadeOf};
 
 use flow_core::{Core, Setup};
 use flux_cells::Cells;
@@ -74,7 +75,7 @@ fn item_of(alloc: Global, checked: &Checked, given: Given) -> Result<Item, Troub
 }
 
 /// An item for each flow.
-fn items_of(alloc: Global, checked: &Checked, given: &[Given]) -> Result<List<Item>, Trouble>
+pub fn items_of(alloc: Global, checked: &Checked, given: &[Given]) -> Result<List<Item>, Trouble>
     ensures fit { IfOk result (AllByRecursion
         (IsItemFor checked.now.program (kinds_at checked.now.sigs.nodes))) }
     ensures few { IfOk result (λ items. length items ≤ 4096) }
@@ -89,24 +90,44 @@ fn items_of(alloc: Global, checked: &Checked, given: &[Given]) -> Result<List<It
     Ok(items)
 }
 
-/// A core of a program that may be run.
-fn core_of<L: Library>(
+/// What is made of a program with its plans, of items and of a library. No cell has anything at the start.
+pub fn setup_of<L: Library>(
     alloc: Global,
-    program: Arc<Program>,
+    program: Program,
     plans: List<VerifiedPlan>,
     items: List<Item>,
     library: L,
-) -> Result<Core<L>, Memory>
-    requires { MayRun (L.meaning library) (arc_value program) plans items }
+) -> Result<Setup<L>, Memory>
+    ensures { IfOk result (IsMadeOf program plans items library) }
 {
-    let setup = Setup {
+    let program = Arc::new(alloc, program)?;
+    let plans = Arc::new(alloc, plans)?;
+    let library = Arc::new(alloc, library)?;
+    Ok(Setup {
         program,
-        plans: Arc::new(alloc, plans)?,
+        plans,
         items,
         opening: Cells::new(alloc),
-        library: Arc::new(alloc, library)?,
-    };
-    Core::new(alloc, setup)
+        library,
+    })
+}
+
+/// What the flows of the text's program run in, one flow for each number.
+pub fn set_up<L: Library>(
+    alloc: Global,
+    text: &[u8],
+    given: &[Given],
+    library: L,
+) -> Result<Setup<L>, Trouble>
+    ensures run { IfOk result (λ setup. MayRun (L.meaning (arc_value setup.library))
+        (arc_value setup.program) (arc_value setup.plans) setup.items) }
+    ensures named { IfOk result (λ setup. IsNamed (arc_value setup.program)) }
+{
+    let checked = checked_of(alloc, text, &library)?;
+    let plans = compile(alloc, &checked)?;
+    let items = items_of(alloc, &checked, given)?;
+    let setup = setup_of(alloc, checked.program, plans, items, library)?;
+    Ok(setup)
 }
 
 /// A core of the text's program, with a flow for each number.
@@ -116,13 +137,8 @@ pub fn open<L: Library>(
     given: &[Given],
     library: L,
 ) -> Result<Opened<L>, Trouble> {
-    let checked = checked_of(alloc, text, &library)?;
-    let plans = compile(alloc, &checked)?;
-    let items = items_of(alloc, &checked, given)?;
-    let program = Arc::new(alloc, checked.program)?;
-    let kept = Arc::try_clone(&program)?;
-    Ok(Opened {
-        core: core_of(alloc, program, plans, items, library)?,
-        program: kept,
-    })
+    let setup = set_up(alloc, text, given, library)?;
+    let program = Arc::try_clone(&setup.program)?;
+    let core = Core::new(alloc, setup)?;
+    Ok(Opened { core, program })
 }

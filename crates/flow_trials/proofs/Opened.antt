@@ -1,5 +1,5 @@
 -- Cores that are opened with what a setup is made of.
-use Rattle.std.proofs.Common.{◌≡◌, ℕ, zero, suc, List, [], ◌∷◌, map, Option, None, refl, sym, ap, subst, ◌∙◌}
+use Rattle.std.proofs.Common.{◌≡◌, ℕ, zero, suc, List, [], ◌∷◌, map, Option, None, refl, ap, ◌∙◌}
 use Rattle.std.specs.List.{slice_get}
 use Rattle.std.specs.Option.{option_flatten}
 use Rattle.std.specs.Arc.{arc_value}
@@ -9,9 +9,9 @@ use Rattle.flux_model.specs.declared.items.Item.{Item}
 use Rattle.flux_plan.specs.declared.plans.Plan.{Plan}
 use Rattle.flow_state.specs.declared.inputs.Inputs.{Inputs}
 use Rattle.flow_state.specs.declared.setups.Setup as code
-use Rattle.flow_state.specs.States.{MayRun}
 use Rattle.flow_core.specs.States.{CoreState, begun_by, opened}
-use Rattle.simulation_trials.specs.Ready.{IsMadeOf, IsOpened}
+use Rattle.trial_programs.specs.Made.{IsMadeOf}
+use Rattle.flow_trials.specs.Ready.{IsOpened}
 
 -- where no call is begun
 abbrev no_calls : List Item → List (Option Inputs)
@@ -24,15 +24,6 @@ none-begun (item ∷ items) (suc flow) = none-begun items flow
 
 module _ {L : Type 0} (meaning : L → LibraryMeaning) (program : Program) (plans : List Plan) (items : List Item)
     (library : L) (setup : code.Setup L) (made : IsMadeOf program plans items library setup) where
-  pub may_run : MayRun (meaning library) program plans items
-      → MayRun (meaning (arc_value setup.library)) (arc_value setup.program) (arc_value setup.plans) setup.items
-  may_run may =
-      subst (λ (l : L). MayRun (meaning l) (arc_value setup.program) (arc_value setup.plans) setup.items)
-      (sym made.library_)
-      (subst (λ (p : Program). MayRun (meaning library) p (arc_value setup.plans) setup.items) (sym made.program_)
-      (subst (λ (ps : List Plan). MayRun (meaning library) program ps setup.items) (sym made.plans_)
-      (subst (λ (its : List Item). MayRun (meaning library) program plans its) (sym made.items_) may)))
-
   pub is_opened : (core : CoreState L)
       → core ≡ opened (arc_value setup.program) (arc_value setup.plans) setup.items setup.opening (arc_value setup.library)
       → IsOpened program items core

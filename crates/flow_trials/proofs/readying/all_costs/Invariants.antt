@@ -1,6 +1,6 @@
 use Rattle.std.proofs.Common.{◌≡◌, ◌≤◌, length}
 use Rattle.std.specs.List.{AllByRecursion}
-use Rattle.simulation_trials.proofs.building.all_costs.Given as goal
+use Rattle.flow_trials.proofs.readying.all_costs.Given as goal
 
 -- so many costs
 abbrev pub invariant-loop-node : goal.invariant-loop-node

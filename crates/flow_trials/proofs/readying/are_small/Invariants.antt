@@ -1,7 +1,7 @@
 use Rattle.std.proofs.Common.{◌≡◌, ◌+◌, take, slice_index}
 use Rattle.std.specs.List.{sum_by}
 use Rattle.flux_model.specs.declared.items.Item.{Item}
-use Rattle.simulation_trials.proofs.building.are_small.Given as goal
+use Rattle.flow_trials.proofs.readying.are_small.Given as goal
 
 -- what is left, and what the items so far come to
 abbrev pub invariant-loop-item : goal.invariant-loop-item

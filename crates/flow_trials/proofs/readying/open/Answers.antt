@@ -1,5 +1,6 @@
-use Rattle.simulation_trials.proofs.Opened.{may_run, is_opened}
-use Rattle.simulation_trials.proofs.building.open.Goals as goal
+use Rattle.trial_programs.proofs.Made.{may_run}
+use Rattle.flow_trials.proofs.Opened.{is_opened}
+use Rattle.flow_trials.proofs.readying.open.Goals as goal
 
 pub new-requires : goal.new-requires
 new-requires g c =

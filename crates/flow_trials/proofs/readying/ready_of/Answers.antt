@@ -1,8 +1,8 @@
 use Rattle.std.proofs.Common.{length, sym, ap, ◌∙◌}
 use Rattle.flux_model.specs.declared.programs.Program.{Program}
 use Rattle.flux_compile.proofs.Apart.{sound_apart}
-use Rattle.simulation_trials.proofs.Sizes.{small}
-use Rattle.simulation_trials.proofs.building.ready_of.Goals as goal
+use Rattle.flow_trials.proofs.Sizes.{small}
+use Rattle.flow_trials.proofs.readying.ready_of.Goals as goal
 
 pub compile-requires : goal.compile-requires
 compile-requires g c = record { apart = sound_apart _ _ _ c.in_ok-checked.ensures.sound }

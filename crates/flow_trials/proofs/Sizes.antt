@@ -21,7 +21,7 @@ use Rattle.flux_laws.proofs.Locks.{locks_are_there}
 use Rattle.flux_hoist.specs.Sets.{held_by}
 use Rattle.flux_hoist.specs.Keeping.{Keeps}
 use Rattle.flow_core.specs.States.{CoreState, setup_in}
-use Rattle.simulation_trials.specs.Ready.{IsOpened}
+use Rattle.flow_trials.specs.Ready.{IsOpened}
 
 line-same : (setup : Setup) (f : SourceLine → ℕ)
     → ((line : SourceLine) → f line ≡ source_size setup.locks setup.program line) → (lines : List SourceLine) (k : ℕ)
