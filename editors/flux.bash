@@ -7,7 +7,7 @@ _flux() {
     # bash takes = for a word of its own.
     if [ "$word" = "=" ]; then word=""; elif [ "$before" = "=" ]; then before="${COMP_WORDS[COMP_CWORD - 2]}"; fi
     if [ "$COMP_CWORD" = 1 ]; then
-        values="check plan format run audit load serve help simulate"
+        values="check plan format run audit load serve help simulate swarm"
         [[ "$1" != */* ]] || values+=" prove version nodes install"
         mapfile -t COMPREPLY < <(compgen -W "$values" -- "$word")
         return
@@ -18,6 +18,7 @@ _flux() {
         load) options="--runtime" ;;
         serve) options="--port --docs --batches --runtime" ;;
         simulate) options="--processors --costs --docs" ;;
+        swarm) options="--docs" ;;
     esac
     # An option of another command completes nothing.
     [[ " $options " = *" $before "* ]] || before=""
@@ -45,6 +46,7 @@ _flux() {
         serve) most=1 ;;
         help) most=0 ;;
         simulate) most=2 ;;
+        swarm) most=3 ;;
     esac
     for ((place = 2; place < COMP_CWORD; place++)); do
         case "${COMP_WORDS[place]}" in
