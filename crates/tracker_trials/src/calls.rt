@@ -24,11 +24,14 @@ pub fn name(alloc: Global, mark: u8) -> Result<TextBytes, Trouble> {
     text(alloc, name.as_slice())
 }
 
+/// A byte for the number's last digit of 64.
+fn digit(number: u32) -> u8 {
+    b'0' + (number % 64) as u8
+}
+
 /// The address of a made-up peer, by its number.
 pub fn address_of(number: u32) -> [u8; 6] {
-    let high = b'0' + (number / 64 % 64) as u8;
-    let low = b'0' + (number % 64) as u8;
-    [b'0', b'0', b'0', b'0', high, low]
+    [b'0', b'0', b'0', b'0', digit(number / 64), digit(number)]
 }
 
 /// The text of a swarm of so many peers, with nothing left.
@@ -44,22 +47,28 @@ pub fn swarm_of(alloc: Global, count: u32) -> Result<Vec<u8>, Trouble> {
     Ok(swarm)
 }
 
+/// The mark of a name and its value in the cell before a call, if it has one.
+fn kept_by(alloc: Global, held: Held) -> Result<Option<(u8, Value)>, Trouble> {
+    match held {
+        Held::Nothing => Ok(None),
+        Held::Swarm(bytes) => Ok(Some((b'p', Value::Text(text(alloc, bytes)?)))),
+        Held::Peers(count) => Ok(Some((b'p', Value::Text(full_text(alloc, count)?)))),
+        Held::NumberForSwarm => Ok(Some((b'p', Value::Int(1)))),
+        Held::Completions(number) => Ok(Some((b'c', Value::Int(number)))),
+        Held::TruthForCompletions => Ok(Some((b'c', Value::Bool(true)))),
+    }
+}
+
+/// The text of a swarm of so many peers, as a value has it.
+fn full_text(alloc: Global, count: u32) -> Result<TextBytes, Trouble> {
+    text(alloc, swarm_of(alloc, count)?.as_slice())
+}
+
 /// The cell before a call.
 fn cell_with(alloc: Global, held: Held) -> Result<Cell, Trouble> {
     let mut cell = Cell::new(alloc);
-    match held {
-        Held::Nothing => {}
-        Held::Swarm(bytes) => {
-            let swarm = text(alloc, bytes)?;
-            cell.put(name(alloc, b'p')?, Some(Value::Text(swarm)))?;
-        }
-        Held::Peers(count) => {
-            let swarm = text(alloc, swarm_of(alloc, count)?.as_slice())?;
-            cell.put(name(alloc, b'p')?, Some(Value::Text(swarm)))?;
-        }
-        Held::NumberForSwarm => cell.put(name(alloc, b'p')?, Some(Value::Int(1)))?,
-        Held::Completions(number) => cell.put(name(alloc, b'c')?, Some(Value::Int(number)))?,
-        Held::TruthForCompletions => cell.put(name(alloc, b'c')?, Some(Value::Bool(true)))?,
+    if let Some((mark, value)) = kept_by(alloc, held)? {
+        cell.put(name(alloc, mark)?, Some(value))?;
     }
     Ok(cell)
 }
