@@ -14,6 +14,8 @@ use Rattle.flux_words.specs.declared.loads.TheConstants.{LOAD_LIMIT, FIRST_LIMIT
 use Rattle.flux_words.specs.declared.costs.TheConstants.{PROCESSOR_LIMIT, COST_LIMIT, COSTS_LIMIT}
 use Rattle.flux_driver.specs.declared.files.TheConstants.{PROGRAM_FILE_LIMIT, ITEMS_FILE_LIMIT, JOURNAL_FILE_LIMIT}
 use Rattle.nodes_cache.specs.declared.entries.TheConstants.{NAME_LIMIT, ENTRY_LIMIT}
+use Rattle.nodes_tracker.specs.declared.peers.TheConstants.{PEER_LIMIT}
+use Rattle.nodes_tracker.specs.declared.replies.TheConstants.{SHOWN_LIMIT}
 use Rattle.nodes_web.specs.declared.requests.TheConstants.{FIELD_LIMIT}
 
 -- bytes of files, and of the text of a program
@@ -54,11 +56,14 @@ pub record AreWordLimits : Type 0 where
   pub cost : COST_LIMIT ≡ 1000
   pub costs : COSTS_LIMIT ≡ 4096
 
--- in nodes: bytes of a cached name, entries of a cache, fields of a request's head
+-- in nodes: bytes of a cached name, entries of a cache, fields of a request's head, peers of a swarm, and those of
+-- them that an answer shows
 pub record AreNodeLimits : Type 0 where
   pub name : NAME_LIMIT ≡ 1024
   pub entries : ENTRY_LIMIT ≡ 8
   pub fields : FIELD_LIMIT ≡ 64
+  pub peers : PEER_LIMIT ≡ 1000
+  pub shown : SHOWN_LIMIT ≡ 50
 
 -- at a door: links that are out
 pub record AreDoorLimits : Type 0 where
