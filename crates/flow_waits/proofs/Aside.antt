@@ -1,20 +1,16 @@
--- Flows that are set aside for a look: what is covered with them, and who is found.
+-- Flows that are set aside: what is covered with them, and who is found.
 use Rattle.std.proofs.Common.{◌≡◌, ◌≢◌, ◌<◌, ◌⊎◌, inl, inr, ℕ, Bool, true, false, not, ◌||◌, ◌&&◌, eqb, List, [], ◌∷◌, ◌++◌, length, Option, Some, None, refl, sym, ap, subst, ◌∙◌, append_assoc, length-append, arith}
-use Rattle.std.specs.Prelude.{IsSome, IsTrue, ◌↔◌, MatchOption}
-use Rattle.std.specs.List.{list_any, AllByRecursion}
+use Rattle.std.specs.Prelude.{IsSome, IsTrue, ◌↔◌}
 use Rattle.std.specs.Option.{is_some}
 use Rattle.std.proofs.lemmas.Bool.{cases_eq, eqb-true, false≢true}
 use Rattle.std.proofs.lemmas.List.Folds.{list_any-append}
 use Rattle.flux_values.specs.declared.answers.Mode.{Mode}
 use Rattle.flux_values.specs.declared.answers.Mode.TheVariants.{Reader, Writer}
-use Rattle.flux_values.specs.declared.values.Value.{Value}
 use Rattle.flux_values.specs.Meanings.{LibraryMeaning}
 use Rattle.flux_model.specs.declared.items.FlowNo.{FlowNo}
-use Rattle.flux_model.specs.declared.programs.NodeNo.{NodeNo}
 use Rattle.flow_model.specs.declared.journals.CallMade.{CallMade}
 use Rattle.flow_model.specs.declared.journals.Entry.{Entry}
-use Rattle.flow_model.specs.declared.journals.Event.{Event}
-use Rattle.flow_model.specs.declared.journals.Event.TheVariants.{Take, Wait, Call, Drop}
+use Rattle.flow_model.specs.declared.journals.Event.TheVariants.{Take, Call, Drop}
 use Rattle.flow_model.specs.declared.journals.Key.{Key}
 use Rattle.flow_model.specs.Setup.{Setup}
 use Rattle.flow_model.specs.Events.{CallIsNext, IsLive}
@@ -24,18 +20,19 @@ use Rattle.flux_laws.specs.Growth.{has_ended}
 use Rattle.flux_laws.proofs.Fronts.{fronts_are_legal}
 use Rattle.flux_laws.proofs.LastMoves.{entries_are_moves}
 use Rattle.flux_laws.proofs.NextEvents.{call-item}
+use Rattle.flux_table.specs.declared.locks.Waiter.{Waiter}
 use Rattle.flow_state.specs.declared.stops.Stop.{Stop}
 use Rattle.flow_state.proofs.Ended.{call-goes_on, not-true}
 use Rattle.flow_state.proofs.Tables.{not-both}
 use Rattle.flow_core.specs.States.{CoreState, setup_in, begun_by, IsKept}
-use Rattle.flow_waits.specs.Idle.{IsIdle, IsFirstIdle, NoneIsIdle}
+use Rattle.flow_waits.specs.Idle.{IsIdle, AllAreBlocked}
 use Rattle.flow_waits.specs.Turns.{IsBefore}
 use Rattle.flow_waits.specs.steps.Staying.{IsFresh}
-use Rattle.flow_waits.specs.steps.Waking.{has, IsMore, IsLess, IsEarliest, IsMoreAt}
-use Rattle.flow_waits.specs.steps.Covers.{Pools, rooms_for, IsReady, IsParked, IsBehind, IsInRoom, IsCovered, Covers, Lags, HasRoom, Parks}
-use Rattle.flow_waits.specs.steps.Aside.{beside, HasSame, AreAside, IsIdleChosen, IsCallEntry, CallsKeepCovers}
+use Rattle.flow_waits.specs.steps.Waking.{has, IsMore, IsLess, IsEarliest, Rooms, IsMoreAt}
+use Rattle.flow_waits.specs.steps.Covers.{Pools, rooms_for, IsReady, IsParked, IsBehind, IsInRoom, IsCovered, Covers, Lags, HasRoom, Parks, WakesFirst, Wakes, served_of, WakesLine}
+use Rattle.flow_waits.specs.steps.Aside.{beside, AreAside, IsIdleChosen, CallsKeepCovers}
 use Rattle.flow_waits.proofs.Ending.{live-is}
-use Rattle.flow_waits.proofs.Membership.{none_has, more_cases, more_there, more_own, less_there, less_own, less_kept}
+use Rattle.flow_waits.proofs.Membership.{none_has, more_cases}
 use Rattle.flow_waits.proofs.Orders.{before-itself, before-then, before-turned}
 use Rattle.flow_waits.proofs.Choosing.{without_ended, parked}
 use Rattle.flow_waits.proofs.Told.{told-other}
@@ -43,7 +40,7 @@ use Rattle.flow_waits.proofs.Woken.{covered-more}
 
 -- ---- members of both
 
-has-both : (a b : List ℕ) (flow : ℕ) → has (a ++ b) flow ≡ (has a flow || has b flow)
+pub has-both : (a b : List ℕ) (flow : ℕ) → has (a ++ b) flow ≡ (has a flow || has b flow)
 has-both a b flow = list_any-append (λ number. eqb flow number) a b
 
 either : (a b : List ℕ) (flow : ℕ) → has (a ++ b) flow ≡ true → (has a flow ≡ true) ⊎ (has b flow ≡ true)
@@ -77,6 +74,12 @@ less-both a old new flow less away other =
     by false e there is = refl
 
 -- ---- the same flows
+
+-- the same flows are looked at, and the same are in rooms
+pub record HasSame (old new : Pools) : Type 0 where
+  pub ready_ : (flow : ℕ) → has new.ready flow ≡ has old.ready flow
+  pub readers_ : new.readers ≡ old.readers
+  pub writers_ : new.writers ≡ old.writers
 
 module _ (setup : Setup) (entries : List Entry) (old new : Pools) (from : ℕ) (same : HasSame old new) where
   rooms : (mode : Mode) → rooms_for new mode ≡ rooms_for old mode
@@ -136,6 +139,68 @@ parks-beside old new aside flow stop parks away = record {
         let b = length-append aside old.ready in
         omega (arith, fewer, a, b)
 
+-- flows that are woken
+
+more-both : (a old new : List ℕ) (flow : ℕ) → IsMore old new flow → IsMore (a ++ old) (a ++ new) flow
+more-both a old new flow more other =
+    has-both a new other ∙ ap (λ b. has a other || b) (more other)
+    ∙ by (has a other) (eqb flow other) ∙ ap (λ b. eqb flow other || b) (sym (has-both a old other))
+  where
+    by : (there same : Bool) → (there || (same || has old other)) ≡ (same || (there || has old other))
+    by true true = refl
+    by true false = refl
+    by false true = refl
+    by false false = refl
+
+pub wakes-beside : (old new : Pools) (aside : List ℕ) (key : Key) (mode : Mode) (from : ℕ) → Wakes old new key mode from
+    → Wakes (beside old aside) (beside new aside) key mode from
+wakes-beside old new aside key mode from wakes = record {
+  first = first mode wakes.first;
+  others = λ other apart. both other (wakes.others other apart);
+}
+  where
+    both : (m : Mode) → rooms_for new m ≡ rooms_for old m
+        → rooms_for (beside new aside) m ≡ rooms_for (beside old aside) m
+    both Reader is = is
+    both Writer is = is
+
+    moved : (rooms fewer : Rooms) → WakesFirst old.ready new.ready rooms fewer key from
+        → WakesFirst (aside ++ old.ready) (aside ++ new.ready) rooms fewer key from
+    moved rooms fewer (inl (none, same, stays)) = inl (none, ap (λ ready. aside ++ ready) same, stays)
+    moved rooms fewer (inr (flow, moves)) = inr (
+      flow,
+      record {
+        earliest = moves.earliest;
+        added = more-both aside old.ready new.ready flow moves.added;
+        left = moves.left;
+      },
+    )
+
+    first : (m : Mode) → WakesFirst old.ready new.ready (rooms_for old m) (rooms_for new m) key from
+        → WakesFirst (aside ++ old.ready) (aside ++ new.ready) (rooms_for (beside old aside) m)
+        (rooms_for (beside new aside) m) key from
+    first Reader is = moved old.readers new.readers is
+    first Writer is = moved old.writers new.writers is
+
+pub line-beside : (old new : Pools) (aside : List ℕ) (line : List Waiter) → WakesLine old new line
+    → WakesLine (beside old aside) (beside new aside) line
+line-beside old new aside line wakes = record {
+  ready_ = members;
+  readers_ = wakes.readers_;
+  writers_ = wakes.writers_;
+}
+  where
+    members : (flow : ℕ) → has (aside ++ new.ready) flow ≡ (has (served_of line) flow || has (aside ++ old.ready) flow)
+    members flow = has-both aside new.ready flow ∙ ap (λ b. has aside flow || b) (wakes.ready_ flow)
+        ∙ by (has aside flow) (has (served_of line) flow)
+        ∙ ap (λ b. has (served_of line) flow || b) (sym (has-both aside old.ready flow))
+      where
+        by : (there served : Bool) → (there || (served || has old.ready flow)) ≡ (served || (there || has old.ready flow))
+        by true true = refl
+        by true false = refl
+        by false true = refl
+        by false false = refl
+
 -- ---- a look
 
 -- a flow of which that is denied has no begun call
@@ -176,17 +241,15 @@ module _ {L : Type 0} (meaning : L → LibraryMeaning) (core : CoreState L) (kep
       call-goes_on setup core.entries kept.legal flow within node args call ended
 
   module _ (old : Pools) (aside : List ℕ) (are : AreAside meaning core old aside from) where
-    -- nobody is aside at first
-    pub not-aside : (flow : ℕ) → IsReady old flow → has aside flow ≡ true → ⊥
-    not-aside flow ready there = are.apart flow there ready
-
-    fewer-apart : (new : Pools) (flow : ℕ) → IsLess old.ready new.ready flow → (other : ℕ) → has aside other ≡ true
-        → IsReady new other → ⊥
-    fewer-apart new flow less other there ready = are.apart other there
-        (less_there old.ready new.ready flow less other ready)
-
     pub aside-exist : (flow : ℕ) → IsReady old flow → flow < length setup.items
     aside-exist flow ready = let covers = are.covers in covers.exist flow (right aside old.ready flow ready)
+
+    -- one that has ended isn't aside
+    ended-away : (flow : ℕ) → IsReady old flow → (IsLive setup core.entries flow → ⊥) → has aside flow ≡ true → ⊥
+    ended-away flow ready ended there =
+        let within = aside-exist flow ready in
+        ended (live-is setup core.entries flow within
+        (not-true (has_ended core.entries flow) (not-ended flow within (are.begun flow there))))
 
     -- one that has ended is no longer looked at
     pub aside-ended : (new : Pools) (flow : ℕ) → IsReady old flow → IsLess old.ready new.ready flow
@@ -194,20 +257,20 @@ module _ {L : Type 0} (meaning : L → LibraryMeaning) (core : CoreState L) (kep
         → AreAside meaning core new aside from
     aside-ended new flow ready less readers writers ended = record {
       covers = without_ended setup core.entries (beside old aside) (beside new aside) from flow are.covers
-          (less-both aside old.ready new.ready flow less (not-aside flow ready)) readers writers ended;
+          (less-both aside old.ready new.ready flow less (ended-away flow ready ended)) readers writers ended;
       begun = are.begun;
-      apart = fewer-apart new flow less;
     }
 
     -- one that is blocked is parked
-    pub aside-parked : (new : Pools) (flow : ℕ) (stop : Stop) → IsReady old flow → Parks old new flow stop
+    pub aside-parked : (new : Pools) (flow : ℕ) (stop : Stop) → IsBlocked setup core.entries flow
+        → Parks old new flow stop
         → ((covers : Covers setup core.entries (beside old aside) from)
         → Parks (beside old aside) (beside new aside) flow stop → Covers setup core.entries (beside new aside) from)
         → AreAside meaning core new aside from
-    aside-parked new flow stop ready parks told = record {
-      covers = told are.covers (parks-beside old new aside flow stop parks (not-aside flow ready));
+    aside-parked new flow stop blocked parks told = record {
+      covers = told are.covers (parks-beside old new aside flow stop parks
+          (λ there. not-blocked flow (are.begun flow there) blocked));
       begun = are.begun;
-      apart = fewer-apart new flow parks.less;
     }
 
     -- one whose call is begun is set aside
@@ -221,7 +284,6 @@ module _ {L : Type 0} (meaning : L → LibraryMeaning) (core : CoreState L) (kep
         writers_ = writers;
       }) are.covers;
       begun = λ other there. begun other (more_cases aside more flow added other there);
-      apart = λ other there now. apart other (more_cases aside more flow added other there) now;
     }
       where
         members : (other : ℕ) → has (more ++ new.ready) other ≡ has (aside ++ old.ready) other
@@ -237,10 +299,6 @@ module _ {L : Type 0} (meaning : L → LibraryMeaning) (core : CoreState L) (kep
         begun : (other : ℕ) → (flow ≡ other) ⊎ (has aside other ≡ true) → IsSome (begun_by core other)
         begun other (inl same) = subst (λ f. IsSome (begun_by core f)) same some
         begun other (inr there) = are.begun other there
-
-        apart : (other : ℕ) → (flow ≡ other) ⊎ (has aside other ≡ true) → IsReady new other → ⊥
-        apart other (inl same) now = less_own old.ready new.ready flow less (subst (IsReady new) (sym same) now)
-        apart other (inr there) now = fewer-apart new flow less other there now
 
     -- who is found
     module _ (flow : FlowNo) (earliest : IsEarliest old.ready from flow.0) (can : CanGoOn setup core.entries flow.0)
@@ -294,9 +352,9 @@ module _ {L : Type 0} (meaning : L → LibraryMeaning) (core : CoreState L) (kep
           by other none apart (inl there) = absurd (none-begun other (are.begun other there) none)
           by other none apart (inr there) = earliest.first other there apart
 
-    -- where nobody is looked at, nobody is idle
-    pub none-idle : old.ready ≡ [] → NoneIsIdle meaning core
-    none-idle empty flow is = let goes = is.can in let covers = are.covers in by (covers.each flow goes.live)
+    -- where nobody is looked at, all are blocked
+    pub all-blocked : old.ready ≡ [] → AllAreBlocked meaning core
+    all-blocked empty flow live none = let covers = are.covers in by (covers.each flow live)
       where
         looked : (third : ℕ) → IsReady (beside old aside) third → IsSome (begun_by core third)
         looked third ready = told (either aside old.ready third ready)
@@ -306,74 +364,15 @@ module _ {L : Type 0} (meaning : L → LibraryMeaning) (core : CoreState L) (kep
             told (inr there) = absurd (none_has old.ready third empty there)
 
         cause : (key : Key) (mode : Mode) → IsBlocked setup core.entries flow ⊎ IsBehind setup core.entries
-            (beside old aside) from key mode flow → ⊥
-        cause key mode (inl blocked) = let goes = is.can in goes.free blocked
-        cause key mode (inr behind) = not-fresh behind.other key mode (looked behind.other behind.ready) behind.fresh
+            (beside old aside) from key mode flow → IsBlocked setup core.entries flow
+        cause key mode (inl blocked) = blocked
+        cause key mode (inr behind) =
+            absurd (not-fresh behind.other key mode (looked behind.other behind.ready) behind.fresh)
 
-        by : IsCovered setup core.entries (beside old aside) from flow → ⊥
-        by (inl ready) = none-begun flow (looked flow ready) is.idle
-        by (inr (inl line)) = let goes = is.can in goes.free line.blocked
+        by : IsCovered setup core.entries (beside old aside) from flow → IsBlocked setup core.entries flow
+        by (inl ready) = absurd (none-begun flow (looked flow ready) none)
+        by (inr (inl line)) = line.blocked
         by (inr (inr room)) = cause room.key room.mode room.cause
-
-  -- nobody is aside at first
-  pub aside-none : (pools : Pools) (aside : List ℕ) → aside ≡ [] → Covers setup core.entries pools from
-      → AreAside meaning core pools aside from
-  aside-none pools aside empty covers = record {
-    covers = subst (λ a. Covers setup core.entries (beside pools a) from) (sym empty) covers;
-    begun = λ flow there. absurd (none_has aside flow empty there);
-    apart = λ flow there ready. none_has aside flow empty there;
-  }
-
--- ---- and all are looked at again
-
-module _ {L : Type 0} (meaning : L → LibraryMeaning) (core : CoreState L) (from : ℕ) (old new : Pools)
-    (aside : List ℕ) (are : AreAside meaning core old aside from) (same : HasSame (beside old aside) new) where
-  pub again-covers : Covers (setup_in meaning core) core.entries new from
-  again-covers = covers-same (setup_in meaning core) core.entries (beside old aside) new from same are.covers
-
-  pub again-chosen : (flow : FlowNo) → IsIdleChosen meaning core (beside old aside) from flow
-      → IsIdleChosen meaning core new from flow
-  again-chosen flow chosen = record {
-    first = chosen.first;
-    ready = same.ready_ flow.0 ∙ chosen.ready;
-    earliest = λ other ready. chosen.earliest other (sym (same.ready_ other) ∙ ready);
-  }
-
-  pub again-found : (found : Option FlowNo) → MatchOption found (NoneIsIdle meaning core)
-      (IsIdleChosen meaning core (beside old aside) from) → MatchOption found (NoneIsIdle meaning core)
-      (IsIdleChosen meaning core new from)
-  again-found None none = none
-  again-found (Some flow) chosen = again-chosen flow chosen
-
--- ---- one flow more is looked at again
-
-pub again-more : (old new : Pools) (aside fewer : List ℕ) (flow : ℕ) (start : Pools)
-    → HasSame start (beside old aside) → has aside flow ≡ true → IsMore old.ready new.ready flow
-    → IsLess aside fewer flow → new.readers ≡ old.readers → new.writers ≡ old.writers
-    → HasSame start (beside new fewer)
-again-more old new aside fewer flow start same there more less readers writers = record {
-  ready_ = λ other. members other ∙ same.ready_ other;
-  readers_ = readers ∙ same.readers_;
-  writers_ = writers ∙ same.writers_;
-}
-  where
-    members : (other : ℕ) → has (fewer ++ new.ready) other ≡ has (aside ++ old.ready) other
-    members other = has-both fewer new.ready other ∙ (λ i. less other i || more other i)
-        ∙ by (eqb flow other) refl (has aside other) refl (has old.ready other)
-        ∙ sym (has-both aside old.ready other)
-      where
-        by : (own : Bool) → eqb flow other ≡ own → (was : Bool) → has aside other ≡ was → (ready : Bool)
-            → ((not own && was) || (own || ready)) ≡ (was || ready)
-        by true e true is ready = refl
-        by true e false is ready = absurd (false≢true (sym is ∙ ap (has aside) (sym (eqb-true flow other e)) ∙ there))
-        by false e was is ready = refl
-
-pub again-none : (start new : Pools) (aside : List ℕ) → aside ≡ [] → HasSame start (beside new aside)
-    → HasSame start new
-again-none start new aside empty same = subst (λ a. HasSame start (beside new a)) empty same
-
-pub same-itself : (pools : Pools) → HasSame pools pools
-same-itself pools = record { ready_ = λ flow. refl; readers_ = refl; writers_ = refl }
 
 -- ---- calls that others finish
 
@@ -396,7 +395,7 @@ module _ (setup : Setup) (entries : List Entry) (flow : FlowNo) (made : CallMade
       live-is setup entries flow.0 within (not-true (has_ended entries flow.0)
       (call-goes_on setup entries before flow.0 within made.node made.args call-next))
 
-  call-ready : IsReady pools flow.0
+  pub call-ready : IsReady pools flow.0
   call-ready = by (covers.each flow.0 call-live)
     where
       unblocked : IsBlocked setup entries flow.0 → ⊥
@@ -425,7 +424,7 @@ module _ (setup : Setup) (entries : List Entry) (flow : FlowNo) (made : CallMade
     later = λ one other key mode ready fresh apart before. before;
   }
 
-  call-keeps : Covers setup (entries ++ record { flow = flow; event = Call made } ∷ []) pools from
+  pub call-keeps : Covers setup (entries ++ record { flow = flow; event = Call made } ∷ []) pools from
   unfolding call-lags
   call-keeps = told-other setup (entries ++ record { flow = flow; event = Call made } ∷ []) legal pools from call-lags
       (λ key mode e. call-no_take made key mode e) (λ key e. call-no_drop made key e)

@@ -14,4 +14,4 @@ pub mod Ending
 pub mod Counting
 pub mod Schedules
 mod Driving
-mod Aside
+pub mod Aside

@@ -15,9 +15,9 @@ use Rattle.flow_model.specs.Legal.{IsLegal}
 use Rattle.flux_table.specs.declared.locks.Waiter.{Waiter}
 use Rattle.flow_state.specs.Lines.{IsLineAt}
 use Rattle.flow_waits.specs.steps.Staying.{IsFresh}
-use Rattle.flow_waits.specs.steps.Covers.{Pools, IsReady, IsParked, IsCovered, Covers, Lags, StayReady, Wakes, WakesLine}
+use Rattle.flow_waits.specs.steps.Covers.{Pools, IsReady, IsParked, IsCovered, Covers, Lags, Wakes, WakesLine}
 use Rattle.flow_waits.proofs.Waking.{IsOwed, carried, parked-fresh}
-use Rattle.flow_waits.proofs.Woken.{AreFresh, woken-ready, woken-kept, woken-covered, woken-fresh, woken-apart, woken-exist, woken-owed, line-ready, line-covered, line-fresh, line-apart, line-exist, line-owed}
+use Rattle.flow_waits.proofs.Woken.{AreFresh, woken-kept, woken-covered, woken-fresh, woken-apart, woken-exist, woken-owed, line-covered, line-fresh, line-apart, line-exist, line-owed}
 
 -- the last of a list
 pub last-is : {X : Type 0} (xs : List X) (x : X) → slice_get (xs ++ x ∷ []) (length (xs ++ x ∷ []) - 1) ≡ Some x
@@ -174,9 +174,3 @@ module _ (setup : Setup) (entries : List Entry) (legal : IsLegal setup entries) 
                 where
                   neither : Take owed.key owed.mode ≡ Drop key → ⊥
                   neither e = cc
-
-      pub drop-ready : StayReady pools new
-      drop-ready flow ready =
-          line-ready setup entries legal two new key from line is_line last flow
-          (woken-ready setup entries one two key Writer from second flow
-          (woken-ready setup entries pools one key Reader from first flow ready))

@@ -2,7 +2,8 @@
 use Rattle.std.specs.Prelude.{◌≡◌, ℕ, None}
 use Rattle.flux_values.specs.Meanings.{LibraryMeaning}
 use Rattle.flux_model.specs.declared.items.FlowNo.{FlowNo}
-use Rattle.flux_laws.specs.Going.{CanGoOn}
+use Rattle.flow_model.specs.Events.{IsLive}
+use Rattle.flux_laws.specs.Going.{IsBlocked, CanGoOn}
 use Rattle.flow_core.specs.States.{CoreState, setup_in, begun_by}
 use Rattle.flow_waits.specs.Turns.{IsBefore}
 
@@ -17,6 +18,7 @@ module _ {L : Type 0} (meaning : L → LibraryMeaning) (core : CoreState L) wher
     pub is : IsIdle flow.0
     pub first : (other : ℕ) → IsIdle other → IsBefore from other flow.0 → ⊥
 
-  -- there is none
-  abbrev pub NoneIsIdle : Type 0
-  NoneIsIdle = (flow : ℕ) → IsIdle flow → ⊥
+  -- there is none: all live flows without a begun call are blocked
+  abbrev pub AllAreBlocked : Type 0
+  AllAreBlocked = (flow : ℕ) → IsLive (setup_in meaning core) core.entries flow → begun_by core flow ≡ None
+      → IsBlocked (setup_in meaning core) core.entries flow

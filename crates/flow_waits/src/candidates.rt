@@ -4,10 +4,11 @@
 //! line are found there; of those that don't, the first at a key in a mode is enough, since they are blocked alike.
 //! So what is done behind each entry doesn't grow with the number of flows.
 
-ghost use Rattle.std.specs.Prelude.{◌≡◌, ℕ, ◌||◌, IfOk, OnOk, MatchOption};
+ghost use Rattle.std.specs.Prelude.{◌≡◌, ℕ, ◌||◌, List, IfOk, OnOk, MatchOption};
 ghost use Rattle.flow_model.specs.Events.{IsLive};
 ghost use Rattle.flow_core.specs.States.{setup_in};
 ghost use Rattle.flow_waits.specs.steps.Waking.{has};
+ghost use Rattle.flow_waits.specs.steps.Aside.{beside};
 ghost use Rattle.flow_waits.specs.steps.Covers.{Covers, IsChosen, Lags, StayReady, Parks, WakesFirst, Wakes, served_of, WakesLine};
 
 mod idle;
@@ -20,6 +21,7 @@ use flux_library::Library;
 use flux_model::{FlowNo, Mode};
 use flux_table::Waiter;
 use flux_values::Memory;
+pub use idle::Idlers;
 use std::alloc::Global;
 use std::marker::Model;
 
@@ -84,6 +86,16 @@ impl Candidates {
     pub fn told<L: Library>(&mut self, core: &Core<L>, from: u32) -> Result<(), Memory>
         requires { Lags (setup_in L.meaning core.now) core.now.entries self.old from }
         ensures covers { OnOk result (Covers (setup_in L.meaning core.now) core.now.entries self.new from) }
+        ensures ready { OnOk result (StayReady self.old self.new) }
+    {
+        self.follow(core, from)
+    }
+
+    /// Looks at the flows that the last entry may have freed. Others may stand beside them.
+    fn follow<L: Library>(&mut self, core: &Core<L>, from: u32) -> Result<(), Memory>
+        ensures covers { (aside : List ℕ)
+            → Lags (setup_in L.meaning core.now) core.now.entries (beside self.old aside) from
+            → OnOk result (Covers (setup_in L.meaning core.now) core.now.entries (beside self.new aside) from) }
         ensures ready { OnOk result (StayReady self.old self.new) }
     {
         let Some(entry) = core.journal().entries.last() else {

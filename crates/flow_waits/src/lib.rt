@@ -8,7 +8,7 @@ mod numbers;
 mod rooms;
 mod turns;
 
-pub use candidates::Candidates;
+pub use candidates::{Candidates, Idlers};
 pub use drains::{drain, drain_by, enabled};
 pub use laws::{blocked_stay, calls_keep_covers, fresh_are_alike, writers_block};
 pub use turns::{Turn, take_turn};

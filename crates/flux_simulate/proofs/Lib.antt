@@ -18,3 +18,4 @@ mod Stopping
 mod Adding
 mod Opening
 mod Handing
+mod Watching

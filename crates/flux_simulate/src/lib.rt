@@ -7,7 +7,6 @@
 #![tactic(auto)]
 
 mod clock;
-mod finding;
 mod processors;
 mod runs;
 mod simulating;

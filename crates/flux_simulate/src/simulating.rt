@@ -1,24 +1,26 @@
 //! The simulation, tick by tick.
 
-ghost use Rattle.std.specs.Prelude.{◌≡◌, ◌<◌, ◌≤◌, ℕ, List, [], length, None, Some, IsSome, IfOk, IfErr, OnOk};
+ghost use Rattle.std.specs.Prelude.{◌≡◌, ◌<◌, ◌≤◌, ℕ, List, [], ◌∷◌, ◌++◌, length, None, Some, IsSome, IfOk, IfErr, OnOk, OnErr};
 ghost use Rattle.std.specs.List.{sum_by};
 ghost use Rattle.flux_laws.specs.Growth.{item_size};
 ghost use Rattle.flow_core.specs.States.{setup_in, begun_by, IsKept};
 ghost use Rattle.flow_core.specs.Runs.{GoesToEnd, GoesOnLegally};
 ghost use Rattle.flow_waits.specs.Idle.{IsFirstIdle};
+ghost use Rattle.flow_waits.specs.steps.Covers.{IsReady, Covers, Lags};
+ghost use Rattle.flow_waits.specs.steps.Aside.{beside};
 ghost use Rattle.flow_waits.specs.Driven.{IsJobOf};
 ghost use Rattle.flux_simulate.specs.Costs.{AreCosts};
 ghost use Rattle.flux_simulate.specs.Ticks.{timed, last_tick};
 ghost use Rattle.flux_simulate.specs.Runs.{IsOneRunACall, NeverMoreRuns, sum_of_costs};
 ghost use Rattle.flux_simulate.specs.Rule.{IsByTheRule};
 ghost use Rattle.flux_simulate.specs.Idle.{NeverIdleForNothing};
-ghost use Rattle.flux_simulate.specs.steps.Ticking.{AllLast, AllStandStill, Finishes, Goes, Begins, Rests, IsFurtherTick, IsNextTick, GoesFurther};
+ghost use Rattle.flux_simulate.specs.steps.Ticking.{AllLast, AllStandStill, Finishes, Goes, Begins, Rests, IsFurtherTick, IsNextTick, GoesFurther, Watches};
 ghost use Rattle.flux_simulate.specs.steps.Calls.{IsRunOf, EndsBegun, HasStarted, AreSmall};
 
 use crate::clock::Clock;
-use crate::finding::first_idle;
 use crate::runs::{Run, Simulated};
 use flow_core::{Core, Job, Step, Stopped};
+use flow_waits::Idlers;
 use flux_library::Library;
 use flux_model::FlowNo;
 use flux_values::{List, Memory};
@@ -110,10 +112,11 @@ fn tick_by_tick<L: Library>(
     ensures further { GoesFurther core.old core.new }
     ensures processors { clock.new.processors ≡ clock.old.processors }
 {
-    settle(core, costs, clock)?;
+    let mut idlers = Idlers::new(core)?;
+    settle(core, costs, clock, &mut idlers)?;
     let mut more = true;
     'ticks: while more {
-        more = next_tick(core, costs, clock)?;
+        more = next_tick(core, costs, clock, &mut idlers)?;
         // Asked for what it promises: that the journal is legal, so not too long.
         let _journal = core.journal();
     }
@@ -125,18 +128,21 @@ fn next_tick<L: Library>(
     core: &mut Core<L>,
     costs: &List<u32>,
     clock: &mut Clock,
+    idlers: &mut Idlers,
 ) -> Result<bool, Memory>
+    requires watched { Watches L.meaning core.old idlers.old }
     requires rests { Rests L.meaning core.old clock.old }
     requires last { AllLast costs.now clock.old }
     requires small { AreSmall L.meaning core.old costs.now clock.old.processors }
+    ensures watched { OnOk result (Watches L.meaning core.new idlers.new) }
     ensures tick { IfOk result (IsNextTick L.meaning core.old core.new clock.new) }
     ensures last { OnOk result (AllLast costs.now clock.new) }
     ensures further { GoesFurther core.old core.new }
     ensures processors { clock.new.processors ≡ clock.old.processors }
 {
-    let stopped = finish_next(core, clock)?;
+    let stopped = finish_next(core, clock, idlers)?;
     if stopped {
-        settle(core, costs, clock)?;
+        settle(core, costs, clock, idlers)?;
         return Ok(true);
     }
     Ok(false)
@@ -147,31 +153,40 @@ fn settle<L: Library>(
     core: &mut Core<L>,
     costs: &List<u32>,
     clock: &mut Clock,
+    idlers: &mut Idlers,
 ) -> Result<(), Memory>
+    requires watched { Watches L.meaning core.old idlers.old }
     requires goes { Goes L.meaning core.old clock.old }
     requires last { AllLast costs.now clock.old }
     requires small { AreSmall L.meaning core.old costs.now clock.old.processors }
     ensures rests { OnOk result (Rests L.meaning core.new clock.new) }
     ensures last { OnOk result (AllLast costs.now clock.new) }
+    ensures watched { OnOk result (Watches L.meaning core.new idlers.new) }
     ensures further { GoesFurther core.old core.new }
     ensures processors { clock.new.processors ≡ clock.old.processors }
 {
-    go_on(core, clock)?;
+    go_on(core, clock, idlers)?;
     begin(core, costs, clock)
 }
 
 /// Lets the lowest flow that can go on without a call do so, again and again, until there is none.
-fn go_on<L: Library>(core: &mut Core<L>, clock: &mut Clock) -> Result<(), Memory>
-    requires { Goes L.meaning core.old clock.old }
+fn go_on<L: Library>(
+    core: &mut Core<L>,
+    clock: &mut Clock,
+    idlers: &mut Idlers,
+) -> Result<(), Memory>
+    requires watched { Watches L.meaning core.old idlers.old }
+    requires goes { Goes L.meaning core.old clock.old }
     ensures goes { OnOk result (Goes L.meaning core.new clock.new) }
     ensures none { OnOk result (AllStandStill L.meaning core.new) }
+    ensures watched { OnOk result (Watches L.meaning core.new idlers.new) }
     ensures ended { clock.new.ended ≡ clock.old.ended }
     ensures running { clock.new.running ≡ clock.old.running }
     ensures processors { clock.new.processors ≡ clock.old.processors }
     ensures further { GoesFurther core.old core.new }
 {
-    while let Some(flow) = first_idle(core) {
-        go_one(core, clock, flow)?;
+    while let Some(flow) = idlers.first(core, 0)? {
+        go_one(core, clock, idlers, flow)?;
         // Asked for what it promises: that the journal is legal, so not too long.
         let _journal = core.journal();
     }
@@ -179,11 +194,19 @@ fn go_on<L: Library>(core: &mut Core<L>, clock: &mut Clock) -> Result<(), Memory
 }
 
 /// Lets a flow make its next event, or begin its call, which then waits.
-fn go_one<L: Library>(core: &mut Core<L>, clock: &mut Clock, flow: FlowNo) -> Result<(), Memory>
+fn go_one<L: Library>(
+    core: &mut Core<L>,
+    clock: &mut Clock,
+    idlers: &mut Idlers,
+    flow: FlowNo,
+) -> Result<(), Memory>
     requires goes { Goes L.meaning core.old clock.old }
     requires first { IsFirstIdle L.meaning core.old 0 flow }
+    requires watched { Watches L.meaning core.old idlers.old }
+    requires ready { IsReady (beside idlers.old.pools idlers.old.aside) flow.0 }
     ensures goes { OnOk result (Goes L.meaning core.new clock.new) }
     ensures less { OnOk result (HasStarted core.old core.new) }
+    ensures watched { OnOk result (Watches L.meaning core.new idlers.new) }
     ensures ended { clock.new.ended ≡ clock.old.ended }
     ensures running { clock.new.running ≡ clock.old.running }
     ensures processors { clock.new.processors ≡ clock.old.processors }
@@ -193,11 +216,28 @@ fn go_one<L: Library>(core: &mut Core<L>, clock: &mut Clock, flow: FlowNo) -> Re
     let _journal = core.journal();
     match core.step(flow)? {
         Step::Job(_) => clock.waiting.add(flow),
-        Step::Went => clock.note(),
+        Step::Went => note_event(core, clock, idlers),
         Step::Ended => Ok(()),
         Step::Calling => Ok(()),
         Step::Waits { .. } => Ok(()),
     }
+}
+
+/// Notes the tick of the last entry, and looks at the flows that it may have freed.
+fn note_event<L: Library>(
+    core: &Core<L>,
+    clock: &mut Clock,
+    idlers: &mut Idlers,
+) -> Result<(), Memory>
+    requires { Lags (setup_in L.meaning core.now) core.now.entries (beside idlers.old.pools idlers.old.aside) 0 }
+    ensures noted { OnOk result (clock.new ≡ record clock.old { at = clock.old.at ++ clock.old.tick ∷ [] }) }
+    ensures err { OnErr result (clock.new ≡ clock.old) }
+    ensures covers { OnOk result (Covers (setup_in L.meaning core.now) core.now.entries
+        (beside idlers.new.pools idlers.new.aside) 0) }
+    ensures aside { idlers.new.aside ≡ idlers.old.aside }
+{
+    idlers.told(core, 0)?;
+    clock.note()
 }
 
 /// Lets the calls of the lowest flows run, as long as a processor is free.
@@ -251,8 +291,14 @@ fn run_of<L: Library>(
 }
 
 /// Lets time pass to where the next call stops, and finishes all that stop then. There is none where none runs.
-fn finish_next<L: Library>(core: &mut Core<L>, clock: &mut Clock) -> Result<bool, Memory>
-    requires { Rests L.meaning core.old clock.old }
+fn finish_next<L: Library>(
+    core: &mut Core<L>,
+    clock: &mut Clock,
+    idlers: &mut Idlers,
+) -> Result<bool, Memory>
+    requires watched { Watches L.meaning core.old idlers.old }
+    requires rests { Rests L.meaning core.old clock.old }
+    ensures watched { OnOk result (Watches L.meaning core.new idlers.new) }
     ensures tick { IfOk result (IsFurtherTick L.meaning core.old core.new clock.new) }
     ensures last { (costs : List ℕ) → AllLast costs clock.old → OnOk result (AllLast costs clock.new) }
     ensures further { GoesFurther core.old core.new }
@@ -264,15 +310,21 @@ fn finish_next<L: Library>(core: &mut Core<L>, clock: &mut Clock) -> Result<bool
         return Ok(false);
     };
     clock.tick = run.stop;
-    finish_call(core, run.flow)?;
+    finish_run(core, idlers, run.flow)?;
     clock.note_end(run)?;
-    finish_due(core, clock)?;
+    finish_due(core, clock, idlers)?;
     Ok(true)
 }
 
 /// Finishes the calls that stop at this tick, those of the lowest flows first.
-fn finish_due<L: Library>(core: &mut Core<L>, clock: &mut Clock) -> Result<(), Memory>
-    requires { Finishes L.meaning core.old clock.old }
+fn finish_due<L: Library>(
+    core: &mut Core<L>,
+    clock: &mut Clock,
+    idlers: &mut Idlers,
+) -> Result<(), Memory>
+    requires watched { Watches L.meaning core.old idlers.old }
+    requires finishes { Finishes L.meaning core.old clock.old }
+    ensures watched { OnOk result (Watches L.meaning core.new idlers.new) }
     ensures goes { OnOk result (Goes L.meaning core.new clock.new) }
     ensures last { (costs : List ℕ) → AllLast costs clock.old → OnOk result (AllLast costs clock.new) }
     ensures further { GoesFurther core.old core.new }
@@ -281,10 +333,29 @@ fn finish_due<L: Library>(core: &mut Core<L>, clock: &mut Clock) -> Result<(), M
     while let Some(run) = clock.running.take_due(clock.tick) {
         // Asked for what it promises: that begun calls are next.
         let _journal = core.journal();
-        finish_call(core, run.flow)?;
+        finish_run(core, idlers, run.flow)?;
         clock.note_end(run)?;
     }
     Ok(())
+}
+
+/// Runs a flow's begun call, finishes it, and looks at the flow again.
+fn finish_run<L: Library>(
+    core: &mut Core<L>,
+    idlers: &mut Idlers,
+    flow: FlowNo,
+) -> Result<(), Memory>
+    requires watched { Watches L.meaning core.old idlers.old }
+    requires flow { flow.0 < length core.old.setup.items }
+    requires begun { IsSome (begun_by core.old flow.0) }
+    ensures watched { OnOk result (Watches L.meaning core.new idlers.new) }
+    ensures ends { OnOk result (EndsBegun L.meaning core.old core.new flow) }
+    ensures further { GoesFurther core.old core.new }
+{
+    finish_call(core, flow)?;
+    // Asked for what it promises: that the journal is legal.
+    let _journal = core.journal();
+    idlers.look_again(flow)
 }
 
 /// Runs a flow's begun call, and finishes it.

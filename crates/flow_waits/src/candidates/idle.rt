@@ -1,12 +1,11 @@
-//! The first flow that can go on, for a loop whose calls are run elsewhere: flows whose calls are begun are passed over.
+//! The first flow that can go on, for a loop whose calls are run elsewhere: flows whose calls are begun are set aside until
+//! these are finished. So a look doesn't grow with the number of calls that are begun.
 
-ghost use Rattle.std.specs.Prelude.{◌≡◌, ◌++◌, [], IfOk, OnOk, MatchOption};
+ghost use Rattle.std.specs.Prelude.{◌≡◌, ℕ, IfOk, OnOk, MatchOption};
 ghost use Rattle.flow_core.specs.States.{setup_in};
-ghost use Rattle.flow_waits.specs.Idle.{NoneIsIdle};
-ghost use Rattle.flow_waits.specs.steps.Covers.{Covers, IsChosen};
-ghost use Rattle.flow_waits.specs.steps.Waking.{IsEarliest};
-ghost use Rattle.flow_waits.specs.Idle.{IsFirstIdle};
-ghost use Rattle.flow_waits.specs.steps.Aside.{beside, HasSame, AreAside, IsIdleChosen};
+ghost use Rattle.flow_waits.specs.Idle.{AllAreBlocked};
+ghost use Rattle.flow_waits.specs.steps.Covers.{Covers, Lags};
+ghost use Rattle.flow_waits.specs.steps.Aside.{beside, AreAside, IsIdleChosen, LooksAgain};
 
 use super::Candidates;
 use crate::numbers::Numbers;
@@ -14,36 +13,76 @@ use flow_core::Core;
 use flux_library::Library;
 use flux_model::FlowNo;
 use flux_values::Memory;
+use std::marker::Model;
 
-impl Candidates {
-    /// The first flow, from a number on upward and then from 0 on, that has not ended, isn't blocked and has no begun
-    /// call. Others may have finished calls since the last look.
-    pub fn first_idle<L: Library>(
-        &mut self,
-        core: &Core<L>,
-        from: u32,
-    ) -> Result<Option<FlowNo>, Memory>
-        requires { Covers (setup_in L.meaning core.now) core.now.entries self.old from }
-        ensures first { IfOk result (λ found. MatchOption found (NoneIsIdle L.meaning core.now)
-            (IsIdleChosen L.meaning core.now self.new from)) }
-        ensures covers { OnOk result (Covers (setup_in L.meaning core.now) core.now.entries self.new from) }
+/// Candidates, and beside them flows whose calls are begun. After want of memory they are of no more use.
+#[derive(Drop)]
+pub struct Idlers {
+    candidates: Candidates,
+    aside: Numbers,
+}
+
+impl Model for Idlers {
+    ghost use Rattle.flow_waits.specs.steps.Aside.{Parted};
+
+    ghost Value = { Parted };
+
+    ghost view = { λ i. record { pools = i.candidates; aside = i.aside } };
+}
+
+impl Idlers {
+    /// Looks at each flow.
+    pub fn new<L: Library>(core: &Core<L>) -> Result<Idlers, Memory>
+        ensures { IfOk result (λ parted. (from : ℕ) → AreAside L.meaning core.now parted.pools parted.aside from) }
     {
-        let mut aside = Numbers::new(core.alloc());
-        let found = self.first_beside(core, from, &mut aside)?;
-        self.look_again(aside)?;
-        Ok(found)
+        Ok(Idlers {
+            candidates: Candidates::new(core)?,
+            aside: Numbers::new(core.alloc()),
+        })
     }
 
-    /// The same, with the flows that were passed over set aside.
+    /// The first flow, from a number on upward and then from 0 on, that has not ended, isn't blocked and has no begun
+    /// call.
+    pub fn first<L: Library>(&mut self, core: &Core<L>, from: u32) -> Result<Option<FlowNo>, Memory>
+        requires { AreAside L.meaning core.now self.old.pools self.old.aside from }
+        ensures first { IfOk result (λ found. MatchOption found (AllAreBlocked L.meaning core.now)
+            (IsIdleChosen L.meaning core.now (beside self.new.pools self.new.aside) from)) }
+        ensures aside { OnOk result (AreAside L.meaning core.now self.new.pools self.new.aside from) }
+    {
+        self.candidates.first_beside(core, from, &mut self.aside)
+    }
+
+    /// Is told of the last entry, of a flow that is looked at.
+    pub fn told<L: Library>(&mut self, core: &Core<L>, from: u32) -> Result<(), Memory>
+        requires { Lags (setup_in L.meaning core.now) core.now.entries (beside self.old.pools self.old.aside) from }
+        ensures covers { OnOk result (Covers (setup_in L.meaning core.now) core.now.entries
+            (beside self.new.pools self.new.aside) from) }
+        ensures same { self.new.aside ≡ self.old.aside }
+    {
+        self.candidates.follow(core, from)
+    }
+
+    /// Looks again at a flow whose call was finished.
+    pub fn look_again(&mut self, flow: FlowNo) -> Result<(), Memory>
+        ensures { OnOk result (LooksAgain self.old self.new flow.0) }
+    {
+        self.candidates.ready.add(flow.0)?;
+        self.aside.remove(flow.0);
+        Ok(())
+    }
+}
+
+impl Candidates {
+    /// The first flow that has not ended, isn't blocked and has no begun call. Those that are passed over since their calls
+    /// are begun are set aside.
     fn first_beside<L: Library>(
         &mut self,
         core: &Core<L>,
         from: u32,
         aside: &mut Numbers,
     ) -> Result<Option<FlowNo>, Memory>
-        requires covers { Covers (setup_in L.meaning core.now) core.now.entries self.old from }
-        requires none { aside.old ≡ [] }
-        ensures first { IfOk result (λ found. MatchOption found (NoneIsIdle L.meaning core.now)
+        requires { AreAside L.meaning core.now self.old aside.old from }
+        ensures first { IfOk result (λ found. MatchOption found (AllAreBlocked L.meaning core.now)
             (IsIdleChosen L.meaning core.now (beside self.new aside.new) from)) }
         ensures aside { OnOk result (AreAside L.meaning core.now self.new aside.new from) }
     {
@@ -66,17 +105,5 @@ impl Candidates {
             }
         }
         Ok(None)
-    }
-
-    /// Looks at flows again that were set aside.
-    fn look_again(&mut self, aside: Numbers) -> Result<(), Memory>
-        ensures { OnOk result (HasSame (beside self.old aside) self.new) }
-    {
-        let mut aside = aside;
-        while let Some(number) = aside.first_from(0) {
-            self.ready.add(number)?;
-            aside.remove(number);
-        }
-        Ok(())
     }
 }

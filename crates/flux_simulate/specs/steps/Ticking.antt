@@ -15,7 +15,7 @@ use Rattle.flux_laws.specs.Growth.{IsNoWait}
 use Rattle.flow_state.specs.declared.inputs.Inputs.{Inputs}
 use Rattle.flow_core.specs.States.{CoreState, setup_in, begun_by}
 use Rattle.flow_core.specs.Runs.{GoesOn}
-use Rattle.flow_waits.specs.Idle.{IsIdle}
+use Rattle.flow_waits.specs.steps.Aside.{Parted, AreAside}
 use Rattle.flow_waits.specs.steps.Waking.{has}
 use Rattle.flux_simulate.specs.declared.runs.Run.{Run}
 use Rattle.flux_simulate.specs.declared.clock.Clock.{Clock}
@@ -100,10 +100,9 @@ StandsStill meaning core flow = IsLive (setup_in meaning core) core.entries flow
 abbrev pub AllStandStill : {L : Type 0} → (L → LibraryMeaning) → CoreState L → Type 0
 AllStandStill meaning core = (flow : ℕ) → StandsStill meaning core flow
 
--- whether a flow can go on without a call that is begun
-abbrev pub IsIdleOrNot : {L : Type 0} → (L → LibraryMeaning) → CoreState L → ℕ → Bool → Type 0
-IsIdleOrNot meaning core flow true = IsIdle meaning core flow
-IsIdleOrNot meaning core flow false = StandsStill meaning core flow
+-- the flows that are looked at, and those that are set aside, are enough to find the lowest that can go on
+abbrev pub Watches : {L : Type 0} → (L → LibraryMeaning) → CoreState L → Parted → Type 0
+Watches meaning core parted = AreAside meaning core parted.pools parted.aside 0
 
 -- ---- all of it
 

@@ -6,11 +6,18 @@ use Rattle.flux_simulate.proofs.simulating.go_on.Goals as goal
 pub loop-flow-init : goal.loop-flow-init
 loop-flow-init g c = record {
   further = further-same c.args.core.now;
-  goes = c.requires;
+  goes = c.requires.goes;
+  watched = c.requires.watched;
   ended = refl;
   running = refl;
   processors = refl;
 }
+
+pub go_one-requires-clause-first : goal.go_one-requires-clause-first
+go_one-requires-clause-first g c = let chosen = rw c.in-Some.is at c.in_ok-flow.ensures.first in chosen.first
+
+pub go_one-requires-clause-ready : goal.go_one-requires-clause-ready
+go_one-requires-clause-ready g c = let chosen = rw c.in-Some.is at c.in_ok-flow.ensures.first in chosen.ready
 
 pub returns-in_err-go_one-clause-further : goal.returns-in_err-go_one-clause-further
 returns-in_err-go_one-clause-further g c =
@@ -28,6 +35,7 @@ loop-flow-preserved g c = record {
   further = further-then c.args.core.now c.loop-flow.core c.go_one.new.core c.loop-flow.invariant.further
       c.go_one.ensures.further;
   goes = c.in_ok-go_one.ensures.goes;
+  watched = c.in_ok-go_one.ensures.watched;
   ended = c.go_one.ensures.ended ∙ c.loop-flow.invariant.ended;
   running = c.go_one.ensures.running ∙ c.loop-flow.invariant.running;
   processors = c.go_one.ensures.processors ∙ c.loop-flow.invariant.processors;

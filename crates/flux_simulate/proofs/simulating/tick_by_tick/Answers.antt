@@ -1,14 +1,21 @@
 use Rattle.std.proofs.Common.{subst, sym, ◌∙◌}
 use Rattle.std.proofs.lemmas.Bool.{false≢true}
 use Rattle.flux_simulate.specs.steps.Calls.{AreSmall}
-use Rattle.flux_simulate.proofs.Further.{further-then, further-small}
+use Rattle.flux_simulate.proofs.Further.{further-same, further-then, further-small}
 use Rattle.flux_simulate.proofs.Lessening.{tick-lessens}
 use Rattle.flux_simulate.proofs.simulating.tick_by_tick.Goals as goal
+
+pub settle-requires-clause-watched : goal.settle-requires-clause-watched
+settle-requires-clause-watched g c = c.in_ok-idlers.ensures 0
+
+pub returns-in_err-idlers-clause-further : goal.returns-in_err-idlers-clause-further
+returns-in_err-idlers-clause-further g c = further-same c.args.core.now
 
 pub ticks-init : goal.ticks-init
 ticks-init g c = record {
   further = c.settle.ensures.further;
   rests = c.in_ok-settle.ensures.rests;
+  watched = c.in_ok-settle.ensures.watched;
   last = c.in_ok-settle.ensures.last;
   processors = c.settle.ensures.processors;
   over = λ e. absurd (false≢true (sym e));
@@ -39,6 +46,7 @@ ticks-preserved g c =
       further = further-then c.args.core.now c.ticks.core c.next_tick.new.core c.ticks.invariant.further
           c.next_tick.ensures.further;
       rests = tick.rests;
+      watched = c.in_ok-more.ensures.watched;
       last = c.in_ok-more.ensures.last;
       processors = c.next_tick.ensures.processors ∙ c.ticks.invariant.processors;
       over = tick.over;

@@ -3,7 +3,7 @@ use Rattle.flow_core.specs.States.{setup_in, begun_by}
 use Rattle.flow_waits.specs.steps.Covers.{Pools}
 use Rattle.flow_waits.specs.steps.Aside.{beside}
 use Rattle.flow_waits.specs.steps.Waking.{IsEarliest, IsLess}
-use Rattle.flow_waits.proofs.Aside.{aside-exist, aside-ended, aside-parked, aside-more, idle-chosen, none-idle, idle-of}
+use Rattle.flow_waits.proofs.Aside.{aside-exist, aside-ended, aside-parked, aside-more, idle-chosen, all-blocked, idle-of}
 use Rattle.flow_waits.proofs.Choosing.{parked}
 use Rattle.flow_waits.proofs.Ending.{live-is}
 use Rattle.flow_waits.proofs.Turning.{ended-over}
@@ -73,8 +73,7 @@ loop-number-preserved g c =
     aside-parked g.L.Meaning.meaning c.args.core.now c.journal-journal.ensures.kept c.args.from c.loop-number.self
     c.loop-number.aside
     c.loop-number.invariant c.park.new.self c.in-Some.number c.in-Some-stop_at.stop
-    (let e = subst (λ pools. IsEarliest pools.ready c.args.from c.in-Some.number) c.self.view_is c.in-Some.ensures
-    in e.is)
+    (let is_stop = c.in-Some-stop_at.ensures in is_stop.blocked)
     c.in_ok-park-in-Some-stop_at.ensures.ok
     (λ covers parks. parked setup c.args.core.now.entries (beside c.loop-number.self c.loop-number.aside)
     (beside c.park.new.self c.loop-number.aside) c.args.from c.in-Some.number c.in-Some-stop_at.stop
@@ -109,7 +108,7 @@ returns-in-None-clause-first g c =
 
 pub returns-clause-first : goal.returns-clause-first
 returns-clause-first g c =
-    none-idle g.L.Meaning.meaning c.args.core.now c.journal-journal.ensures.kept c.args.from c.loop-number.self
+    all-blocked g.L.Meaning.meaning c.args.core.now c.journal-journal.ensures.kept c.args.from c.loop-number.self
     c.loop-number.aside
     c.loop-number.invariant
     (ap (λ pools. pools.ready) (sym c.self.view_is) ∙ c.in_default.ensures)
