@@ -81,7 +81,8 @@ impl<R: Net + Clock + Copy> Ending<R> {
     }
 }
 
-/// Such sockets. While one is waited for, the time of the others passes too. Where they are let go, each is waited for.
+/// Such sockets, the earliest first. While one is waited for, the time of the others passes too. Where they are let go, each
+/// is waited for.
 pub struct Endings<R: Net + Clock + Copy> {
     waiting: VecDeque<Ending<R>>,
 }
@@ -100,17 +101,19 @@ impl<R: Net + Clock + Copy> Endings<R> {
         }
     }
 
-    /// Waits for each.
-    pub fn close_all(&mut self) {
-        'endings: while let Some(ending) = self.waiting.pop_front() {
-            ending.close();
+    /// Waits for the earliest, until so many at most are left.
+    pub fn close_all_but(&mut self, left: usize) {
+        'endings: while self.waiting.len() > left {
+            if let Some(ending) = self.waiting.pop_front() {
+                ending.close();
+            }
         }
     }
 }
 
 impl<R: Net + Clock + Copy> Drop for Endings<R> {
     fn drop(mut self) {
-        self.close_all();
+        self.close_all_but(0);
         let Endings { waiting: _ } = self;
     }
 }

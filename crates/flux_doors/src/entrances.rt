@@ -125,6 +125,12 @@ impl<R: Net + Clock + Copy> Entrance<R> {
         Ok(())
     }
 
+    /// Whether a client stands ready. What fails here is told by the accept that follows.
+    pub fn has_ready(&mut self) -> bool {
+        let _ = self.take_in();
+        !self.ready.is_empty()
+    }
+
     /// The next link of a batch: a client that was taken in. Only the first one is waited for.
     pub fn next_ready(&mut self, first: bool) -> Result<Option<RealLink<R>>, Refused>
         ensures { first ≡ true → IfOk result IsSome }
@@ -133,7 +139,7 @@ impl<R: Net + Clock + Copy> Entrance<R> {
             return self.socket.next_link(true);
         }
         let mut taken = Ok(());
-        if first || self.ready.is_empty() {
+        if self.ready.is_empty() {
             taken = self.take_in();
         }
         match self.ready.pop_front() {

@@ -11,8 +11,12 @@ use std::alloc::Global;
 use std::net::Net;
 use std::time::Clock;
 
+/// So many clients at most are left to end while others stand ready.
+const ENDING_LIMIT: usize = 64;
+
 /// A port of this machine alone, 127.0.0.1. The links of a batch are told at once that nothing more comes, each as it is taken
-/// back, and their clients' ends are waited for together: before the next batch is accepted, and where the door is let go.
+/// back. Their clients' ends are waited for later: of the earliest while a batch stands ready, so that it doesn't wait for
+/// those of the batch before; of all where none does, and where the door is let go.
 #[derive(Drop)]
 pub struct RealDoor<R: Net + Clock + Copy> {
     entrance: Entrance<R>,
@@ -81,7 +85,9 @@ where
         ensures first { first ≡ true → IfOk result IsSome }
     {
         if first {
-            self.endings.close_all();
+            let ready = self.entrance.has_ready();
+            self.endings
+                .close_all_but(if ready { ENDING_LIMIT } else { 0 });
         }
         match self.entrance.next_ready(first) {
             Ok(Some(link)) => {
