@@ -1,12 +1,12 @@
 -- Links that are given back one after another.
-use Rattle.std.proofs.Common.{◌≡◌, ℕ, ◌+◌, List, [], ◌∷◌, ◌++◌, Option, Some, None, refl, sym, ap, ◌∙◌, append_assoc, subst}
+use Rattle.std.proofs.Common.{◌≡◌, ℕ, zero, suc, ◌<◌, List, [], ◌∷◌, ◌++◌, length, map, slice_index_or, Option, Some, None, refl, sym, ap, ◌∙◌, append_assoc, subst, arith}
 use Rattle.std.specs.Option.{option_map}
 use Rattle.std.proofs.lemmas.List.{append-nil}
 use Rattle.flow_model.specs.declared.journals.Entry.{Entry}
 use Rattle.flux_batches.specs.declared.reading.Held.{Held}
-use Rattle.flux_batches.specs.declared.reading.Sent.{Sent}
-use Rattle.flux_batches.specs.Links.{Seen, IsSame}
-use Rattle.flux_batches.specs.Replies.{IsAnswered, AreAnswered, flow_behind, TakesBack, AreAllAnswered}
+use Rattle.flux_batches.specs.Links.{Seen}
+use Rattle.flux_batches.specs.Replies.{AreAnswered, flow_behind, TakesBack, AreAllAnswered}
+use Rattle.flux_batches.specs.steps.Answering.{flow_at, WasAnswered}
 
 pub back_none : {L : Type 0} → (before : Option (List L)) → TakesBack before before []
 back_none None = refl
@@ -38,49 +38,38 @@ given_all {L} before after links g = let P : List L → Type 0 = TakesBack befor
 
 -- ---- links that are answered
 
--- the flow that comes next, where these were given back
-unfoldable pub flow_after : {K : Type 0} → ℕ → List (Held K) → List K → ℕ
-flow_after flow helds [] = flow
-flow_after flow [] (back ∷ backs) = flow
-flow_after flow (held ∷ rest) (back ∷ backs) = flow_after (flow_behind flow held.sent) rest backs
+-- all were answered, each at its place by its flow
+answered-each : {K : Type 0} → (see : K → Seen) (entries : List Entry) (flow : ℕ) (before after : List (Held K))
+    → length after ≡ length before
+    → ((place : ℕ) (none : Held K) → place < length before
+    → WasAnswered see entries (flow_at flow before place) (slice_index_or before place none) (slice_index_or after place none))
+    → AreAnswered see entries flow before (map (λ held. held.link) after) []
+answered-each see entries flow [] [] same each = refl
+answered-each see entries flow [] (held ∷ after) same each = absurd (omega (arith, same))
+answered-each see entries flow (held ∷ before) [] same each = absurd (omega (arith, same))
+answered-each see entries flow (held ∷ before) (back ∷ after) same each =
+    let first = each zero held (omega arith) in (
+      first.same,
+      first.answered,
+      answered-each see entries (flow_behind flow held.sent) before after (omega (arith, same))
+          (λ place none below. each (suc place) none (omega (arith, below))),
+    )
 
--- some links were answered and given back, and the rest is left; a flow is next
-pub record Answered {K : Type 0} (see : K → Seen) (entries : List Entry) (helds : List (Held K)) (before after : Option (List K)) (left : List (Held K)) (flow : ℕ) : Type 0 where
-  pub backs : List K
-  pub taken : TakesBack before after backs
-  pub answered : AreAnswered see entries 0 helds backs left
-  pub next : flow_after 0 helds backs ≡ flow
-
-pub answered_none : {K : Type 0} → (see : K → Seen) (entries : List Entry) (helds : List (Held K)) (before : Option (List K)) → Answered see entries helds before before helds 0
-unfolding flow_after
-answered_none see entries helds before = record { backs = []; taken = back_none before; answered = refl; next = refl }
-
-are_more : {K : Type 0} → (see : K → Seen) (entries : List Entry) (flow : ℕ) (helds : List (Held K)) (backs : List K) (held : Held K) (left : List (Held K)) (back : K)
-    → AreAnswered see entries flow helds backs (held ∷ left) → IsSame (see held.link) (see back) → IsAnswered entries (flow_after flow helds backs) (see held.link) (see back) held.sent
-    → AreAnswered see entries flow helds (backs ++ back ∷ []) left
-unfolding flow_after
-are_more {K} see entries flow helds [] held left back is same one =
-    let P : List (Held K) → Type 0 = λ l. AreAnswered see entries flow l (back ∷ []) left in subst P (sym is) (same, one, refl)
-are_more see entries flow [] (first ∷ backs) held left back is same one = absurd is
-are_more see entries flow (h ∷ helds) (first ∷ backs) held left back is same one =
-    (is.0, is.1, are_more see entries (flow_behind flow h.sent) helds backs held left back is.2 same one)
-
-flow_more : {K : Type 0} → (see : K → Seen) (entries : List Entry) (flow : ℕ) (helds : List (Held K)) (backs : List K) (held : Held K) (left : List (Held K)) (back : K)
-    → AreAnswered see entries flow helds backs (held ∷ left) → flow_after flow helds (backs ++ back ∷ []) ≡ flow_behind (flow_after flow helds backs) held.sent
-unfolding flow_after
-flow_more {K} see entries flow helds [] held left back is = ap (λ (l : List (Held K)). flow_after flow l (back ∷ [])) is
-flow_more see entries flow [] (first ∷ backs) held left back is = absurd is
-flow_more see entries flow (h ∷ helds) (first ∷ backs) held left back is = flow_more see entries (flow_behind flow h.sent) helds backs held left back is.2
-
-pub answered_more : {K : Type 0} → (see : K → Seen) (entries : List Entry) (helds : List (Held K)) (before mid after : Option (List K)) (held : Held K) (left : List (Held K)) (flow flow' : ℕ) (back : K)
-    → Answered see entries helds before mid (held ∷ left) flow → IsSame (see held.link) (see back) → IsAnswered entries flow (see held.link) (see back) held.sent → TakesBack mid after (back ∷ []) → flow' ≡ flow_behind flow held.sent
-    → Answered see entries helds before after left flow'
-answered_more see entries helds before mid after held left flow flow' back a same one more now = record {
-  backs = a.backs ++ back ∷ [];
-  taken = back_more before mid after a.backs back a.taken more;
-  answered = are_more see entries 0 helds a.backs held left back a.answered same (rw a.next one);
-  next = flow_more see entries 0 helds a.backs held left back a.answered ∙ ap (λ f. flow_behind f held.sent) a.next ∙ sym now;
-}
-
-pub answered_all : {K : Type 0} → (see : K → Seen) (entries : List Entry) (helds : List (Held K)) (before after : Option (List K)) (flow : ℕ) → Answered see entries helds before after [] flow → AreAllAnswered see entries helds before after
-answered_all see entries helds before after flow a = record { backs = a.backs; taken = a.taken; answered = a.answered }
+-- and given back
+pub answered-all : {K : Type 0} → (see : K → Seen) (entries : List Entry) (flows : List ℕ) (helds before after listed : List (Held K))
+    (taken later : Option (List K)) → before ≡ helds → listed ≡ after → length after ≡ length before
+    → ((place none : ℕ) → place < length before → slice_index_or flows place none ≡ flow_at 0 before place)
+    → ((place : ℕ) (none : Held K) → place < length before
+    → WasAnswered see entries (slice_index_or flows place 0) (slice_index_or before place none) (slice_index_or after place none))
+    → TakesBack taken later (map (λ held. held.link) listed)
+    → AreAllAnswered see entries helds taken later
+answered-all {K} see entries flows helds before after listed taken later is write same are each back =
+    let All : List (Held K) → Type 0 = λ them. AreAllAnswered see entries them taken later in
+    let Back : List (Held K) → Type 0 = λ them. TakesBack taken later (map (λ held. held.link) them) in
+    subst All is (record {
+      backs = map (λ held. held.link) after;
+      taken = subst Back write back;
+      answered = answered-each see entries 0 before after same (λ place none below.
+          let P : ℕ → Type 0 = λ flow. WasAnswered see entries flow (slice_index_or before place none) (slice_index_or after place none) in
+          subst P (are place 0 below) (each place none below));
+    })

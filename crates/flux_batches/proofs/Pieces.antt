@@ -2,7 +2,7 @@
 use Rattle.std.proofs.Common.{◌≡◌, ◌≢◌, ℕ, ◌+◌, ◌<◌, nat_eq, if◌then◌else◌, List, [], ◌∷◌, ◌++◌, length, drop, get_or, refl, sym, ap, ◌∙◌, append_assoc}
 use Rattle.std.proofs.lemmas.List.{drop_more}
 use Rattle.flow_model.specs.declared.journals.Entry.{Entry}
-use Rattle.flux_outside.specs.Streams.{Stream, Gains, Wrote, Broke}
+use Rattle.flux_outside.specs.Streams.{Stream, Wrote, Broke}
 use Rattle.flux_outside.proofs.Writes.{SoFar, gains_twice}
 use Rattle.flux_batches.specs.Replies.{emitted, reply_of}
 

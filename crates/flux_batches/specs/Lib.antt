@@ -2,3 +2,4 @@ pub mod Texts
 pub mod Links
 pub mod Replies
 pub mod Gathered
+pub mod steps

@@ -1,5 +1,5 @@
 -- The text of a link: a request's head, or a line.
-use Rattle.std.specs.Prelude.{ℕ, ◌-◌, ◌+◌, Bool, true, false, ◌||◌, nat_eq, if◌then◌else◌}
+use Rattle.std.specs.Prelude.{ℕ, ◌-◌, Bool, ◌||◌, nat_eq, if◌then◌else◌}
 use Rattle.std.specs.Prelude.{List, [], ◌∷◌, ◌++◌, take, length}
 use Rattle.std.specs.List.{ends_with}
 use Rattle.flux_batches.specs.declared.framing.Framing.{Framing}

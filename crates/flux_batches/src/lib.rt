@@ -8,8 +8,10 @@
 mod framing;
 mod gathering;
 mod items;
+mod numbering;
 mod reading;
 mod replying;
+mod spans;
 
 pub use framing::Framing;
 pub use gathering::{LINK_LIMIT, NoBatch, gather, give_back, give_back_held};

@@ -1,10 +1,11 @@
 //! What links have to read.
 
-ghost use Rattle.std.specs.Prelude.{◌≡◌, ◌≤◌, [], length, take, IfOk, IfErr, IfSome};
+ghost use Rattle.std.specs.Prelude.{◌≡◌, ℕ, ◌<◌, ◌≤◌, [], length, map, slice_index_or, take, IfOk, IfErr, IfSome};
 ghost use Rattle.flux_outside.specs.Causes.{HasCause};
 ghost use Rattle.flux_batches.specs.Texts.{ends, least_front, trimmed, limit_of, text_of};
 ghost use Rattle.std.specs.VecDeque.{deque_len};
 ghost use Rattle.flux_batches.specs.Links.{seen_by, IsSent, AreHeld};
+ghost use Rattle.flux_batches.specs.steps.Reading.{to_read, WasRead};
 
 use crate::framing::Framing;
 use flux_doors::Link;
@@ -12,9 +13,22 @@ use flux_outside::Failed;
 use flux_values::TextBytes;
 use std::alloc::Global;
 use std::collections::VecDeque;
+use std::marker::{Send, Sync};
+use std::thread;
+use std::thread::Threads;
 
 /// The most bytes that are read of a link.
 const BUFFER: usize = 16_384;
+
+/// So many links are read, or answered, by one thread, one after another: a thread costs about as much as they do.
+const LINKS_A_THREAD: usize = 4;
+
+/// How many threads read so many links, or answer them.
+pub fn threads_for(links: usize) -> usize
+    ensures { 0 < result }
+{
+    links.div_ceil(LINKS_A_THREAD).max(1)
+}
 
 /// What a link sent.
 #[derive(Debug, Drop)]
@@ -74,8 +88,55 @@ fn read_link<K: Link>(alloc: Global, link: &mut K, framing: Framing) -> Sent
     }
 }
 
-/// Reads all links in order. Where there is no memory for them, they come back unread.
-pub fn read_links<K: Link + Drop>(
+/// Puts a link's text beside it.
+fn read_held<K: Link>(alloc: Global, held: &mut Held<K>, framing: Framing)
+    ensures { WasRead (seen_by K.had K.left K.written K.faults) framing held.old held.new }
+{
+    held.sent = read_link(alloc, &mut held.link, framing);
+}
+
+/// Links in a list of what was read of them, which is nothing yet. Where there is no memory for it, they come back.
+fn unread<K: Drop>(alloc: Global, links: VecDeque<K>) -> Result<VecDeque<Held<K>>, VecDeque<K>>
+    ensures held { IfOk result (λ held. held.items ≡ map to_read links.items) }
+    ensures count { IfOk result (λ held. deque_len held ≡ deque_len links) }
+    ensures back { IfErr result (λ back. (back.items ≡ links.items) × (deque_len back ≡ deque_len links)) }
+{
+    let mut links = links;
+    let Ok(mut held) = VecDeque::with_capacity(alloc, links.len()) else {
+        return Err(links);
+    };
+    'links: while let Some(link) = links.pop_front() {
+        held.push_back_reserved(Held {
+            link,
+            sent: Sent::Memory,
+        });
+    }
+    Ok(held)
+}
+
+/// Reads links side by side, by several threads.
+fn read_each<R: Threads + Sync, K: Link + Send>(
+    rt: &R,
+    alloc: Global,
+    held: &mut [Held<K>],
+    framing: Framing,
+)
+    ensures { (i : ℕ) (none : Held K) → i < length held.old
+        → WasRead (seen_by K.had K.left K.written K.faults) framing
+        (slice_index_or held.old i none) (slice_index_or held.new i none) }
+{
+    let threads = threads_for(held.len());
+    thread::for_each_mut(
+        rt,
+        held,
+        threads,
+        &|_, one| { read_held(alloc, one, framing) },
+    );
+}
+
+/// Reads all links, each at its place, by several threads. Where there is no memory for them, they come back unread.
+pub fn read_links<R: Threads + Sync, K: Link + Drop + Send>(
+    rt: &R,
     alloc: Global,
     links: VecDeque<K>,
     framing: Framing,
@@ -85,13 +146,7 @@ pub fn read_links<K: Link + Drop>(
     ensures count { IfOk result (λ held. deque_len held ≡ deque_len links) }
     ensures unread { IfErr result (λ back. (back.items ≡ links.items) × (deque_len back ≡ deque_len links)) }
 {
-    let mut links = links;
-    let Ok(mut held) = VecDeque::with_capacity(alloc, links.len()) else {
-        return Err(links);
-    };
-    'links: while let Some(mut link) = links.pop_front() {
-        let sent = read_link(alloc, &mut link, framing);
-        held.push_back_reserved(Held { link, sent });
-    }
+    let mut held = unread(alloc, links)?;
+    read_each(rt, alloc, held.make_contiguous(), framing);
     Ok(held)
 }

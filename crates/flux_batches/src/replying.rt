@@ -1,18 +1,25 @@
 //! Replies, which are written to the links.
 
-ghost use Rattle.std.specs.Prelude.{◌≡◌, ◌+◌, ◌<◌, ◌≤◌, [], nat_eq, if◌then◌else◌, OnOk, OnErr};
+ghost use Rattle.std.specs.Prelude.{◌≡◌, ℕ, ◌<◌, ◌≤◌, All, length, slice_index_or, OnOk, OnErr};
+ghost use Rattle.flux_batches.specs.steps.Answering.{WasAnswered};
+ghost use Rattle.flux_batches.specs.steps.Spans.{AreSpans};
 ghost use Rattle.std.specs.VecDeque.{deque_len};
 ghost use Rattle.flux_outside.specs.Streams.{Wrote, Broke, WroteOrBroke};
 ghost use Rattle.flux_batches.specs.Links.{seen_by};
-ghost use Rattle.flux_batches.specs.Replies.{emitted, reply_of, IsAnswered, flow_behind, AreAllAnswered};
+ghost use Rattle.flux_batches.specs.Replies.{reply_of, AreAllAnswered};
 
-use crate::gathering::LINK_LIMIT;
-use crate::reading::{Held, Sent};
-use flow_model::{Entry, Event};
+use crate::gathering::{LINK_LIMIT, give_back_held};
+use crate::numbering::flows_of;
+use crate::reading::{Held, Sent, threads_for};
+use crate::spans::{Span, emission_of, spanned, spans_of};
+use flow_model::Entry;
 use flux_doors::{Door, Link};
 use flux_model::FlowNo;
 use flux_outside::Failed;
 use std::collections::VecDeque;
+use std::marker::{Send, Sync};
+use std::thread;
+use std::thread::Threads;
 
 /// Writes all of the bytes to a link, in as many calls as it needs.
 fn send<K: Link>(link: &mut K, bytes: &[u8]) -> Result<(), Failed>
@@ -32,20 +39,6 @@ fn send<K: Link>(link: &mut K, bytes: &[u8]) -> Result<(), Failed>
     Ok(())
 }
 
-/// What an entry emits, if it is of a flow.
-fn emission_of(entry: &Entry, flow: FlowNo) -> &[u8]
-    ensures { result.now ≡ (if nat_eq entry.now.flow.0 flow.0 then emitted entry.now.event else []) }
-{
-    if entry.flow.0 != flow.0 {
-        return &[];
-    }
-    match &entry.event {
-        Event::Call(made) => made.answer.emits.as_bytes(),
-        Event::Take(_, _) | Event::Wait(_, _) | Event::Enter(_) | Event::Choose(_) => &[],
-        Event::Exit(_, _) | Event::Drop(_) | Event::End(_) => &[],
-    }
-}
-
 /// Writes a flow's reply to its link: what its calls emit, in order, until that fails.
 fn reply<K: Link>(link: &mut K, entries: &[Entry], flow: FlowNo)
     ensures same { K.had link.new ≡ K.had link.old }
@@ -62,28 +55,56 @@ fn reply<K: Link>(link: &mut K, entries: &[Entry], flow: FlowNo)
     }
 }
 
-/// Answers a link, if it has an item; and the flow of the next link that has one.
-fn answer<K: Link + Drop>(held: Held<K>, entries: &[Entry], flow: u32) -> (K, u32)
-    requires { flow < LINK_LIMIT }
-    ensures same { K.had result.0 ≡ K.had held.link }
-    ensures answered { IsAnswered entries.now flow (seen_by K.had K.left K.written K.faults held.link)
-        (seen_by K.had K.left K.written K.faults result.0) held.sent }
-    ensures next { result.1 ≡ flow_behind flow held.sent }
-    ensures bound { result.1 ≤ flow + 1 }
+/// Answers a link, if it has an item, by the flow of its place.
+fn answer<K: Link>(held: &mut Held<K>, entries: &[Entry], spans: &[Span], flow: u32)
+    requires few { flow < length spans.now }
+    requires spans { AreSpans entries.now spans.now }
+    ensures { WasAnswered (seen_by K.had K.left K.written K.faults) entries.now flow held.old held.new }
 {
-    let Held { mut link, sent } = held;
-    match sent {
+    match &held.sent {
         Sent::Text(_) => {
-            reply(&mut link, entries, FlowNo(flow));
-            (link, flow + 1)
+            let flow = FlowNo(flow);
+            reply(&mut held.link, spanned(entries, spans, flow), flow);
         }
-        Sent::Failed => (link, flow),
-        Sent::Memory => (link, flow),
+        Sent::Failed | Sent::Memory => {}
     }
 }
 
+/// Answers links side by side, by several threads.
+fn answer_each<R: Threads + Sync, K: Link + Send>(
+    rt: &R,
+    links: &mut [Held<K>],
+    entries: &[Entry],
+    spans: &[Span],
+    flows: &[u32],
+)
+    requires few { All (λ flow. flow < length spans.now) flows.now }
+    requires all { length links.old ≤ length flows.now }
+    requires spans { AreSpans entries.now spans.now }
+    ensures { (place : ℕ) (none : Held K) → place < length links.old
+        → WasAnswered (seen_by K.had K.left K.written K.faults) entries.now (slice_index_or flows.now place 0)
+        (slice_index_or links.old place none) (slice_index_or links.new place none) }
+{
+    let threads = threads_for(links.len());
+    thread::for_each_mut(
+        rt,
+        links,
+        threads,
+        &|place, held: &mut Held<K>|
+            requires few { All (λ flow. flow < length spans.now) flows.now }
+            requires within { place < length flows.now }
+            requires spans { AreSpans entries.now spans.now }
+        { answer(held, entries, spans, flows[place]) },
+    );
+}
+
 /// Answers all links from a journal, and gives them back in order. The flows are those of the links with items, in order.
-pub fn answer_links<D: Door>(door: &mut D, links: VecDeque<Held<D::Link>>, entries: &[Entry])
+pub fn answer_links<R: Threads + Sync, D: Door>(
+    rt: &R,
+    door: &mut D,
+    links: VecDeque<Held<D::Link>>,
+    entries: &[Entry],
+)
     requires out { D.out door.old ≡ deque_len links }
     requires few { deque_len links ≤ LINK_LIMIT }
     ensures out { D.out door.new ≡ 0 }
@@ -94,10 +115,9 @@ pub fn answer_links<D: Door>(door: &mut D, links: VecDeque<Held<D::Link>>, entri
     ensures counts { (D.faults door.new ≡ D.faults door.old) × (D.late door.new ≡ D.late door.old) }
 {
     let mut links = links;
-    let mut flow = 0u32;
-    'links: while let Some(held) = links.pop_front() {
-        let (link, next) = answer(held, entries, flow);
-        door.done(link);
-        flow = next;
-    }
+    let spans = spans_of(entries);
+    let all = links.make_contiguous();
+    let flows = flows_of(all);
+    answer_each(rt, all, entries, &spans, &flows);
+    give_back_held(door, links);
 }

@@ -55,8 +55,9 @@ struct Run {
     cells: Cells,
 }
 
-/// Takes the links of the next batch, and reads them.
-fn take<D: Door>(
+/// Takes the links of the next batch, and reads them side by side.
+fn take<D: Door, Rt: Threads + Sync>(
+    rt: &Rt,
     alloc: Global,
     door: &mut D,
     framing: Framing,
@@ -94,7 +95,7 @@ fn take<D: Door>(
         Err(NoBatch::Door) => return Err(ServeEnd::Door),
         Err(NoBatch::Memory) => return Err(ServeEnd::Memory),
     };
-    match read_links(alloc, links, framing) {
+    match read_links(rt, alloc, links, framing) {
         Ok(held) => Ok(held),
         Err(links) => {
             give_back(door, links);
@@ -228,7 +229,7 @@ pub fn serve_batch<L: Library, D: Door, O: Sink, R: Runtime, G: Gate, Rt: Thread
           log = record { written = O.written log.new; faults = O.faults log.new };
         })) }
 {
-    let links = match take(alloc, door, served.framing) {
+    let links = match take(rt, alloc, door, served.framing) {
         Ok(links) => links,
         Err(end) => return Err(end),
     };
@@ -240,7 +241,7 @@ pub fn serve_batch<L: Library, D: Door, O: Sink, R: Runtime, G: Gate, Rt: Thread
         }
     };
     let next = number + links.len() as u64;
-    answer_links(door, links, run.journal.entries.as_slice());
+    answer_links(rt, door, links, run.journal.entries.as_slice());
     match write_batch(alloc, &served.program, log, count, &run) {
         Ok(()) => Ok((run.cells, next)),
         Err(end) => Err(end),

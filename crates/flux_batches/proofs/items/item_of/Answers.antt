@@ -1,6 +1,6 @@
 use mir.Val.{to_z, of_z}
 use Rattle.std.proofs.lemmas.Int.{to_z-of_z}
-use Rattle.std.proofs.Common.{w64, ◌≡◌, refl, [], ◌∷◌, ◌++◌, sym, ap, ◌∙◌, List}
+use Rattle.std.proofs.Common.{w64, ◌≡◌, refl, [], ◌∷◌, ◌++◌, ap, ◌∙◌, List}
 use Rattle.flux_values.specs.declared.values.Value.{Value}
 use Rattle.flux_values.specs.declared.values.Value.TheVariants.{Int}
 use Rattle.flux_batches.proofs.ItemLemmas.{values-fit}
