@@ -1,6 +1,6 @@
 -- Numbers of flows with commas between them, and the values of options: each is read one way.
 use Rattle.std.proofs.Common.{◌≡◌, ◌⊎◌, inl, inr, ℕ, Option, Some, None, zero, suc, ◌+◌, ◌-◌, ◌*◌, ◌<◌, ◌≤◌, List, [], ◌∷◌, ◌++◌, length, take, get_or, refl, sym, ap, ◌∙◌, subst, arith, codes}
-use Rattle.std.specs.Prelude.{◌↔◌, Bool, IsTrue}
+use Rattle.std.specs.Prelude.{◌↔◌, ◌==◌, if◌then◌else◌, Bool, IsTrue}
 use Rattle.std.specs.Option.{is_some}
 use native.Mathlib.Bridge.{le_prop}
 use Rattle.std.specs.List.{AllByRecursion, slice_split}
@@ -9,7 +9,7 @@ use Rattle.flux_model.specs.declared.items.FlowNo.{FlowNo}
 use Rattle.flux_words.specs.declared.values.TheConstants.{NUMBER_LIMIT, WORKER_LIMIT, PORT_LIMIT, BATCHES_LIMIT}
 use Rattle.flux_words.specs.declared.workers.Workers.{Workers}
 use Rattle.flux_words.specs.declared.values.Runtime.{Runtime}
-use Rattle.flux_words.specs.declared.values.Runtime.TheVariants.{Event, Script, PerFlow, Pool}
+use Rattle.flux_words.specs.declared.values.Runtime.TheVariants.{Event, EventWithHelpers, Script, PerFlow, Pool}
 use Rattle.flux_words.specs.declared.values.JournalFormat.{JournalFormat}
 use Rattle.flux_words.specs.declared.values.JournalFormat.TheVariants.{One, Two}
 use Rattle.flux_words.specs.Values.{is_comma, IsDigit, number_from, SpellsNumber, SpellEach, SpellsNumbers, SpellsRuntime, StartsThreads, SpellsFormat, IsRuntime, IsFormat, IsPort, IsBatches}
@@ -140,22 +140,24 @@ no_numbers list n digits some at none numbers spells = elim spells.laid [
 
 -- ---- values
 
--- what the second letter of a value tells of the runtime
+-- what the second letter of a value tells of the runtime, and behind `event` the sixth
 mark : Runtime → ℕ
-mark Event = 118
+mark Event = 0
+mark (EventWithHelpers helpers) = 61
 mark (Script numbers) = 99
 mark PerFlow = 101
 mark (Pool workers) = 111
 
-second : List ℕ → ℕ
-second value = get_or value 1 0
+telling : List ℕ → ℕ
+telling value = if get_or value 1 0 == 118 then get_or value 5 0 else get_or value 1 0
 
-marked : (value : List ℕ) (a : Runtime) → SpellsRuntime value a → second value ≡ mark a
-unfolding mark second
-marked value Event s = ap (λ (l : List ℕ). second l) s
-marked value (Script numbers) s = ap (λ (l : List ℕ). second l) s.1
-marked value PerFlow s = ap (λ (l : List ℕ). second l) s
-marked value (Pool workers) s = ap (λ (l : List ℕ). second l) s.1
+marked : (value : List ℕ) (a : Runtime) → SpellsRuntime value a → telling value ≡ mark a
+unfolding mark telling
+marked value Event s = ap (λ (l : List ℕ). telling l) s
+marked value (EventWithHelpers helpers) s = ap (λ (l : List ℕ). telling l) s.1
+marked value (Script numbers) s = ap (λ (l : List ℕ). telling l) s.1
+marked value PerFlow s = ap (λ (l : List ℕ). telling l) s
+marked value (Pool workers) s = ap (λ (l : List ℕ). telling l) s.1
 
 abbrev workers_of : (count : ℕ) → 1 ≤ count → count ≤ 16 → Workers
 workers_of count some few = record { count = count; some = some; few = few }
@@ -169,6 +171,20 @@ same_count m n e = subst
 same_workers : (a b : Workers) → a.count ≡ b.count → a ≡ b
 same_workers a b e = same_count a.count b.count e a.some b.some a.few b.few
 
+-- a number that is spelled behind a mark is spelled one way
+same_behind : (before value : List ℕ) (v w : Workers) → ((digits : List ℕ) × (value ≡ before ++ digits) × SpellsNumber 1 WORKER_LIMIT digits v.count)
+    → ((digits : List ℕ) × (value ≡ before ++ digits) × SpellsNumber 1 WORKER_LIMIT digits w.count) → v ≡ w
+same_behind before value v w s t =
+    let same : s.0 ≡ t.0 = append_cancel_left before s.0 t.0 (sym s.1 ∙ t.1) in
+    same_workers v w (one_number 1 WORKER_LIMIT t.0 v.count w.count (subst (λ (l : List ℕ). SpellsNumber 1 WORKER_LIMIT l v.count) same s.2) t.2)
+
+-- digits that spell no number of workers spell none behind a mark
+none_behind : (before value digits : List ℕ) (v : Workers) → value ≡ before ++ digits → ((number : ℕ) → SpellsNumber 1 WORKER_LIMIT digits number → ⊥)
+    → ((own : List ℕ) × (value ≡ before ++ own) × SpellsNumber 1 WORKER_LIMIT own v.count) → ⊥
+none_behind before value digits v is none s =
+    let same : s.0 ≡ digits = append_cancel_left before s.0 digits (sym s.1 ∙ is) in
+    none v.count (subst (λ (l : List ℕ). SpellsNumber 1 WORKER_LIMIT l v.count) same s.2)
+
 value_by_mark : (value : List ℕ) (a b : Runtime) → mark a ≡ mark b → SpellsRuntime value a → SpellsRuntime value b → a ≡ b
 unfolding mark
 value_by_mark value Event Event m s t = refl
@@ -176,9 +192,8 @@ value_by_mark value (Script xs) (Script ys) m s t =
     let same : s.0 ≡ t.0 = append_cancel_left (codes "script=") s.0 t.0 (sym s.1 ∙ t.1) in
     ap Script (one_numbers t.0 xs ys (subst (λ (l : List ℕ). SpellsNumbers l xs) same s.2) t.2)
 value_by_mark value PerFlow PerFlow m s t = refl
-value_by_mark value (Pool v) (Pool w) m s t =
-    let same : s.0 ≡ t.0 = append_cancel_left (codes "pool=") s.0 t.0 (sym s.1 ∙ t.1) in
-    ap Pool (same_workers v w (one_number 1 WORKER_LIMIT t.0 v.count w.count (subst (λ (l : List ℕ). SpellsNumber 1 WORKER_LIMIT l v.count) same s.2) t.2))
+value_by_mark value (EventWithHelpers v) (EventWithHelpers w) m s t = ap EventWithHelpers (same_behind (codes "event=") value v w s t)
+value_by_mark value (Pool v) (Pool w) m s t = ap Pool (same_behind (codes "pool=") value v w s t)
 value_by_mark value a b m s t = absurd (omega (arith, m))
 
 one_value : (value : List ℕ) (a b : Runtime) → SpellsRuntime value a → SpellsRuntime value b → a ≡ b
@@ -186,36 +201,53 @@ one_value value a b s t = value_by_mark value a b (sym (marked value a s) ∙ ma
 
 -- a value that begins as a script's spells no other runtime
 only_script : (value list : List ℕ) (runtime : Runtime) → value ≡ codes "script=" ++ list → SpellsRuntime value runtime → mark runtime ≡ 99
-unfolding second
-only_script value list runtime is s = sym (marked value runtime s) ∙ ap (λ (l : List ℕ). second l) is
+unfolding telling
+only_script value list runtime is s = sym (marked value runtime s) ∙ ap (λ (l : List ℕ). telling l) is
 
 -- no runtime is spelled by a list that spells no numbers
 pub no_script : (value list : List ℕ) → value ≡ codes "script=" ++ list
     → ((numbers : List FlowNo) → SpellsNumbers list numbers → ⊥) → (runtime : Runtime) → SpellsRuntime value runtime → ⊥
 unfolding mark
 no_script value list is none Event s = let e = only_script value list Event is s in omega (arith, e)
+no_script value list is none (EventWithHelpers helpers) s = let e = only_script value list (EventWithHelpers helpers) is s in omega (arith, e)
 no_script value list is none (Script numbers) s =
     let same : s.0 ≡ list = append_cancel_left (codes "script=") s.0 list (sym s.1 ∙ is) in
     none numbers (subst (λ (l : List ℕ). SpellsNumbers l numbers) same s.2)
 no_script value list is none PerFlow s = let e = only_script value list PerFlow is s in omega (arith, e)
 no_script value list is none (Pool workers) s = let e = only_script value list (Pool workers) is s in omega (arith, e)
 
--- no runtime with threads is spelled by a value that is neither
-pub no_pool : (value : List ℕ) → (value ≡ codes "perflow" → ⊥) → ((digits : List ℕ) → value ≡ codes "pool=" ++ digits → ⊥)
-    → (runtime : Runtime) → SpellsRuntime value runtime → StartsThreads runtime → ⊥
-no_pool value other none Event s t = t
-no_pool value other none (Script numbers) s t = t
-no_pool value other none PerFlow s t = other s
-no_pool value other none (Pool workers) s t = none s.0 s.1
+-- no runtime with threads is spelled by a value that is none of these
+pub no_threads : (value : List ℕ) → (value ≡ codes "perflow" → ⊥) → ((digits : List ℕ) → value ≡ codes "pool=" ++ digits → ⊥)
+    → ((digits : List ℕ) → value ≡ codes "event=" ++ digits → ⊥) → (runtime : Runtime) → SpellsRuntime value runtime → StartsThreads runtime → ⊥
+no_threads value other no_pool no_event Event s t = t
+no_threads value other no_pool no_event (EventWithHelpers helpers) s t = no_event s.0 s.1
+no_threads value other no_pool no_event (Script numbers) s t = t
+no_threads value other no_pool no_event PerFlow s t = other s
+no_threads value other no_pool no_event (Pool workers) s t = no_pool s.0 s.1
 
-pub no_workers : (value digits : List ℕ) → (value ≡ codes "perflow" → ⊥) → value ≡ codes "pool=" ++ digits
+-- and none where no number of workers stands behind `pool=`
+pub no_workers : (value digits : List ℕ) → value ≡ codes "pool=" ++ digits
     → ((number : ℕ) → SpellsNumber 1 WORKER_LIMIT digits number → ⊥) → (runtime : Runtime) → SpellsRuntime value runtime → StartsThreads runtime → ⊥
-no_workers value digits other is none Event s t = t
-no_workers value digits other is none (Script numbers) s t = t
-no_workers value digits other is none PerFlow s t = other s
-no_workers value digits other is none (Pool workers) s t =
-    let same : s.0 ≡ digits = append_cancel_left (codes "pool=") s.0 digits (sym s.1 ∙ is) in
-    none workers.count (subst (λ (l : List ℕ). SpellsNumber 1 WORKER_LIMIT l workers.count) same s.2)
+unfolding mark telling
+no_workers value digits is none (Pool workers) s t = none_behind (codes "pool=") value digits workers is none s
+no_workers value digits is none Event s t = t
+no_workers value digits is none (Script numbers) s t = t
+no_workers value digits is none PerFlow s t =
+    let e : 101 ≡ 111 = sym (marked value PerFlow s) ∙ ap (λ (l : List ℕ). telling l) is in omega (arith, e)
+no_workers value digits is none (EventWithHelpers helpers) s t =
+    let e : 61 ≡ 111 = sym (marked value (EventWithHelpers helpers) s) ∙ ap (λ (l : List ℕ). telling l) is in omega (arith, e)
+
+-- or behind `event=`
+pub no_helpers : (value digits : List ℕ) → value ≡ codes "event=" ++ digits
+    → ((number : ℕ) → SpellsNumber 1 WORKER_LIMIT digits number → ⊥) → (runtime : Runtime) → SpellsRuntime value runtime → StartsThreads runtime → ⊥
+unfolding mark telling
+no_helpers value digits is none (EventWithHelpers helpers) s t = none_behind (codes "event=") value digits helpers is none s
+no_helpers value digits is none Event s t = t
+no_helpers value digits is none (Script numbers) s t = t
+no_helpers value digits is none PerFlow s t =
+    let e : 101 ≡ 61 = sym (marked value PerFlow s) ∙ ap (λ (l : List ℕ). telling l) is in omega (arith, e)
+no_helpers value digits is none (Pool workers) s t =
+    let e : 111 ≡ 61 = sym (marked value (Pool workers) s) ∙ ap (λ (l : List ℕ). telling l) is in omega (arith, e)
 
 -- the runtime of a value that begins as no script's and isn't `event`
 pub threaded_read : (value : List ℕ) (found : Option Runtime) → (value ≡ codes "event" → ⊥) → ((list : List ℕ) → value ≡ codes "script=" ++ list → ⊥)
@@ -226,6 +258,7 @@ threaded_read value None other none is = λ runtime s. by runtime s
     by : (runtime : Runtime) → SpellsRuntime value runtime → ⊥
     by Event s = other s
     by (Script numbers) s = none s.0 s.1
+    by (EventWithHelpers helpers) s = is (EventWithHelpers helpers) s tt
     by PerFlow s = is PerFlow s tt
     by (Pool workers) s = is (Pool workers) s tt
 
@@ -241,6 +274,7 @@ threaded_none threaded = by threaded.runtime threaded.is threaded.starts
     by : (runtime : Runtime) → runtime ≡ Event → StartsThreads runtime → ⊥
     by Event is starts = starts
     by (Script numbers) is starts = starts
+    by (EventWithHelpers helpers) is starts = absurd cc
     by PerFlow is starts = absurd cc
     by (Pool workers) is starts = absurd cc
 
@@ -248,6 +282,7 @@ threaded_none threaded = by threaded.runtime threaded.is threaded.starts
 script_numbers : (value list : List ℕ) → value ≡ codes "script=" ++ list → (runtime : Runtime) → SpellsRuntime value runtime → (numbers : List FlowNo) × SpellsNumbers list numbers
 unfolding mark
 script_numbers value list is Event s = let e = only_script value list Event is s in absurd (omega (arith, e))
+script_numbers value list is (EventWithHelpers helpers) s = let e = only_script value list (EventWithHelpers helpers) is s in absurd (omega (arith, e))
 script_numbers value list is (Script numbers) s =
     let same : s.0 ≡ list = append_cancel_left (codes "script=") s.0 list (sym s.1 ∙ is) in
     (numbers, subst (λ (l : List ℕ). SpellsNumbers l numbers) same s.2)

@@ -4,7 +4,7 @@ use Rattle.std.specs.List.{AllByRecursion, slice_split}
 use Rattle.flux_model.specs.declared.items.FlowNo.{FlowNo}
 use Rattle.flux_words.specs.declared.values.TheConstants.{DIGIT_LIMIT, NUMBER_LIMIT, WORKER_LIMIT, PORT_LIMIT, BATCHES_LIMIT}
 use Rattle.flux_words.specs.declared.values.Runtime.{Runtime}
-use Rattle.flux_words.specs.declared.values.Runtime.TheVariants.{Event, Script, PerFlow, Pool}
+use Rattle.flux_words.specs.declared.values.Runtime.TheVariants.{Event, EventWithHelpers, Script, PerFlow, Pool}
 use Rattle.flux_words.specs.declared.values.JournalFormat.{JournalFormat}
 use Rattle.flux_words.specs.declared.values.JournalFormat.TheVariants.{One, Two}
 
@@ -42,9 +42,11 @@ SpellEach (digits ∷ pieces) (flow ∷ numbers) =
 pub record SpellsNumbers (list : List ℕ) (numbers : List FlowNo) : Type 0 where
   pub laid : ((list ≡ []) × (numbers ≡ [])) ⊎ SpellEach (slice_split is_comma list) numbers
 
--- `event`, `script=` and numbers, `perflow`, or `pool=` and a number from 1 to 16
+-- `event`, `script=` and numbers, `perflow`, or `pool=` or `event=` and a number from 1 to 16
 abbrev pub SpellsRuntime : List ℕ → Runtime → Type 0
 SpellsRuntime value Event = value ≡ codes "event"
+SpellsRuntime value (EventWithHelpers helpers) =
+    (digits : List ℕ) × (value ≡ codes "event=" ++ digits) × SpellsNumber 1 WORKER_LIMIT digits helpers.count
 SpellsRuntime value (Script numbers) =
     (list : List ℕ) × (value ≡ codes "script=" ++ list) × SpellsNumbers list numbers
 SpellsRuntime value PerFlow = value ≡ codes "perflow"
@@ -54,6 +56,7 @@ SpellsRuntime value (Pool workers) =
 -- a runtime that starts threads
 abbrev pub StartsThreads : Runtime → Type 0
 StartsThreads Event = ⊥
+StartsThreads (EventWithHelpers helpers) = ⊤
 StartsThreads (Script numbers) = ⊥
 StartsThreads PerFlow = ⊤
 StartsThreads (Pool workers) = ⊤

@@ -102,7 +102,7 @@ pub fn spells_serve(words: &[Bytes]) -> bool
     }
 }
 
-/// Whether the words spell a command that needs threads: `serve`, or a `run` or a `load` by `perflow` or `pool=N`.
+/// Whether the words spell a command that needs threads: `serve`, or a `run` or a `load` by `perflow`, `pool=N` or `event=H`.
 pub fn needs_threads(words: &[Bytes]) -> bool
     ensures { IsTrue result ↔ ((command : Command) × Spells words.now command
         × NeedsThreads command) }

@@ -3,7 +3,7 @@
 ghost use Rattle.std.specs.Prelude.{◌↔◌, List, IfOk, IsTrue};
 ghost use Rattle.flux_words.specs.Values.{SpellsNumbers, IsRuntime};
 ghost use Rattle.flux_words.specs.steps.Given.{listed};
-ghost use Rattle.flux_words.specs.steps.Found.{IsValueRead, IsNumberRead, AreNumbersRead, IsThreadedRead, IsRuntimeRead, IsFormatRead, IsPortRead, IsBatchesRead};
+ghost use Rattle.flux_words.specs.steps.Found.{IsValueRead, IsNumberRead, AreNumbersRead, AreWorkersRead, IsThreadedRead, IsRuntimeRead, IsFormatRead, IsPortRead, IsBatchesRead};
 
 use crate::names::strip;
 use crate::workers::Workers;
@@ -17,7 +17,7 @@ pub const DIGIT_LIMIT: usize = 10;
 /// The greatest number of a flow that a script names.
 pub const NUMBER_LIMIT: u32 = 4_095;
 
-/// The greatest number of workers of a pool.
+/// The greatest number of workers of a pool, and of helpers of an event loop.
 pub const WORKER_LIMIT: u32 = 16;
 
 /// The greatest number of a port.
@@ -26,11 +26,13 @@ pub const PORT_LIMIT: u32 = 65_535;
 /// The greatest number of batches, which is wanted where none is given.
 pub const BATCHES_LIMIT: u32 = 4_294_967_295;
 
-/// By which runtime items are run. `event=H` comes with helpers of the event loop; until then no words spell it.
+/// By which runtime items are run.
 #[derive(Debug, Drop)]
 pub enum Runtime {
     /// Flow after flow, each up to its first call, its wait or its end.
     Event,
+    /// An event loop that so many helpers run calls for.
+    EventWithHelpers(Workers),
     /// One event of each flow that is named, in order, as often as it is named.
     Script(List<FlowNo>),
     /// A thread for each flow.
@@ -94,6 +96,16 @@ fn read_numbers(alloc: Global, list: &[u8]) -> Result<Option<List<FlowNo>>, Memo
     Ok(Some(numbers))
 }
 
+/// The number of workers, or of helpers, that digits spell.
+fn read_workers(digits: &[u8]) -> Option<Workers>
+    ensures { AreWorkersRead digits.now result }
+{
+    match read_number(digits, 1, WORKER_LIMIT) {
+        Some(count) => Some(Workers { count: count as u8 }),
+        None => None,
+    }
+}
+
 /// The runtime with threads that a value spells.
 pub fn read_threaded(value: &[u8]) -> Option<Runtime>
     ensures { IsThreadedRead value.now result }
@@ -101,11 +113,17 @@ pub fn read_threaded(value: &[u8]) -> Option<Runtime>
     if value == b"perflow".as_slice() {
         return Some(Runtime::PerFlow);
     }
-    let Some(digits) = strip(b"pool=", value) else {
+    if let Some(digits) = strip(b"pool=", value) {
+        return match read_workers(digits) {
+            Some(workers) => Some(Runtime::Pool(workers)),
+            None => None,
+        };
+    }
+    let Some(digits) = strip(b"event=", value) else {
         return None;
     };
-    match read_number(digits, 1, WORKER_LIMIT) {
-        Some(count) => Some(Runtime::Pool(Workers { count: count as u8 })),
+    match read_workers(digits) {
+        Some(helpers) => Some(Runtime::EventWithHelpers(helpers)),
         None => None,
     }
 }

@@ -1,8 +1,8 @@
-//! The number of a pool's workers.
+//! The number of a pool's workers, or of an event loop's helpers.
 
 ghost use Rattle.std.specs.Prelude.{◌≤◌};
 
-/// How many workers a pool has, from 1 to 16.
+/// How many workers a pool has, or how many helpers an event loop, from 1 to 16.
 #[derive(Clone, Copy, Debug, PartialEq, Eq)]
 pub struct Workers {
     pub count: u8,

@@ -4,7 +4,9 @@ use Rattle.std.specs.List.{AllByRecursion, slice_split}
 use Rattle.flux_model.specs.declared.items.FlowNo.{FlowNo}
 use Rattle.flux_words.specs.declared.parts.Part.{Part as Read}
 use Rattle.flux_words.specs.declared.parts.Part.TheVariants as reads
+use Rattle.flux_words.specs.declared.values.TheConstants.{WORKER_LIMIT}
 use Rattle.flux_words.specs.declared.values.Runtime.{Runtime}
+use Rattle.flux_words.specs.declared.workers.Workers.{Workers}
 use Rattle.flux_words.specs.declared.costs.TheConstants.{COSTS_LIMIT}
 use Rattle.flux_words.specs.declared.costs.Processors.{Processors}
 use Rattle.flux_words.specs.declared.costs.Costs.{Costs}
@@ -32,6 +34,11 @@ IsNumberRead least most digits None = (number : ℕ) → SpellsNumber least most
 abbrev pub AreNumbersRead : List ℕ → Option (List FlowNo) → Type 0
 AreNumbersRead list (Some numbers) = SpellsNumbers list numbers
 AreNumbersRead list None = (numbers : List FlowNo) → SpellsNumbers list numbers → ⊥
+
+-- the number of workers that digits spell, or that they spell none
+abbrev pub AreWorkersRead : List ℕ → Option Workers → Type 0
+AreWorkersRead digits (Some workers) = SpellsNumber 1 WORKER_LIMIT digits workers.count
+AreWorkersRead digits None = (number : ℕ) → SpellsNumber 1 WORKER_LIMIT digits number → ⊥
 
 -- the runtime with threads that a value spells, or that it spells none
 abbrev pub IsThreadedRead : List ℕ → Option Runtime → Type 0
