@@ -13,22 +13,17 @@ use Rattle.rt_all.specs.declared.chosen.Chosen.TheVariants.{Event, Script, PerFl
 -- the runtime that the words name
 abbrev pub chosen_by : Runtime → Chosen
 chosen_by words.Event = Event (record { helpers = 0; few = zero-le })
+chosen_by (words.EventWithHelpers helpers) =
+    Event (record { helpers = helpers.count; few = helpers.few })
 chosen_by (words.Script numbers) = Script (record { numbers = numbers })
 chosen_by words.PerFlow = PerFlow (record {})
 chosen_by (words.Pool workers) =
     Pool (record { workers = workers.count; some = workers.some; few = workers.few })
 
--- what it has to be to drive a core
-abbrev pub IsReady : Chosen → Type 0
-IsReady (Event runtime) = runtime.helpers ≡ 0
-IsReady (Script runtime) = ⊤
-IsReady (PerFlow runtime) = ⊤
-IsReady (Pool runtime) = ⊤
-
 -- flow after flow, each up to its first call, its wait or its end; or as the script's numbers say; or, where threads let
--- the flows go on, any order
+-- the flows go on, as an event loop's helpers do, any order
 abbrev pub IsOrder : Chosen → Setup → List Entry → List Entry → Type 0
-IsOrder (Event runtime) setup old new = IsRound setup old new
+IsOrder (Event runtime) setup old new = runtime.helpers ≡ 0 → IsRound setup old new
 IsOrder (Script runtime) setup old new = IsFollow setup old runtime.numbers new
 IsOrder (PerFlow runtime) setup old new = ⊤
 IsOrder (Pool runtime) setup old new = ⊤

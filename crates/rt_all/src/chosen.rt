@@ -3,10 +3,12 @@
 ghost use Rattle.std.specs.Prelude.{◌≡◌, IfOk, IfErr, OnErr};
 ghost use Rattle.flow_core.specs.States.{setup_in};
 ghost use Rattle.flow_core.specs.Runs.{GoesOnLegally, GoesToEnd};
-ghost use Rattle.rt_all.specs.Orders.{chosen_by, IsReady, IsOrder, IsOrderAlone};
+ghost use Rattle.rt_all.specs.Orders.{chosen_by, IsOrder, IsOrderAlone};
 
 use flow_core::{Core, Gate, Runtime, Stopped};
+use flow_waits::drain_by;
 use flux_library::Library;
+use flux_values::Memory;
 use rt_event::EventLoop;
 use rt_perflow::PerFlow;
 use rt_pool::Pool;
@@ -25,13 +27,15 @@ pub enum Chosen {
 }
 
 impl Chosen {
-    /// The runtime that the words name, ready to drive.
+    /// The runtime that the words name.
     pub fn by(words: flux_words::Runtime) -> Chosen
-        ensures chosen { result ≡ chosen_by words }
-        ensures ready { IsReady result }
+        ensures { result ≡ chosen_by words }
     {
         match words {
             flux_words::Runtime::Event => Chosen::Event(EventLoop { helpers: 0 }),
+            flux_words::Runtime::EventWithHelpers(helpers) => Chosen::Event(EventLoop {
+                helpers: helpers.count,
+            }),
             flux_words::Runtime::Script(numbers) => Chosen::Script(Script { numbers }),
             flux_words::Runtime::PerFlow => Chosen::PerFlow(PerFlow),
             flux_words::Runtime::Pool(workers) => Chosen::Pool(Pool {
@@ -41,27 +45,34 @@ impl Chosen {
     }
 
     /// Drives a core to its end, by threads where the runtime starts some. All that a runtime promises, it promises too, and
-    /// the order of the runtime.
+    /// the order of the runtime. A core that threads had no memory to drive on is driven to its end by the thread that calls.
     pub fn drive_by_threads<L: Library + Send + Sync, G: Gate + Sync, Rt: Threads + Wait + Sync>(
         &mut self,
         rt: &Rt,
         core: Core<L>,
         gate: &G,
     ) -> Result<Core<L>, Stopped<L>>
-        requires { IsReady self.old }
-        ensures again { IsReady self.new }
         ensures ok { IfOk result (GoesToEnd L.meaning core) }
         ensures err { IfErr result (λ stopped. GoesOnLegally L.meaning core stopped.core) }
-        ensures still { OnErr result (self.new ≡ self.old) }
         ensures order { IfOk result (λ driven. IsOrder self.old (setup_in L.meaning core) core.entries
             driven.entries) }
         ensures same { self.new ≡ self.old }
     {
         match self {
-            Chosen::Event(runtime) => runtime.drive_alone(core, gate),
+            Chosen::Event(runtime) if runtime.helpers == 0 => runtime.drive_alone(core, gate),
+            Chosen::Event(runtime) => match runtime.drive_by_threads(rt, core, gate) {
+                Ok(core) => Ok(core),
+                Err(stopped) => drained(stopped, gate),
+            },
             Chosen::Script(runtime) => runtime.drive_alone(core, gate),
-            Chosen::PerFlow(runtime) => runtime.drive(rt, core, gate),
-            Chosen::Pool(runtime) => runtime.drive(rt, core, gate),
+            Chosen::PerFlow(runtime) => match runtime.drive(rt, core, gate) {
+                Ok(core) => Ok(core),
+                Err(stopped) => drained(stopped, gate),
+            },
+            Chosen::Pool(runtime) => match runtime.drive(rt, core, gate) {
+                Ok(core) => Ok(core),
+                Err(stopped) => drained(stopped, gate),
+            },
         }
     }
 
@@ -72,7 +83,6 @@ impl Chosen {
         core: Core<L>,
         gate: &G,
     ) -> Result<Core<L>, Stopped<L>>
-        requires { IsReady self.old }
         ensures ok { IfOk result (GoesToEnd L.meaning core) }
         ensures err { IfErr result (λ stopped. GoesOnLegally L.meaning core stopped.core) }
         ensures order { IfOk result (λ driven. IsOrder self.old (setup_in L.meaning core) core.entries
@@ -91,11 +101,21 @@ impl Chosen {
     }
 }
 
+/// Lets the flows of a core that was stopped come to their ends, on the thread that calls.
+fn drained<L: Library, G: Gate>(stopped: Stopped<L>, gate: &G) -> Result<Core<L>, Stopped<L>>
+    ensures ok { IfOk result (GoesToEnd L.meaning stopped.core) }
+    ensures err { IfErr result (λ again. GoesOnLegally L.meaning stopped.core again.core) }
+{
+    let Stopped { mut core } = stopped;
+    match drain_by(&mut core, gate) {
+        Ok(()) => Ok(core),
+        Err(Memory) => Err(Stopped { core }),
+    }
+}
+
 /// No impl of the trait can start threads: where a runtime is met as a trait's, the chosen one drives alone.
 impl Runtime for Chosen {
-    ghost use Rattle.rt_all.specs.Orders.{IsReady};
-
-    ghost ready = { IsReady };
+    ghost ready = { λ _. Unit {0} };
 
     fn drive<L: Library, G: Gate, Rt: Threads + Wait + Sync>(
         &mut self,
@@ -103,8 +123,8 @@ impl Runtime for Chosen {
         core: Core<L>,
         gate: &G,
     ) -> Result<Core<L>, Stopped<L>>
-        requires { IsReady self.old }
-        ensures again { IsReady self.new }
+        requires { Unit {0} }
+        ensures again { Unit {0} }
         ensures ok { IfOk result (GoesToEnd L.meaning core) }
         ensures err { IfErr result (λ stopped. GoesOnLegally L.meaning core stopped.core) }
         ensures still { OnErr result (self.new ≡ self.old) }

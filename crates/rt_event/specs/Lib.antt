@@ -1,2 +1,4 @@
 pub mod Round
+pub mod Parts
+pub mod Posts
 pub mod steps

@@ -6,17 +6,18 @@ ghost use Rattle.flow_core.specs.Runs.{LeavesOthers, GoesOnLegally, GoesToEnd};
 ghost use Rattle.rt_event.specs.Round.{IsRound};
 ghost use Rattle.rt_event.specs.steps.Owners.{Stays, Leads, MakesTurn};
 
+use crate::shifts::drive_with_helpers;
 use flow_core::{Core, Gate, Runtime, Stopped};
 use flow_waits::{Candidates, Turn, take_turn};
 use flux_library::Library;
 use flux_model::FlowNo;
 use flux_values::Memory;
-use std::marker::Sync;
+use std::marker::{Send, Sync};
 use std::sync::Wait;
 use std::thread::Threads;
 
-/// Drives a core by an event loop with a number of helpers, from 0 to 16. As yet it drives only without helpers: the loop
-/// runs all calls itself.
+/// Drives a core by an event loop with a number of helpers, from 0 to 16, which run the calls. Without helpers the loop runs
+/// them itself.
 #[derive(Clone, Copy, Debug, PartialEq, Eq)]
 pub struct EventLoop {
     pub helpers: u8,
@@ -24,13 +25,12 @@ pub struct EventLoop {
 }
 
 impl EventLoop {
-    /// Drives a core to its end, without a handle for threads.
+    /// Drives a core to its end, without a handle for threads: the loop runs all calls itself, as it does without helpers.
     pub fn drive_alone<L: Library, G: Gate>(
         &mut self,
         core: Core<L>,
         gate: &G,
     ) -> Result<Core<L>, Stopped<L>>
-        requires { self.old.helpers ≡ 0 }
         ensures ok { IfOk result (GoesToEnd L.meaning core) }
         ensures err { IfErr result (λ stopped. GoesOnLegally L.meaning core stopped.core) }
         ensures round { IfOk result (λ driven. IsRound (setup_in L.meaning core) core.entries driven.entries) }
@@ -42,10 +42,31 @@ impl EventLoop {
             Err(Memory) => Err(Stopped { core }),
         }
     }
+
+    /// Drives a core to its end, by threads where there are helpers. What a runtime promises, it promises too, for whatever
+    /// order the turns of loop and helpers have; the order of the journal, where there are no helpers.
+    pub fn drive_by_threads<L: Library + Send + Sync, G: Gate + Sync, R: Threads + Wait + Sync>(
+        &mut self,
+        rt: &R,
+        core: Core<L>,
+        gate: &G,
+    ) -> Result<Core<L>, Stopped<L>>
+        ensures ok { IfOk result (GoesToEnd L.meaning core) }
+        ensures err { IfErr result (λ stopped. GoesOnLegally L.meaning core stopped.core) }
+        ensures round { IfOk result (λ driven. self.old.helpers ≡ 0
+            → IsRound (setup_in L.meaning core) core.entries driven.entries) }
+        ensures helpers { self.new ≡ self.old }
+    {
+        if self.helpers == 0 {
+            return self.drive_alone(core, gate);
+        }
+        drive_with_helpers(rt, core, self.helpers, gate)
+    }
 }
 
+/// No impl of the trait can start threads: where the event loop is met as a trait's, it drives alone.
 impl Runtime for EventLoop {
-    ghost ready = { λ it. it.helpers ≡ 0 };
+    ghost ready = { λ _. Unit {0} };
 
     fn drive<L: Library, G: Gate, Rt: Threads + Wait + Sync>(
         &mut self,
@@ -53,8 +74,8 @@ impl Runtime for EventLoop {
         core: Core<L>,
         gate: &G,
     ) -> Result<Core<L>, Stopped<L>>
-        requires { self.old.helpers ≡ 0 }
-        ensures again { self.new.helpers ≡ 0 }
+        requires { Unit {0} }
+        ensures again { Unit {0} }
         ensures ok { IfOk result (GoesToEnd L.meaning core) }
         ensures err { IfErr result (λ stopped. GoesOnLegally L.meaning core stopped.core) }
         ensures still { OnErr result (self.new ≡ self.old) }

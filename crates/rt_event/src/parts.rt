@@ -1,0 +1,74 @@
+//! The parts of a drive with helpers.
+
+ghost use Rattle.std.specs.Prelude.{◌<◌, ◌≤◌, length};
+ghost use Rattle.flow_core.specs.Runs.{GoesOn};
+ghost use Rattle.rt_event.specs.Parts.{RunsIn};
+
+use crate::helpers::Helper;
+use crate::leads::Lead;
+use flow_core::{Core, Job};
+use flux_library::Library;
+use flux_model::FlowNo;
+use flux_values::Memory;
+
+/// The loop, or a helper.
+#[derive(Drop)]
+pub enum Part {
+    Lead(Lead),
+    Helper(Helper),
+}
+
+/// What a part does behind its turn.
+#[derive(Drop)]
+pub enum Next<L: Library> {
+    /// It goes on at once.
+    Goes,
+    /// It has nothing to do.
+    Rests,
+    /// It runs a call.
+    Runs(Job<L>),
+    /// It ends: no flow is live, or the core is halted.
+    Ends,
+}
+
+impl Part {
+    /// A part's turn.
+    pub fn turn<L: Library>(&mut self, core: &mut Core<L>) -> Next<L>
+        ensures on { GoesOn core.old core.new }
+        ensures runs { RunsIn core.new.setup result }
+    {
+        if core.is_halted() || core.live() == 0 {
+            return Next::Ends;
+        }
+        match self {
+            Part::Lead(lead) => lead.turn(core),
+            Part::Helper(helper) => helper.turn(core),
+        }
+    }
+}
+
+/// The call that a flow has begun, once more. Want of memory halts the core.
+pub fn call_of<L: Library>(core: &mut Core<L>, flow: FlowNo) -> Next<L>
+    requires { flow.0 < length core.old.setup.items }
+    ensures on { GoesOn core.old core.new }
+    ensures runs { RunsIn core.new.setup result }
+{
+    match core.recall(flow) {
+        Ok(Some(job)) => Next::Runs(job),
+        Ok(None) => Next::Rests,
+        Err(Memory) => {
+            core.halt();
+            Next::Ends
+        }
+    }
+}
+
+/// The loop and so many helpers, the loop first.
+pub fn parts<L: Library>(core: &Core<L>, helpers: u8) -> Result<Vec<Part>, Memory> {
+    let mut parts = Vec::new(core.alloc());
+    parts.push(Part::Lead(Lead::new(core)?))?;
+    for number in 0..helpers {
+        parts.push(Part::Helper(Helper::new(number, helpers)))?;
+    }
+    Ok(parts)
+}
