@@ -34,7 +34,7 @@ fn greatest_put(so_far: i64, puts: &[Put]) -> i64 {
 }
 
 /// The greatest number that a call of the entries put into a cell, or 0.
-fn greatest_in(entries: &[Entry]) -> i64 {
+pub fn greatest_in(entries: &[Entry]) -> i64 {
     let mut greatest = 0;
     for entry in entries {
         if let Event::Call(call) = &entry.event {

@@ -10,6 +10,7 @@ mod crowds;
 mod gates;
 mod halls;
 mod heavy;
+mod lates;
 mod queues;
 mod refusals;
 mod runs;
@@ -19,6 +20,7 @@ mod words;
 use crowds::drive_crowd;
 use halls::two_tries;
 use heavy::heavy_ended;
+use lates::late_of;
 use queues::takes;
 use refusals::driven_twice;
 use runs::{Driver, calls_held, kept, nested_kept};
@@ -39,6 +41,22 @@ const SEEDS: u32 = 10;
 
 /// So often each of them is driven.
 const TIMES: u32 = 10;
+
+/// The runtimes that run two calls at once.
+const BESIDE: &[(Driver, &str)] = &[
+    (Driver::PerFlow, "perflow"),
+    (Driver::Pool(2), "pool=2"),
+    (Driver::Helpers(2), "event=2"),
+];
+
+/// The runtimes that drive crowds.
+const CROWDED: &[(Driver, &str)] = &[
+    (Driver::PerFlow, "perflow"),
+    (Driver::Pool(4), "pool=4"),
+    (Driver::Helpers(1), "event=1"),
+    (Driver::Helpers(2), "event=2"),
+    (Driver::Helpers(16), "event=16"),
+];
 
 /// The programs of the crowds, and what their flows do.
 const CROWDS: &[(&[u8], &str)] = &[
@@ -116,8 +134,8 @@ fn answer_refusals<R: Threads + Wait + Sync + Print>(
     for call in 1..=4 {
         let drives = driven_twice(rt, alloc, driver, call)?;
         println!(rt;
-            "{name}: call {call} is refused: stopped {}, ended then {}, upheld {}",
-            drives.first_stopped, drives.ended, drives.is_upheld
+            "{name}: call {call} is refused: the first drive is right {}, ended then {}, counted {}, upheld {}",
+            drives.first_is_right, drives.ended, drives.total, drives.is_upheld
         )?;
     }
     Ok(())
@@ -133,6 +151,21 @@ fn answer_beside<R: Threads + Wait + Sync + Print>(
     let held = calls_held(rt, alloc, driver)?;
     println!(rt;
         "{name}: the first call waited for another flow's, and the journal is upheld: {held}"
+    )?;
+    Ok(())
+}
+
+/// A call that is run twice.
+fn answer_late<R: Threads + Wait + Sync + Print>(
+    rt: &R,
+    alloc: Global,
+    driver: Driver,
+    name: &str,
+) -> Result<(), Trouble> {
+    let lates = late_of(rt, alloc, driver, 4)?;
+    println!(rt;
+        "{name}: a call was run twice: {} flows have ended, the total is {}, late answers {}, upheld {}",
+        lates.ended, lates.total, lates.late, lates.is_upheld
     )?;
     Ok(())
 }
@@ -172,11 +205,15 @@ fn answer_shared<R: Wait + Print>(rt: &R, alloc: Global) -> Result<(), Trouble> 
 
 /// The trials by threads.
 fn answer_threads<R: Threads + Wait + Sync + Print>(rt: &R, alloc: Global) -> Result<(), Trouble> {
-    answer_beside(rt, alloc, Driver::PerFlow, "perflow")?;
-    answer_beside(rt, alloc, Driver::Pool(2), "pool=2")?;
+    for (driver, name) in BESIDE {
+        answer_beside(rt, alloc, *driver, name)?;
+    }
+    answer_late(rt, alloc, Driver::Helpers(1), "event=1")?;
     answer_drivers(rt, alloc)?;
-    answer_crowds(rt, alloc, Driver::PerFlow, "perflow")?;
-    answer_crowds(rt, alloc, Driver::Pool(4), "pool=4")
+    for (driver, name) in CROWDED {
+        answer_crowds(rt, alloc, *driver, name)?;
+    }
+    Ok(())
 }
 
 fn answer_all<R: Threads + Wait + Sync + Print + Files + Alloc>(

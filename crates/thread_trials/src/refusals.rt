@@ -1,6 +1,7 @@
 //! A library that answers want of memory once.
 
 use crate::burdens::Burden;
+use crate::crowds::greatest_in;
 use crate::runs::{Driver, drive, run_of};
 use flow_core::{Core, OpenGate};
 use flux_library::Library;
@@ -15,11 +16,19 @@ use trial_programs::{COUNTING, Flows, LEFT_OUT, Opened, Watched, open};
 /// What came of two drives.
 #[derive(Clone, Copy)]
 pub struct Drives {
-    pub first_stopped: bool,
+    /// Whether the first stopped before its end, or might have come to it.
+    pub first_is_right: bool,
     /// How many flows have ended behind the second.
     pub ended: u32,
+    /// What they have counted.
+    pub total: i64,
     /// Whether the auditor upholds the journal.
     pub is_upheld: bool,
+}
+
+/// Whether a drive may come to its end though a call is refused: the loop may run a helper's call too.
+fn may_end(driver: Driver) -> bool {
+    matches!(driver, Driver::Helpers(_))
 }
 
 /// Drives a core, and says whether it stopped before its end.
@@ -58,8 +67,9 @@ pub fn driven_twice<R: Threads + Wait + Sync>(
         given: &given,
     };
     Ok(Drives {
-        first_stopped,
+        first_is_right: first_stopped || may_end(driver),
         ended: run.ended,
+        total: greatest_in(run.journal.entries.as_slice()),
         is_upheld: flows.uphold(alloc, &run.journal, LEFT_OUT)?,
     })
 }

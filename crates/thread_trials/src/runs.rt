@@ -22,6 +22,8 @@ use trial_programs::{FREE, Flows, LEFT_OUT, NESTED, Opened, numbers, numbers_of,
 pub enum Driver {
     /// On the thread that calls.
     Event,
+    /// The event loop with so many helpers.
+    Helpers(u8),
     PerFlow,
     /// With so many workers.
     Pool(u8),
@@ -35,6 +37,10 @@ pub fn drive<L: Library + Send + Sync, G: Gate + Sync, R: Threads + Wait + Sync>
 ) -> Result<Core<L>, Stopped<L>> {
     match driver {
         Driver::Event => EventLoop { helpers: 0 }.drive_alone(core, gate),
+        Driver::Helpers(helpers) => EventLoop {
+            helpers: helpers.min(16),
+        }
+        .drive_by_threads(rt, core, gate),
         Driver::PerFlow => PerFlow.drive(rt, core, gate),
         Driver::Pool(workers) => Pool {
             workers: workers.clamp(1, 16),

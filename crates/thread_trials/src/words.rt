@@ -6,6 +6,9 @@ use trial_ends::Trouble;
 /// The runtimes that are tried, and their names.
 pub const DRIVERS: &[(Driver, &str)] = &[
     (Driver::Event, "event"),
+    (Driver::Helpers(1), "event=1"),
+    (Driver::Helpers(2), "event=2"),
+    (Driver::Helpers(16), "event=16"),
     (Driver::PerFlow, "perflow"),
     (Driver::Pool(1), "pool=1"),
     (Driver::Pool(2), "pool=2"),
