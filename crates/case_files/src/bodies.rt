@@ -47,16 +47,24 @@ fn append_numbered(
     Ok(())
 }
 
+/// The number that stands in place of the words behind a brace, and what stands behind them.
+fn numbered(part: &[u8], number: usize) -> Option<(usize, &[u8])> {
+    if let Some(rest) = part.strip_prefix(b"n}") {
+        Some((number, rest))
+    } else if let Some(rest) = part.strip_prefix(b"n+1}") {
+        Some((number.saturating_add(1), rest))
+    } else if let Some(rest) = part.strip_prefix(b"n-1}") {
+        Some((number.saturating_sub(1), rest))
+    } else {
+        None
+    }
+}
+
 /// Adds the part of a template behind a brace.
 fn append_part(alloc: Global, out: &mut Bytes, part: &[u8], number: usize) -> Result<(), Memory> {
-    let (value, rest) = match part {
-        [b'n', b'}', rest @ ..] => (number, rest),
-        [b'n', b'+', b'1', b'}', rest @ ..] => (number.saturating_add(1), rest),
-        [b'n', b'-', b'1', b'}', rest @ ..] => (number.saturating_sub(1), rest),
-        _ => {
-            out.append(b"{")?;
-            return out.append(part);
-        }
+    let Some((value, rest)) = numbered(part, number) else {
+        out.append(b"{")?;
+        return out.append(part);
     };
     append_number(alloc, out, value as u64)?;
     out.append(rest)

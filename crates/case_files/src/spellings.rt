@@ -37,7 +37,10 @@ pub fn words_of(alloc: Global, text: &str) -> Result<List<Bytes>, Trouble> {
 }
 
 pub fn number_of(word: &str) -> Result<usize, Trouble> {
-    word.parse::<usize>().map_err(|_| Trouble::Words)
+    match word.parse::<usize>() {
+        Ok(number) => Ok(number),
+        Err(_) => Err(Trouble::Words),
+    }
 }
 
 /// The numbers of calls between the blanks of a text.

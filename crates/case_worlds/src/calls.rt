@@ -123,13 +123,20 @@ impl<R: Wait> Gate for CountingGate<'_, R> {
     }
 }
 
+/// Whether a line of a printed journal is a call.
+fn is_call(line: &[u8]) -> bool {
+    let mut words = line.splitn(3, |byte| *byte == b' ');
+    match (words.next(), words.next()) {
+        (Some(number), Some(event)) => is_number(number) && event == b"call".as_slice(),
+        _ => false,
+    }
+}
+
 /// How many calls a printed journal has.
 pub fn calls_in(journal: &[u8]) -> u64 {
     let mut calls: u64 = 0;
     for line in journal.split(|byte| *byte == b'\n') {
-        let mut words = line.splitn(3, |byte| *byte == b' ');
-        let is_numbered = words.next().is_some_and(is_number);
-        if is_numbered && words.next() == Some(b"call".as_slice()) {
+        if is_call(line) {
             calls = calls.saturating_add(1);
         }
     }

@@ -63,18 +63,33 @@ fn add_clients<'a>(
     Ok(batch)
 }
 
+/// The links to the clients of one batch.
+fn links_of(alloc: Global, case: &Case, batch: &[Client]) -> Result<List<MemoryLink>, Memory> {
+    let mut links = List::new(alloc);
+    for client in batch {
+        links.add(link(alloc, case, client)?)?;
+    }
+    Ok(links)
+}
+
+/// The links of a case, by their batches.
+fn batches_of(
+    alloc: Global,
+    case: &Case,
+    clients: &[Client],
+) -> Result<List<List<MemoryLink>>, Memory> {
+    let mut batches = List::new(alloc);
+    for batch in clients.chunk_by(|one, next| one.batch == next.batch) {
+        batches.add(links_of(alloc, case, batch)?)?;
+    }
+    Ok(batches)
+}
+
 /// The links of a case, and which calls of the door fail.
 pub fn entrance_of(alloc: Global, case: &Case) -> Result<Entrance, Memory> {
     let clients = clients_of(alloc, case)?;
-    let mut batches = List::new(alloc);
-    for batch in clients.chunk_by(|one, next| one.batch == next.batch) {
-        let mut links = List::new(alloc);
-        for client in batch {
-            links.add(link(alloc, case, client)?)?;
-        }
-        batches.add(links)?;
-    }
     let fails = case.fails(alloc, Part::Door)?;
+    let batches = batches_of(alloc, case, clients.as_slice())?;
     Ok(Entrance { batches, fails })
 }
 

@@ -4,7 +4,7 @@ use crate::calls::{calls_in, has_journal};
 use crate::clients::clients_of;
 use crate::parts::Parts;
 use case_files::{Case, Differences, Stream};
-use flux_doors::MemoryDoor;
+use flux_doors::{MemoryDoor, MemoryLink};
 use flux_spelling::append_text;
 use flux_values::{Bytes, Memory};
 use std::alloc::Global;
@@ -50,6 +50,14 @@ fn compare_parts(
     compare_links(alloc, differences, case, &parts.door)
 }
 
+/// What the link at a place was written.
+fn written_on(links: &[MemoryLink], place: usize) -> &[u8] {
+    match links.get(place) {
+        Some(link) => link.written(),
+        None => b"",
+    }
+}
+
 /// Compares what each link was written with what it has to be. A link that didn't come to the door was written nothing.
 fn compare_links(
     alloc: Global,
@@ -59,11 +67,7 @@ fn compare_links(
 ) -> Result<(), Memory> {
     let back = door.taken_back();
     for (place, client) in clients_of(alloc, case)?.iter().enumerate() {
-        let written = match back.get(place) {
-            Some(link) => link.written(),
-            None => b"",
-        };
-        differences.compare_link(place, written, client.lines)?;
+        differences.compare_link(place, written_on(back, place), client.lines)?;
     }
     Ok(())
 }

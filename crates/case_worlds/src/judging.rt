@@ -84,11 +84,25 @@ fn judge_lines<R: Fn(&[Bytes], Parts<Entrance>, u64) -> Result<Outcome, Memory>>
     }
     let mut differences = Differences::new(alloc);
     judge(alloc, &mut differences, &Case::of(own, shared), run)?;
-    if !differences.lines().is_empty() {
-        report.add_wrong(alloc, file, head.number, name.as_str())?;
-        for line in differences.lines() {
-            report.add_difference(line.as_bytes())?;
-        }
+    let lines = differences.lines();
+    Ok(tell_wrong(alloc, report, file, head.number, name.as_str(), lines)?)
+}
+
+/// Tells of a case at a line of a file where there are lines about what differs.
+fn tell_wrong(
+    alloc: Global,
+    report: &mut Report,
+    file: &str,
+    number: usize,
+    name: &str,
+    lines: &[Bytes],
+) -> Result<(), Memory> {
+    if lines.is_empty() {
+        return Ok(());
+    }
+    report.add_wrong(alloc, file, number, name)?;
+    for line in lines {
+        report.add_difference(line.as_bytes())?;
     }
     Ok(())
 }
@@ -105,8 +119,23 @@ fn judge<R: Fn(&[Bytes], Parts<Entrance>, u64) -> Result<Outcome, Memory>>(
     let Some(words) = case.words else {
         return differences.tell(b"it has no words");
     };
-    let outcome = run(words, parts_of(alloc, case)?, case.hold.unwrap_or(0) as u64)?;
-    compare_outcome(alloc, differences, case, words, &outcome)?;
+    let parts = parts_of(alloc, case)?;
+    let outcome = run(words, parts, case.hold.unwrap_or(0) as u64)?;
+    judge_outcome(alloc, differences, case, words, &outcome, run)
+}
+
+/// Tells what differs of what a case's words came to, and audits the journal of a run.
+fn judge_outcome<R: Fn(&[Bytes], Parts<Entrance>, u64) -> Result<Outcome, Memory>>(
+    alloc: Global,
+    differences: &mut Differences,
+    case: &Case,
+    words: &[Bytes],
+    outcome: &Outcome,
+    run: &R,
+) -> Result<(), Memory>
+    requires { R.IsAlwaysCallable run.now }
+{
+    compare_outcome(alloc, differences, case, words, outcome)?;
     if outcome.status == 0 && is_command(words, b"run") {
         let journal = outcome.parts.out.written();
         audit(alloc, differences, case, words, journal, run)?;

@@ -5,7 +5,7 @@ ghost use Rattle.flux_doors.specs.Memory.{door_out};
 
 use crate::clients::entrance_of;
 use crate::watched::{Names, WatchedFolder, WatchedStore};
-use case_files::{Case, Entry, Part, Shape, Stream};
+use case_files::{Case, Entry, Line, Part, Shape, Stream};
 use flux_doors::{MemoryDoor, MemoryLink};
 use flux_outside::{FileBytes, MemoryFolder, MemorySink, MemoryStore};
 use flux_values::{Bytes, List, Memory};
@@ -42,26 +42,54 @@ pub struct Parts<D> {
 
 /// The parts of the world that a case's command line meets.
 pub fn parts_of(alloc: Global, case: &Case) -> Result<Parts<Entrance>, Memory> {
+    let (store, folder) = places_of(alloc, case)?;
+    let (out, err) = streams_of(alloc, case)?;
+    let door = entrance_of(alloc, case)?;
     Ok(Parts {
-        store: store_of(alloc, case)?,
-        folder: folder_of(alloc, case)?,
-        out: out_of(alloc, case)?,
-        err: err_of(alloc, case)?,
-        door: entrance_of(alloc, case)?,
+        store,
+        folder,
+        out,
+        err,
+        door,
     })
+}
+
+/// The store and the folder of a case.
+fn places_of(alloc: Global, case: &Case) -> Result<(WatchedStore, WatchedFolder), Memory> {
+    let store = store_of(alloc, case)?;
+    let folder = folder_of(alloc, case)?;
+    Ok((store, folder))
+}
+
+/// The output and the error stream of a case.
+fn streams_of(alloc: Global, case: &Case) -> Result<(MemorySink, MemorySink), Memory> {
+    let out = out_of(alloc, case)?;
+    let err = err_of(alloc, case)?;
+    Ok((out, err))
+}
+
+/// A file of this name and these bytes.
+pub fn file_of(alloc: Global, name: &[u8], body: &[u8]) -> Result<FileBytes, Memory> {
+    let name = Bytes::copy(alloc, name)?;
+    let body = Bytes::copy(alloc, body)?;
+    Ok(FileBytes { name, body })
+}
+
+/// Adds the files of lines.
+fn add_files(alloc: Global, files: &mut List<FileBytes>, lines: &[Line]) -> Result<(), Memory> {
+    for line in lines {
+        if let Entry::File(file) = &line.entry {
+            files.add(file_of(alloc, file.name.as_bytes(), file.body.as_bytes())?)?;
+        }
+    }
+    Ok(())
 }
 
 /// The files that are there.
 pub fn files_of(alloc: Global, case: &Case) -> Result<List<FileBytes>, Memory> {
     let mut files = List::new(alloc);
-    for line in case.own.iter().chain(case.shared) {
-        if let Entry::File(file) = &line.entry {
-            files.add(FileBytes {
-                name: Bytes::copy(alloc, file.name.as_bytes())?,
-                body: Bytes::copy(alloc, file.body.as_bytes())?,
-            })?;
-        }
-    }
+    add_files(alloc, &mut files, case.own)?;
+    add_files(alloc, &mut files, case.shared)?;
     Ok(files)
 }
 
@@ -79,14 +107,27 @@ fn store_of(alloc: Global, case: &Case) -> Result<WatchedStore, Memory> {
     Ok(store_with(alloc, files_of(alloc, case)?, fails))
 }
 
-/// The folder that is there, of which these calls fail.
-pub fn folder_with(alloc: Global, case: &Case, fails: List<u64>) -> Result<WatchedFolder, Memory> {
-    let mut docs = List::new(alloc);
-    for line in case.own.iter().chain(case.shared) {
+/// Adds the documents of lines.
+fn add_documents(alloc: Global, docs: &mut List<FileBytes>, lines: &[Line]) -> Result<(), Memory> {
+    for line in lines {
         if let Entry::Documents(documents) = &line.entry {
-            documents.add_to(alloc, &mut docs)?;
+            documents.add_to(alloc, docs)?;
         }
     }
+    Ok(())
+}
+
+/// The documents of the folder.
+fn documents_of(alloc: Global, case: &Case) -> Result<List<FileBytes>, Memory> {
+    let mut docs = List::new(alloc);
+    add_documents(alloc, &mut docs, case.own)?;
+    add_documents(alloc, &mut docs, case.shared)?;
+    Ok(docs)
+}
+
+/// The folder that is there, of which these calls fail.
+pub fn folder_with(alloc: Global, case: &Case, fails: List<u64>) -> Result<WatchedFolder, Memory> {
+    let docs = documents_of(alloc, case)?;
     // A folder without a name is asked for by no words.
     let dir = Bytes::copy(alloc, case.folder.unwrap_or(b""))?;
     Ok(WatchedFolder {
