@@ -59,6 +59,14 @@ fn fit(checked: &Checked, items: &List<Item>) -> bool
     are_small(checked.sizes.as_slice(), items.as_slice())
 }
 
+/// What the calls of a node cost: what is given for it, or 1.
+fn cost_of(costs: &[u32], node: usize) -> u32 {
+    match costs.get(node) {
+        Some(cost) => *cost,
+        None => 1,
+    }
+}
+
 /// A cost for each of so many nodes: those that are given, and 1 for all others.
 fn all_costs(alloc: Global, nodes: usize, costs: &[u32]) -> Result<List<u32>, Trouble>
     ensures each { IfOk result (λ all. length all ≡ nodes) }
@@ -66,7 +74,7 @@ fn all_costs(alloc: Global, nodes: usize, costs: &[u32]) -> Result<List<u32>, Tr
 {
     let mut all = List::new(alloc);
     for node in 0..nodes {
-        let cost = costs.get(node).copied().unwrap_or(1);
+        let cost = cost_of(costs, node);
         if cost < 1 || cost > 1_000 {
             return Err(Trouble::Words);
         }
@@ -102,12 +110,12 @@ pub fn ready_of<L: Library>(
     ensures { IfOk result (λ ready. CanSimulate L.meaning ready.core ready.costs) }
 {
     let checked = checked_of(alloc, text, &library)?;
-    let plans = compile(alloc, &checked)?;
+    let costs = all_costs(alloc, checked.program.nodes.len(), costs)?;
     let items = items_of(alloc, &checked, given)?;
     if !fit(&checked, &items) {
         return Err(Trouble::Wrong);
     }
-    let costs = all_costs(alloc, checked.program.nodes.len(), costs)?;
+    let plans = compile(alloc, &checked)?;
     let core = open(alloc, checked.program, plans, items, library)?;
     Ok(Ready { core, costs })
 }

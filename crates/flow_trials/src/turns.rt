@@ -49,13 +49,19 @@ struct Turns {
     alloc: Global,
 }
 
+/// So many flows, in order.
+fn line_of(alloc: Global, flows: u32) -> Result<VecDeque<FlowNo>, Memory> {
+    let mut line = VecDeque::new(alloc);
+    for flow in 0..flows {
+        line.push_back(FlowNo(flow))?;
+    }
+    Ok(line)
+}
+
 impl Turns {
     /// Each flow is ready, in order.
     fn new(alloc: Global, flows: u32) -> Result<Turns, Memory> {
-        let mut ready = VecDeque::new(alloc);
-        for flow in 0..flows {
-            ready.push_back(FlowNo(flow))?;
-        }
+        let ready = line_of(alloc, flows)?;
         Ok(Turns {
             ready,
             waiting: BTreeMap::new(alloc),

@@ -5,7 +5,7 @@ ghost use Rattle.flux_model.specs.declared.programs.TheConstants.{COUNT_LIMIT};
 ghost use Rattle.flux_syntax.specs.Counted.{words_of};
 ghost use Rattle.flux_syntax.specs.Words.{names_of, first_words, defined, sourced};
 ghost use Rattle.flux_syntax.specs.Least.{soonest, first_fault, IsLeastFault};
-ghost use Rattle.flux_names.specs.Rows.{class_words, rows};
+ghost use Rattle.flux_names.specs.Rows.{class_words, source_node, rows};
 ghost use Rattle.flux_names.specs.Resolving.{IsResolved};
 ghost use Rattle.flux_names.specs.steps.Sorts.{names_by};
 ghost use Rattle.flux_names.specs.steps.Faults.{first_standing, too_many_of};
@@ -44,6 +44,48 @@ fn too_many(symbols: &Symbols) -> Place
     with_words_behind(place, symbols.classes.words.as_slice(), CLASS_LIMIT)
 }
 
+/// The least row that stands, at its least place, by the names in which rows look words up.
+fn find_by<L: Library>(
+    alloc: Global,
+    symbols: &Symbols,
+    known: &Known,
+    decls: &[Decl],
+    library: &L,
+) -> Result<Option<(FaultKind, u32)>, Memory>
+    requires nodes { known.now.nodes.now ≡ names_of decls.now }
+    requires types { known.now.types.now ≡ names_by defined decls.now }
+    requires sources { known.now.sources.now
+        ≡ names_by (source_node (L.meaning library.now)) decls.now }
+    requires lines { known.now.lines.now ≡ names_by sourced decls.now }
+    requires words { symbols.now.nodes.words ≡ first_words decls.now }
+    requires class_words { symbols.now.classes.words ≡ class_words decls.now }
+    ensures { IfOk result (λ fault. fault ≡ first_fault (rows (L.meaning library.now) decls.now)) }
+{
+    let twice_named = twice_named(alloc, decls)?;
+    let unknown_node = least(alloc, library, known, Row::UnknownNode, decls)?;
+    let unknown_type = least(alloc, library, known, Row::UnknownType, decls)?;
+    let not_in_library = least(alloc, library, known, Row::NotInLibrary, decls)?;
+    let unlike_library = least(alloc, library, known, Row::UnlikeLibrary, decls)?;
+    let unknown_predicate = least(alloc, library, known, Row::UnknownPredicate, decls)?;
+    let unknown_session = least(alloc, library, known, Row::UnknownSession, decls)?;
+    let not_a_source = least(alloc, library, known, Row::NotASource, decls)?;
+    let source_misused = least(alloc, library, known, Row::SourceMisused, decls)?;
+    let bad_code = bad_code(alloc, decls)?;
+    Ok(first_standing(&[
+        (FaultKind::TwiceNamed, twice_named),
+        (FaultKind::UnknownNode, unknown_node),
+        (FaultKind::UnknownType, unknown_type),
+        (FaultKind::NotInLibrary, not_in_library),
+        (FaultKind::UnlikeLibrary, unlike_library),
+        (FaultKind::UnknownPredicate, unknown_predicate),
+        (FaultKind::UnknownSession, unknown_session),
+        (FaultKind::NotASource, not_a_source),
+        (FaultKind::SourceMisused, source_misused),
+        (FaultKind::TooMany, too_many(symbols)),
+        (FaultKind::BadCode, bad_code),
+    ]))
+}
+
 /// The least row that stands, at its least place.
 fn find_fault<L: Library>(
     alloc: Global,
@@ -65,29 +107,7 @@ fn find_fault<L: Library>(
         sources: &sources,
         lines: &symbols.sources,
     };
-    let twice_named = twice_named(alloc, decls)?;
-    let unknown_node = least(alloc, library, &known, Row::UnknownNode, decls)?;
-    let unknown_type = least(alloc, library, &known, Row::UnknownType, decls)?;
-    let not_in_library = least(alloc, library, &known, Row::NotInLibrary, decls)?;
-    let unlike_library = least(alloc, library, &known, Row::UnlikeLibrary, decls)?;
-    let unknown_predicate = least(alloc, library, &known, Row::UnknownPredicate, decls)?;
-    let unknown_session = least(alloc, library, &known, Row::UnknownSession, decls)?;
-    let not_a_source = least(alloc, library, &known, Row::NotASource, decls)?;
-    let source_misused = least(alloc, library, &known, Row::SourceMisused, decls)?;
-    let bad_code = bad_code(alloc, decls)?;
-    Ok(first_standing(&[
-        (FaultKind::TwiceNamed, twice_named),
-        (FaultKind::UnknownNode, unknown_node),
-        (FaultKind::UnknownType, unknown_type),
-        (FaultKind::NotInLibrary, not_in_library),
-        (FaultKind::UnlikeLibrary, unlike_library),
-        (FaultKind::UnknownPredicate, unknown_predicate),
-        (FaultKind::UnknownSession, unknown_session),
-        (FaultKind::NotASource, not_a_source),
-        (FaultKind::SourceMisused, source_misused),
-        (FaultKind::TooMany, too_many(symbols)),
-        (FaultKind::BadCode, bad_code),
-    ]))
+    find_by(alloc, symbols, &known, decls, library)
 }
 
 /// The program of declarations with the places of its names, or the least of the faults 5 to 14, or 28

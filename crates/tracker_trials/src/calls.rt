@@ -2,7 +2,7 @@
 
 use crate::rows::{HASH, Held, Row};
 use flux_spelling::{append_number, append_value};
-use flux_values::{Answer, Bytes, CallResult, Cell, Put, TextBytes, Value};
+use flux_values::{Answer, Bytes, CallResult, Cell, List, Put, TextBytes, Value};
 use std::alloc::Global;
 use trial_ends::Trouble;
 
@@ -34,14 +34,19 @@ pub fn address_of(number: u32) -> [u8; 6] {
     [b'0', b'0', b'0', b'0', digit(number / 64), digit(number)]
 }
 
+/// Adds a made-up peer with nothing left, by its number.
+fn append_peer(swarm: &mut Vec<u8>, number: u32) -> Result<(), Trouble> {
+    swarm.extend_from_slice(b"6:")?;
+    swarm.extend_from_slice(&address_of(number))?;
+    Ok(swarm.extend_from_slice(b"i0e")?)
+}
+
 /// The text of a swarm of so many peers, with nothing left.
 pub fn swarm_of(alloc: Global, count: u32) -> Result<Vec<u8>, Trouble> {
     let mut swarm = Vec::new(alloc);
     swarm.push(b'd')?;
     for number in 0..count {
-        swarm.extend_from_slice(b"6:")?;
-        swarm.extend_from_slice(&address_of(number))?;
-        swarm.extend_from_slice(b"i0e")?;
+        append_peer(&mut swarm, number)?;
     }
     swarm.push(b'e')?;
     Ok(swarm)
@@ -65,7 +70,7 @@ fn full_text(alloc: Global, count: u32) -> Result<TextBytes, Trouble> {
 }
 
 /// The cell before a call.
-fn cell_with(alloc: Global, held: Held) -> Result<Cell, Trouble> {
+pub fn cell_with(alloc: Global, held: Held) -> Result<Cell, Trouble> {
     let mut cell = Cell::new(alloc);
     if let Some((mark, value)) = kept_by(alloc, held)? {
         cell.put(name(alloc, mark)?, Some(value))?;
@@ -73,14 +78,25 @@ fn cell_with(alloc: Global, held: Held) -> Result<Cell, Trouble> {
     Ok(cell)
 }
 
+/// What a call is given.
+pub fn args_of(
+    alloc: Global,
+    action: &[u8],
+    hash: &[u8],
+    peer: &[u8],
+    left: i64,
+) -> Result<List<Value>, Trouble> {
+    let mut args = List::new(alloc);
+    for word in [action, hash, peer] {
+        args.add(Value::Text(text(alloc, word)?))?;
+    }
+    args.add(Value::Int(left))?;
+    Ok(args)
+}
+
 /// What a row's node answers.
-pub fn answer_to(alloc: Global, row: &Row) -> Result<Answer, Trouble> {
-    let args = [
-        Value::Text(text(alloc, row.action)?),
-        Value::Text(text(alloc, row.hash)?),
-        Value::Text(text(alloc, row.peer)?),
-        Value::Int(row.left),
-    ];
+fn answer_to(alloc: Global, row: &Row) -> Result<Answer, Trouble> {
+    let args = args_of(alloc, row.action, row.hash, row.peer, row.left)?;
     let cells = [cell_with(alloc, row.held)?];
     Ok(row.node.answer(alloc, args.as_slice(), cells.as_slice())?)
 }
@@ -110,25 +126,36 @@ fn append_put(alloc: Global, out: &mut Bytes, put: &Put) -> Result<(), Trouble> 
     Ok(())
 }
 
-/// The line about an answer.
-pub fn line_of(alloc: Global, row: &Row, answer: &Answer) -> Result<Bytes, Trouble> {
-    let mut out = Bytes::new(alloc);
-    out.append(row.name.as_bytes())?;
-    match &answer.result {
+/// The code of a call that fails, or the values that it gives.
+fn append_result(alloc: Global, out: &mut Bytes, given: &CallResult) -> Result<(), Trouble> {
+    match given {
         CallResult::Bad(code) => {
             out.append(b": fails ")?;
-            append_number(alloc, &mut out, u64::from(*code))?;
+            append_number(alloc, out, u64::from(*code))?;
         }
         CallResult::Good(values) => {
             out.append(b": gives ")?;
             for value in values {
-                append_value(alloc, &mut out, value)?;
+                append_value(alloc, out, value)?;
             }
         }
     }
+    Ok(())
+}
+
+fn append_answer(alloc: Global, out: &mut Bytes, answer: &Answer) -> Result<(), Trouble> {
+    append_result(alloc, out, &answer.result)?;
     for put in &answer.puts {
-        append_put(alloc, &mut out, put)?;
+        append_put(alloc, out, put)?;
     }
+    Ok(())
+}
+
+/// The line about what a row's node answers.
+pub fn line_of(alloc: Global, row: &Row) -> Result<Bytes, Trouble> {
+    let answer = answer_to(alloc, row)?;
+    let mut out = Bytes::copy(alloc, row.name.as_bytes())?;
+    append_answer(alloc, &mut out, &answer)?;
     out.append(b"\n")?;
     Ok(out)
 }

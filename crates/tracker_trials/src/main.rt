@@ -10,23 +10,28 @@ mod calls;
 mod rows;
 
 use announces::{announce, print, read};
-use calls::{answer_to, line_of};
-use rows::ROWS;
+use calls::line_of;
+use rows::{ROWS, Row};
 use std::env;
 use std::io::Write;
 use std::process::ExitCode;
 use trial_ends::Trouble;
 
 fn number(word: &str) -> Result<u32, Trouble> {
-    word.parse::<u32>().map_err(|_| Trouble::Words)
+    match word.parse::<u32>() {
+        Ok(number) => Ok(number),
+        Err(_) => Err(Trouble::Words),
+    }
+}
+
+fn tell(rt: &HostRuntime, row: &Row) -> Result<(), Trouble> {
+    let line = line_of(rt.alloc(), row)?;
+    Ok(rt.stdout().write_all(line.as_bytes())?)
 }
 
 fn answer_all(rt: &HostRuntime) -> Result<(), Trouble> {
-    let alloc = rt.alloc();
-    for row in ROWS.as_slice() {
-        let answer = answer_to(alloc, row)?;
-        let line = line_of(alloc, row, &answer)?;
-        rt.stdout().write_all(line.as_bytes())?;
+    for row in ROWS {
+        tell(rt, row)?;
     }
     Ok(())
 }
@@ -43,13 +48,18 @@ fn answer_many(rt: &HostRuntime, what: &str, count: u32) -> Result<(), Trouble> 
     Ok(())
 }
 
-fn answer(rt: &HostRuntime) -> Result<(), Trouble> {
-    let words: Vec<String> = env::args(rt)?.collect(rt.alloc())?;
-    match words.as_slice() {
+/// Does what words say.
+fn answer_to(rt: &HostRuntime, words: &[String]) -> Result<(), Trouble> {
+    match words {
         [_] => answer_all(rt),
         [_, what, count] => answer_many(rt, what.as_str(), number(count.as_str())?),
         _ => Err(Trouble::Words),
     }
+}
+
+fn answer(rt: &HostRuntime) -> Result<(), Trouble> {
+    let words: Vec<String> = env::args(rt)?.collect(rt.alloc())?;
+    answer_to(rt, words.as_slice())
 }
 
 fn main(rt: HostRuntime) -> ExitCode {

@@ -31,7 +31,7 @@ pub struct Row {
 }
 
 /// The calls.
-pub const ROWS: [Row; 50] = [
+pub const ROWS: &[Row] = &[
     Row {
         name: "one completion below the greatest",
         node: Node::Swarm,
