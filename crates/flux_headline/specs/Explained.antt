@@ -1,5 +1,5 @@
 -- Every status has its cause, and what files and folder decide has its status: the headline's other
--- half. That a count of failures rises with no status but its own is in `Top`.
+-- half. Which counts of failures rise with which status is in `Top`.
 use Rattle.std.specs.Prelude.{◌≡◌, ◌⊎◌, List, [], ℕ}
 use Rattle.flux_outside.specs.Causes.{Rose}
 use Rattle.flux_outside.specs.Streams.{Wrote, Broke, WroteOrBroke}
@@ -63,8 +63,8 @@ StatusesHaveCauses = (library : Libraries) (words : List (List ℕ)) (before aft
     → IsExplained library command before after status
     ⊎ HasServedWords library words before status after
 
--- what the files and the folder decide is answered, where all that the command reads is told and no
--- count rose, unless memory was short
+-- what the files and the folder decide is answered, or 12, where all that the command reads is told,
+-- no count rose, and the door didn't fail
 abbrev pub CausesAreAnswered : Type 0
 CausesAreAnswered = (library : Libraries) (words : List (List ℕ)) (before after : Seen)
     (status due : Status) (text line : List ℕ) (command : Command) → Spells words command
@@ -72,7 +72,7 @@ CausesAreAnswered = (library : Libraries) (words : List (List ℕ)) (before afte
     → NoneRose before after → (DoorFailed before after → ⊥)
     → HasDone library words before status after → OrMemory status (status ≡ due)
 
--- status 2 comes for words that are no command, unless memory was short
+-- status 2 comes for words that are no command, or 12
 abbrev pub NoCommandIsUsage : Type 0
 NoCommandIsUsage = (library : Libraries) (words : List (List ℕ)) (before after : Seen)
     (status : Status) → SpellsNone words → HasDone library words before status after

@@ -3,19 +3,30 @@
 --
 -- `HasDone` is the clause of the public call `top`: what a call with these words has done, by what
 -- is seen of the world before and after. Where the world tells what its files, folders and streams
--- hold, the texts below are those; of a real one, which doesn't tell, they are some texts within
--- the limits. A manner is what the options say: the runtime, the folder of documents, the format.
--- `Libraries` gives what the library's nodes mean, by its documents. `Holds` are the locks of each
--- node. `OrMemory` allows one status more: 12, where memory was short. The laws hold for every
--- library; the one of `top` is `built_in`, of the file `BuiltIn`.
+-- hold, the texts below are those. Of a real one, which doesn't tell, the program's text and the
+-- items' are some within their limits, the documents are any, and what a stream gained isn't said.
+-- A manner is what the options say: the runtime, `event` where none is named; the folder of
+-- documents; the format, 1 where none is named. `Libraries` gives what the library's nodes mean, by
+-- its documents. `Holds` are classes with modes for each node; in a legal journal they are its locks:
+-- the classes that it declares, and of those that nodes below it declare the ones up to the last of
+-- its own in canonical order, each in its greatest mode. `OrMemory` allows one status more: 12, which
+-- stands for want of memory; that memory was short isn't said. The laws speak of a call that has come
+-- back, and hold for every library; that of `top` is `built_in`, of the file `BuiltIn` of
+-- `flux_driver`.
 --
--- That a journal is legal says that its locks are the program's, and that
---   each flow follows the walk of its source text;
+-- That a journal is legal says that the locks are the program's, that each entry is of the flow of
+-- an item, and that
+--   each flow follows its walk: what the program's text lays down from its source's target on, with
+--   the locks taken and dropped on the way;
 --   each call has its node's answer, on the cells as earlier calls left them;
---   no take and no section overlaps one of another flow in conflict with it;
---   each wait is where a take is blocked, nobody overtakes it, and no waits form a cycle.
+--   no take, up to its drop, overlaps one of another flow on the same key, where one of them writes;
+--   nor do sections, each of which is a flow's time in a node that declares a constraint;
+--   each wait is where a take is blocked, once for that take, and no flow that came later takes the
+--   key in conflict before it, but for one that holds the key already; and no waits form a cycle.
+-- That it is whole says that each item's flow is in it, as one whole path up to its end.
 --
--- That every other status comes exactly for its cause is in `Explained`.
+-- That every other status but 12 comes for its cause alone, and where the cause is there, is in
+-- `Explained`; which counts of failures rise with which status is in `Top` of `flux_driver`.
 use Rattle.std.specs.Prelude.{◌≡◌, List, [], ℕ, length}
 use Rattle.flux_library.specs.Documents.{DocMap}
 use Rattle.flux_model.specs.declared.items.Item.{Item}
@@ -47,11 +58,13 @@ use Rattle.flux_driver.specs.Items.{rules_in}
 use Rattle.flux_driver.specs.Answers.{Libraries, OrMemory}
 use Rattle.flux_driver.specs.Top.{HasDone}
 
--- what a run reads, as the world tells it:
---   docs, are_docs           the documents of the folder that the words name;
---   text, in_file            the text of the program's file, of at most 2,097,152 bytes;
---   decls, declared, sound   what that text declares, which is sound for the library with these documents;
---   items_text, in_items     the text of the items' file, of at most 16,777,216 bytes.
+-- what a run reads, as the world tells it, where `file` and `items` are the names of two files:
+--   docs, are_docs         the documents of the folder that the words name; none, where they name none;
+--   text, in_file          the text of the program's file, of at most 2,097,152 bytes;
+--   decls, declared        what that text declares: it has at most 1,048,576 bytes, and none of the
+--                          static faults 1 to 4, which are of the grammar;
+--   sound                  and none of the others, 5 to 28, for the library with these documents;
+--   items_text, in_items   the text of the items' file, of at most 16,777,216 bytes.
 pub record IsThere (library : Libraries) (told : Told) (file items : List ℕ) (manner : Manner)
     : Type 0 where
   pub docs : DocMap
@@ -72,12 +85,15 @@ setup_there {library} there locks its =
     setup_of (program_of there.decls) locks its (library there.docs)
 
 -- what `run` has done:
---   its, are_items   the items of the items' text;
+--   its, are_items   the items' text, line by line, but for blank ones and comments, by the names and
+--                    kinds of the program's sources; 4,096 at most, of which the sizes of the sources,
+--                    which bound a flow's events without its waits, sum to 4,194,304 at most;
 --   journal, locks   a journal of their flows through the program of the text, and the program's locks;
---   legal, whole     that journal is legal, and each flow in it is one whole path;
---   order            from an empty journal on the flows went on in the order of the runtime that the
---                    words name; by threads in any;
---   printed          `out` has gained this journal's printed text in the format that they name, and no more;
+--   legal, whole     that journal is legal, and whole;
+--   order            from an empty journal on: by `event`, turns up to a call, a wait or the end; by a
+--                    script, the flows that it lists, then the lowest; by threads and helpers, any;
+--   printed          `out` has gained this journal's printed text in the format of the manner, of
+--                    which 2 begins with a line that tells the flows and events; and no more;
 --   silent           `err` has gained nothing.
 pub record HasRun (library : Libraries) (before after : Seen) (file items : List ℕ) (manner : Manner)
     : Type 0 where
@@ -101,20 +117,23 @@ RunsAreTrue = (library : Libraries) (words : List (List ℕ)) (before after : Se
     → Spells words (run file items manner) → HasDone library words before statuses.Done after
     → HasRun library before after file items manner
 
--- no count of the store, of the folder or of `out` rose
+-- no reading of a file or of the folder failed, nor a write of `out`: their counts of failures didn't
+-- rise, and none stands at the end of its type
 pub record NoneRose (before after : Seen) : Type 0 where
   pub store : let own = before.store in let later = after.store in Rose own.faults later.faults → ⊥
   pub folder : let own = before.folder in let later = after.folder in Rose own.faults later.faults → ⊥
   pub out : let own = before.out in let later = after.out in Rose own.faults later.faults → ⊥
 
--- no line of the items' text has a fault
+-- no line of the items' text has a fault: each is blank, a comment, or an item of a source's name and
+-- kinds, and no limit of items is passed
 abbrev pub AreFaultless : (library : Libraries) (told : Told) (file items : List ℕ) (manner : Manner)
     → IsThere library told file items manner → Type 0
 AreFaultless library told file items manner there = (fault : ItemFault)
     → IsFaultOf (rules_in (library there.docs) there.decls there.sound) fault there.items_text → ⊥
 
--- where the words spell `run`, all that it reads is told and there, the items' text has no fault, and no
--- count rose, the program has answered 0, unless memory was short
+-- where the words spell `run`, all that it reads is told and there, the items' text has no fault, and
+-- none of these counts rose, the program has answered 0, or 12; of a real world, which doesn't tell
+-- what it holds, this says nothing
 abbrev pub RunsAreAnswered : Type 0
 RunsAreAnswered = (library : Libraries) (words : List (List ℕ)) (before after : Seen) (status : Status)
     (file items : List ℕ) (manner : Manner)
