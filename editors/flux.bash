@@ -24,7 +24,7 @@ _flux() {
     [[ " $options " = *" $before "* ]] || before=""
     case "$before" in
         --docs) mapfile -t COMPREPLY < <(compgen -d -- "$word") && return ;;
-        --runtime) values="event perflow pool= script=" ;;
+        --runtime) values="event event= perflow pool= script=" ;;
         --journal) values="1 2" ;;
     esac
     if [ -n "$values" ]; then
