@@ -4,7 +4,8 @@
 -- `HasDone` is the clause of the public call `top`: what a call with these words has done, by what
 -- is seen of the world before and after. Where the world tells what its files, folders and streams
 -- hold, the texts below are those. Of a real one, which doesn't tell, the program's text and the
--- items' are some within their limits, the documents are any, and what a stream gained isn't said.
+-- items' are some within their limits, the documents of a named folder are any, each within its
+-- limit, and what a stream gained isn't said.
 -- A manner is what the options say: the runtime, `event` where none is named; the folder of
 -- documents; the format, 1 where none is named. `Libraries` gives what the library's nodes mean, by
 -- its documents. `Holds` are classes with modes for each node; in a legal journal they are its locks:
@@ -25,8 +26,9 @@
 --   key in conflict before it, but for one that holds the key already; and no waits form a cycle.
 -- That it is whole says that each item's flow is in it, as one whole path up to its end.
 --
--- That every other status but 12 comes for its cause alone, and where the cause is there, is in
--- `Explained`; which counts of failures rise with which status is in `Top` of `flux_driver`.
+-- That every other status but 12 comes for its cause alone is in `Explained`, and that what words,
+-- files and folder decide is answered, or 12, where all is told and nothing failed; which counts of
+-- failures rise with which status is in `Top` of `flux_driver`.
 use Rattle.std.specs.Prelude.{◌≡◌, List, [], ℕ, length}
 use Rattle.flux_library.specs.Documents.{DocMap}
 use Rattle.flux_model.specs.declared.items.Item.{Item}
