@@ -162,10 +162,10 @@ module _ {L : Type 0} (meaning : L → LibraryMeaning) (setup : SetupState L) (n
   own = setup_by meaning setup
 
   pub judged_none : (flows : ℕ) (opened : Opened) (state : FlowState L) → flows ≡ length setup.items → IsOpened flows text opened
-      → state ≡ record { setup = setup; entries = [] } → IsJudgedTo meaning setup text opened.lines state opened.first
-  judged_none flows opened state count is fresh = record {
-    same = ap (λ (s : FlowState L). s.setup) fresh;
-    passed = subst (λ (es : List Entry). IsPassedTo own text opened.lines es opened.first) (sym (ap (λ (s : FlowState L). s.entries) fresh))
+      → state.setup ≡ setup → state.entries ≡ [] → IsJudgedTo meaning setup text opened.lines state opened.first
+  judged_none flows opened state count is same fresh = record {
+    same = same;
+    passed = subst (λ (es : List Entry). IsPassedTo own text opened.lines es opened.first) (sym fresh)
         (subst (λ (ls : List (List ℕ)). IsPassedTo own text ls [] opened.first) (sym is.lines_)
         (passed_none own named text (subst (λ (n : ℕ). HasHeadFor n text) count is.head) opened.first is.first_));
   }

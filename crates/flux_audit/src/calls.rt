@@ -3,7 +3,8 @@
 ghost use Rattle.std.specs.Prelude.{◌≡◌, ◌<◌, IfOk, length, option_map};
 ghost use Rattle.std.specs.Arc.{arc_value};
 ghost use Rattle.flow_model.specs.declared.journals.Event.TheVariants as events;
-ghost use Rattle.flow_state.specs.Calls.{library_name, IsReady, IsAnswerOf};
+ghost use Rattle.flow_state.specs.Calls.{library_name, IsReady, IsAnswerOf, IsNextCall};
+ghost use Rattle.flow_state.specs.States.{setup_at};
 ghost use Rattle.flux_audit.specs.steps.Checks.{IsChecked};
 
 use crate::sameness::{same_answer, same_coming, same_values};
@@ -38,6 +39,49 @@ fn answer_of<L: Library>(alloc: Global, setup: &Setup<L>, inputs: &Inputs) -> Re
     setup.library.call(alloc, name, inputs.args.as_slice(), inputs.cells.as_slice())
 }
 
+/// Makes a call with the library's answer, or names the rule that another answer breaks.
+fn check_answer<L: Library>(
+    state: &mut State<L>,
+    flow: FlowNo,
+    made: &CallMade,
+    inputs: &Inputs,
+    answer: &Answer,
+) -> Result<Option<Rule>, Memory>
+    requires flow { flow.0 < length state.old.setup.items }
+    requires next { IsNextCall (setup_at L.meaning state.old) state.old.entries flow.0 inputs.now }
+    requires right { IsAnswerOf (L.meaning state.old.setup.library) state.old.setup.program inputs.now
+        answer.now }
+    requires node { inputs.now.node ≡ made.now.node }
+    requires args { inputs.now.args ≡ made.now.args }
+    ensures { IfOk result (IsChecked L.meaning state.old state.new flow (events.Call made.now)) }
+{
+    if !same_answer(answer, &made.answer) {
+        return Ok(Some(Rule::Answer));
+    }
+    state.answer(flow, inputs, answer)?;
+    Ok(None)
+}
+
+/// Makes a call of the node that comes, or names the first rule that it breaks with what its flow is given.
+fn check_inputs<L: Library>(
+    state: &mut State<L>,
+    flow: FlowNo,
+    made: &CallMade,
+    inputs: &Inputs,
+) -> Result<Option<Rule>, Memory>
+    requires flow { flow.0 < length state.old.setup.items }
+    requires next { IsNextCall (setup_at L.meaning state.old) state.old.entries flow.0 inputs.now }
+    requires ready { IsReady (L.meaning state.old.setup.library) state.old.setup.program inputs.now }
+    requires node { inputs.now.node ≡ made.now.node }
+    ensures { IfOk result (IsChecked L.meaning state.old state.new flow (events.Call made.now)) }
+{
+    if !same_values(&inputs.args, &made.args) {
+        return Ok(Some(Rule::Path));
+    }
+    let answer = answer_of(state.alloc(), state.setup(), inputs)?;
+    check_answer(state, flow, made, inputs, &answer)
+}
+
 /// Makes a call, or names the first rule that it breaks.
 pub fn check_call<L: Library>(
     state: &mut State<L>,
@@ -51,13 +95,5 @@ pub fn check_call<L: Library>(
         return Ok(Some(Rule::Path));
     }
     let inputs = state.inputs(flow)?;
-    if !same_values(&inputs.args, &made.args) {
-        return Ok(Some(Rule::Path));
-    }
-    let answer = answer_of(state.alloc(), state.setup(), &inputs)?;
-    if !same_answer(&answer, &made.answer) {
-        return Ok(Some(Rule::Answer));
-    }
-    state.answer(flow, &inputs, &answer)?;
-    Ok(None)
+    check_inputs(state, flow, made, &inputs)
 }

@@ -1,0 +1,30 @@
+use Rattle.std.proofs.Common.{◌≡◌, refl, subst}
+use Rattle.flow_model.specs.declared.journals.Event.TheVariants as events
+use Rattle.flow_model.specs.declared.journals.CallMade.{CallMade}
+use Rattle.flow_model.specs.Setup.{Setup}
+use Rattle.flow_state.specs.States.{setup_at}
+use Rattle.flow_state.specs.Moves.{with_entry}
+use Rattle.flux_audit.proofs.Checking.{first_answer, next_call, right_answer, same_made}
+use Rattle.flux_audit.proofs.calls.check_answer.Goals as goal
+
+pub returns-then-not-same_answer : goal.returns-then-not-same_answer
+returns-then-not-same_answer g c =
+    let setup : Setup = setup_at g.L.Meaning.meaning c.args.state.now in
+    let before = c.args.state.now.entries in
+    let made = c.args.made.now in
+    let inputs = c.args.inputs.now in
+    let answer = c.args.answer.now in
+    let next = c.requires.next in
+    let nodes = c.requires.node in
+    let args = c.requires.args in
+    first_answer setup before c.args.flow c.requires.flow (events.Call made) (next_call setup before c.args.flow.0 inputs made answer nodes args next.next)
+    (λ told. let t = c.if-not-same_answer.ensures.1 (right_answer setup before c.args.flow.0 inputs made answer nodes args next c.requires.right told) in absurd cc)
+
+pub returns : goal.returns
+returns g c =
+    let setup : Setup = setup_at g.L.Meaning.meaning c.args.state.now in
+    let before = c.args.state.now.entries in
+    let made = c.args.made.now in
+    let adds = c.in_ok-answer.ensures.ok in
+    subst (λ (m : CallMade). c.answer.new.self ≡ with_entry c.args.state.now c.args.flow (events.Call m))
+    (same_made setup before c.args.flow.0 c.args.inputs.now made c.args.answer.now c.requires.node c.requires.args (c.if-not-same_answer.ensures.0 refl)) adds.new_
