@@ -20,8 +20,9 @@ use std::thread::Threads;
 /// The most bytes that are read of a link.
 const BUFFER: usize = 16_384;
 
-/// So many links are read, or answered, by one thread, one after another: a thread costs about as much as they do.
-const LINKS_A_THREAD: usize = 4;
+/// So many links are read, or answered, by one thread, one after another. Starting a thread costs more than a few ready links,
+/// and a batch has 64 at most, so it takes four.
+const LINKS_A_THREAD: usize = 16;
 
 /// How many threads read so many links, or answer them.
 pub fn threads_for(links: usize) -> usize
