@@ -1,0 +1,5 @@
+pub mod Journals
+mod Kept
+mod AtSeats
+mod Results
+mod Examples
