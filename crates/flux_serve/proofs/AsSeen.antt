@@ -20,7 +20,8 @@ use Rattle.flux_serve.specs.declared.batches.ServeEnd.TheVariants.{Closed, Count
 use Rattle.flux_serve.specs.Batches.{Service, Batch, batch_setup, IsDriven, cells_behind, number_behind, empty_cells}
 use Rattle.flux_serve.specs.Ends.{Sight, as_seen, HasDriven, AreServed, cells_at_end, number_at_end, AreUnwritten, IsUndriven, Stands, HasStopped, HasEnded, HasServed}
 
-abbrev itself : Seen → Seen
+-- links that are seen as they are
+abbrev pub itself : Seen → Seen
 itself link = link
 
 module _ {L : Type 0} (see : L → Seen) where
@@ -52,12 +53,12 @@ module _ {L : Type 0} (see : L → Seen) where
   all_seen after links (inl all) = inl (map (map see) all.0, ap (map (map see)) all.1)
   all_seen after links (inr all) = inr (length-map links see ∙ all)
 
-  gathered_seen : (before after : Option (List (List L))) (late late' : ℕ) (links : List L) → AreGathered before after late late' links → AreGathered (option_map (map (map see)) before) (option_map (map (map see)) after) late late' (map see links)
+  pub gathered_seen : (before after : Option (List (List L))) (late late' : ℕ) (links : List L) → AreGathered before after late late' links → AreGathered (option_map (map (map see)) before) (option_map (map (map see)) after) late late' (map see links)
   gathered_seen None after late late' links g = tt
   gathered_seen (Some before) None late late' links g = absurd g
   gathered_seen (Some before) (Some after) late late' links g = (first_seen before after links g.0, λ steady. all_seen after links (g.1 steady))
 
-  taken_seen : (before after : Option (List L)) (links : List L) → TakesBack before after links → TakesBack (option_map (map see) before) (option_map (map see) after) (map see links)
+  pub taken_seen : (before after : Option (List L)) (links : List L) → TakesBack before after links → TakesBack (option_map (map see) before) (option_map (map see) after) (map see links)
   taken_seen None after links taken = ap (option_map (map see)) taken
   taken_seen (Some before) after links taken = ap (option_map (map see)) taken ∙ ap Some (map-append see before links)
 
@@ -69,19 +70,19 @@ module _ {L : Type 0} (see : L → Seen) where
 
   -- ---- links that were read
 
-  abbrev held_seen : Held L → Held Seen
+  abbrev pub held_seen : Held L → Held Seen
   held_seen held = record { link = see held.link; sent = held.sent }
 
-  read_seen : (framing : Framing) (links : List L) (helds : List (Held L)) → AreHeld see framing links helds [] → AreHeld itself framing (map see links) (map held_seen helds) []
+  pub read_seen : (framing : Framing) (links : List L) (helds : List (Held L)) → AreHeld see framing links helds [] → AreHeld itself framing (map see links) (map held_seen helds) []
   read_seen framing links [] read = ap (map see) read
   read_seen framing [] (held ∷ helds) read = absurd read
   read_seen framing (link ∷ links) (held ∷ helds) read = (read.0, read.1, read_seen framing links helds read.2)
 
-  each_seen : (helds : List (Held L)) → AreRead helds → AreRead (map held_seen helds)
+  pub each_seen : (helds : List (Held L)) → AreRead helds → AreRead (map held_seen helds)
   each_seen [] each = tt
   each_seen (held ∷ helds) each = (each.0, each_seen helds each.1)
 
-  items_seen : (number : ℕ) (helds : List (Held L)) → items_from number (map held_seen helds) ≡ items_from number helds
+  pub items_seen : (number : ℕ) (helds : List (Held L)) → items_from number (map held_seen helds) ≡ items_from number helds
   items_seen number [] = refl
   items_seen number (held ∷ helds) = ap (λ (l : List Item). item_sent number held.sent ++ l) (items_seen (number + 1) helds)
 
@@ -92,7 +93,7 @@ module _ {L : Type 0} (see : L → Seen) where
 
   -- ---- a batch
 
-  abbrev batch_seen : Batch L → Batch Seen
+  abbrev pub batch_seen : Batch L → Batch Seen
   batch_seen batch = record { came = map see batch.came; held = map held_seen batch.held; back = map see batch.back; journal = batch.journal }
 
   cells_seen : (service : Service) (opening : Cells) (number : ℕ) (batch : Batch L) → cells_behind service opening number (batch_seen batch) ≡ cells_behind service opening number batch
@@ -129,7 +130,7 @@ module _ {L : Type 0} (see : L → Seen) where
 
   -- ---- batches one after another
 
-  served_seen : (service : Service) (opening : Cells) (count number : ℕ) (before after : Sight L) (batches : List (Batch L)) → AreServed see service opening count number before after batches
+  pub served_seen : (service : Service) (opening : Cells) (count number : ℕ) (before after : Sight L) (batches : List (Batch L)) → AreServed see service opening count number before after batches
       → AreServed itself service opening count number (as_seen see before) (as_seen see after) (map batch_seen batches)
   served_seen service opening count number before after [] served = ap (as_seen see) served
   served_seen service opening count number before after (batch ∷ batches) served =
@@ -140,14 +141,14 @@ module _ {L : Type 0} (see : L → Seen) where
         subst N (sym (number_seen number batch)) (subst C (sym (cells_seen service opening number batch)) (served_seen service (cells_behind service opening number batch) (count + 1) (number_behind number batch) served.0 after batches served.2)),
       )
 
-  cells_end : (service : Service) (opening : Cells) (number : ℕ) (batches : List (Batch L)) → cells_at_end service opening number (map batch_seen batches) ≡ cells_at_end service opening number batches
+  pub cells_end : (service : Service) (opening : Cells) (number : ℕ) (batches : List (Batch L)) → cells_at_end service opening number (map batch_seen batches) ≡ cells_at_end service opening number batches
   cells_end service opening number [] = refl
   cells_end service opening number (batch ∷ batches) =
       ap (λ (cells : Cells). cells_at_end service cells (number_behind number (batch_seen batch)) (map batch_seen batches)) (cells_seen service opening number batch)
       ∙ (ap (λ (n : ℕ). cells_at_end service (cells_behind service opening number batch) n (map batch_seen batches)) (number_seen number batch)
       ∙ cells_end service (cells_behind service opening number batch) (number_behind number batch) batches)
 
-  number_end : (number : ℕ) (batches : List (Batch L)) → number_at_end number (map batch_seen batches) ≡ number_at_end number batches
+  pub number_end : (number : ℕ) (batches : List (Batch L)) → number_at_end number (map batch_seen batches) ≡ number_at_end number batches
   number_end number [] = refl
   number_end number (batch ∷ batches) = ap (λ (n : ℕ). number_at_end n (map batch_seen batches)) (number_seen number batch) ∙ number_end (number_behind number batch) batches
 

@@ -9,18 +9,19 @@ use Rattle.flux_serve.specs.declared.batches.ServeEnd.TheVariants.{Closed, Count
 use Rattle.flux_serve.specs.Batches.{Service, Batch, cells_behind, number_behind, empty_cells}
 use Rattle.flux_serve.specs.Ends.{Sight, HasDriven, AreServed, cells_at_end, number_at_end, IsUndriven, Stands, HasEnded, HasServed}
 
-abbrev log_faults : {L : Type 0} → Sight L → ℕ
+-- a log's count
+abbrev pub log_faults : {L : Type 0} → Sight L → ℕ
 log_faults sight = let log = sight.log in log.faults
 
 module _ {L : Type 0} (see : L → Seen) (service : Service) where
   -- batches that were served leave both counts
-  door_steady : (opening : Cells) (count number : ℕ) (before after : Sight L) (batches : List (Batch L)) → AreServed see service opening count number before after batches → after.faults ≡ before.faults
+  pub door_steady : (opening : Cells) (count number : ℕ) (before after : Sight L) (batches : List (Batch L)) → AreServed see service opening count number before after batches → after.faults ≡ before.faults
   door_steady opening count number before after [] served = ap (λ (s : Sight L). s.faults) served
   door_steady opening count number before after (batch ∷ batches) served =
       let driven = served.1 in
       door_steady (cells_behind service opening number batch) (count + 1) (number_behind number batch) served.0 after batches served.2 ∙ driven.steady
 
-  log_steady : (opening : Cells) (count number : ℕ) (before after : Sight L) (batches : List (Batch L)) → AreServed see service opening count number before after batches → log_faults after ≡ log_faults before
+  pub log_steady : (opening : Cells) (count number : ℕ) (before after : Sight L) (batches : List (Batch L)) → AreServed see service opening count number before after batches → log_faults after ≡ log_faults before
   log_steady opening count number before after [] served = ap log_faults served
   log_steady opening count number before after (batch ∷ batches) served =
       let driven = served.1 in

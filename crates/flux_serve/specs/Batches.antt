@@ -33,8 +33,7 @@ batch_setup service opening items = record {
   meaning = service.meaning;
 }
 
--- a batch that was driven: its links as they came, as they were read and as they went back, and its
--- journal
+-- a batch: its links as they came, as they were read and as they went back, and its journal
 pub record Batch (L : Type 0) : Type 0 where
   pub came : List L
   pub held : List (Held L)

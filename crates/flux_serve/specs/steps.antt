@@ -1,1 +1,4 @@
 pub mod Batches
+pub mod Dues
+pub mod Turns
+pub mod Workers

@@ -49,14 +49,14 @@ pub enum ServeEnd {
 
 /// What a batch came to: its items, its journal, and the cells at its end.
 #[derive(Drop)]
-struct Run {
-    items: List<Item>,
-    journal: Journal,
-    cells: Cells,
+pub struct Run {
+    pub items: List<Item>,
+    pub journal: Journal,
+    pub cells: Cells,
 }
 
 /// Takes the links of the next batch, and reads them side by side.
-fn take<D: Door, Rt: Threads + Sync>(
+pub fn take<D: Door, Rt: Threads + Sync>(
     rt: &Rt,
     alloc: Global,
     door: &mut D,
@@ -141,7 +141,7 @@ fn run_links<K, L: Library, R: Runtime, G: Gate, Rt: Threads + Wait + Sync>(
 }
 
 /// Writes the text of a batch.
-fn write_batch<O: Sink>(
+pub fn write_batch<O: Sink>(
     alloc: Global,
     program: &Program,
     log: &mut O,

@@ -34,7 +34,7 @@ pub struct Served<L: Library> {
 }
 
 /// The core of a batch, whose flows have done nothing.
-fn open<L: Library>(
+pub fn open<L: Library>(
     alloc: Global,
     served: &Served<L>,
     items: List<Item>,

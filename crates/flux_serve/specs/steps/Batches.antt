@@ -1,5 +1,5 @@
 -- Steps of serving a batch.
-use Rattle.std.specs.Prelude.{◌≡◌, ℕ, ◌<◌, ◌≤◌, List, [], length, Option, None, IfSome}
+use Rattle.std.specs.Prelude.{◌≡◌, ℕ, ◌<◌, ◌≤◌, ◌⊎◌, List, [], length, Option, None, IfSome}
 use Rattle.flux_outside.specs.Streams.{Stream, Wrote, Broke}
 use Rattle.flux_batches.specs.declared.framing.Framing.{Framing}
 use Rattle.flux_batches.specs.declared.reading.Held.{Held}
@@ -9,7 +9,8 @@ use Rattle.flux_outside.specs.Causes.{Rose}
 use Rattle.flux_doors.specs.Doors.{waiting, first_link}
 use Rattle.flow_model.specs.Keys.{Cells}
 use Rattle.flux_serve.specs.Batches.{Service, Batch, cells_behind, number_behind}
-use Rattle.flux_serve.specs.Ends.{Sight, IsUndriven, HasDriven}
+use Rattle.flux_serve.specs.Ends.{Sight, IsUndriven, HasDriven, HasStopped}
+use Rattle.flux_serve.specs.AtOnce.{IsBegun}
 use Rattle.flux_serve.specs.declared.batches.ServeEnd.{ServeEnd}
 use Rattle.flux_serve.specs.declared.batches.ServeEnd.TheVariants.{Closed, Counted, Door}
 use Rattle.flux_serve.specs.declared.batches.ServeEnd.TheVariants.{Log, Memory}
@@ -50,3 +51,11 @@ pub record HasPassed {L : Type 0} (see : L → Seen) (service : Service) (openin
   pub driven : HasDriven see service opening count number batch before after Wrote
   pub cells_ : cells ≡ cells_behind service opening number batch
   pub number_ : next ≡ number_behind number batch
+
+-- how a batch ended that was served at once: as in serving, or begun and not driven whole
+abbrev pub StopsAtOnce : {L : Type 0} → (L → Seen) → Service → Cells → ℕ → ℕ → Sight L → Sight L
+    → ServeEnd → Type 0
+StopsAtOnce {L} see service opening count number before after end =
+    HasStopped see service opening count number before after end
+    ⊎ ((end ≡ Memory)
+    × ((begun : Batch L) × IsBegun see service opening number begun before after))

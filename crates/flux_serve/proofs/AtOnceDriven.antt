@@ -1,0 +1,73 @@
+-- A batch that was served at once: driven whole, or only begun.
+use Rattle.std.proofs.Common.{◌≡◌, ℕ, Bool, true, false, List, [], Option, sym, subst}
+use Rattle.flux_model.specs.declared.items.Item.{Item}
+use Rattle.flow_model.specs.declared.journals.Entry.{Entry}
+use Rattle.flow_model.specs.declared.journals.Journal.{Journal}
+use Rattle.flow_model.specs.Keys.{Cells}
+use Rattle.flow_model.specs.Setup.{Setup}
+use Rattle.flow_model.specs.Legal.{IsLegal}
+use Rattle.flux_batches.specs.declared.reading.Held.{Held}
+use Rattle.flux_batches.specs.Links.{Seen, AreRead, items_from}
+use Rattle.flux_batches.specs.Replies.{TakesBack, AreAllAnswered}
+use Rattle.flux_batches.specs.Gathered.{AreGathered}
+use Rattle.flux_serve.specs.Batches.{Service, Batch, batch_setup}
+use Rattle.flux_serve.specs.Ends.{Sight}
+use Rattle.flux_serve.specs.AtOnce.{IsBegun}
+use Rattle.flux_serve.specs.steps.Batches.{IsTaken}
+use Rattle.flux_serve.specs.steps.Dues.{AreBack}
+use Rattle.flux_serve.proofs.Backs.{back-answered, back-so-far}
+
+-- links that were taken back
+abbrev pub TakenBack : {L : Type 0} → (L → Seen) → Bool → List Entry → List (Held L) → Option (List L) → Option (List L) → Type 0
+TakenBack {L} see whole entries helds before after =
+    (backs : List L) × (next : ℕ) × TakesBack before after backs × AreBack see whole entries 0 helds backs [] next
+
+-- those of a batch that was driven whole were answered
+pub all-answered : {L : Type 0} → (see : L → Seen) (setup : Setup) (entries : List Entry) → IsLegal setup entries → (helds : List (Held L))
+    (before after : Option (List L)) (whole : Bool) → whole ≡ true → TakenBack see whole entries helds before after
+    → AreAllAnswered see entries helds before after
+all-answered see setup entries legal helds before after true is back = record {
+  backs = back.0;
+  taken = back.2;
+  answered = back-answered see setup entries legal 0 helds back.0 back.1 back.3;
+}
+all-answered see setup entries legal helds before after false is back = absurd cc
+
+-- what is known of a batch that was begun
+pub record Begun {L : Type 0} (see : L → Seen) (service : Service) (opening : Cells) (number : ℕ) (before after : Sight L) (held : List (Held L)) (items : List Item) (journal : Journal) : Type 0 where
+  pub to_come : Option (List (List L))
+  pub taken_back : Option (List L)
+  pub late : ℕ
+  pub taken : IsTaken see service.framing before.to_come to_come before.late late held
+  pub back : taken_back ≡ before.taken_back
+  pub each : AreRead held
+  pub is : items ≡ items_from number held
+  pub legal : IsLegal (batch_setup service opening items) journal.entries
+  pub returned : TakenBack see false journal.entries held taken_back after.taken_back
+  pub come : after.to_come ≡ to_come
+  pub late_ : after.late ≡ late
+  pub steady : after.faults ≡ before.faults
+  pub log_ : after.log ≡ before.log
+
+pub begun-of : {L : Type 0} → (see : L → Seen) (service : Service) (opening : Cells) (number : ℕ) (before after : Sight L) (held : List (Held L)) (items : List Item) (journal : Journal)
+    → Begun see service opening number before after held items journal
+    → (begun : Batch L) × IsBegun see service opening number begun before after
+begun-of {L} see service opening number before after held items journal b =
+    let t = b.taken in
+    let Q : List Item → Type 0 = λ i. IsLegal (batch_setup service opening i) journal.entries in
+    let T : Option (List L) → Type 0 = λ o. TakesBack o after.taken_back b.returned.0 in
+    let C : Option (List (List L)) → Type 0 = λ c. AreGathered before.to_come c before.late after.late t.came in
+    let D : ℕ → Type 0 = λ n. AreGathered before.to_come b.to_come before.late n t.came in (
+      record { came = t.came; held = held; back = b.returned.0; journal = journal },
+      record {
+        formed = subst C (sym b.come) (subst D (sym b.late_) t.formed);
+        size = t.size;
+        read = t.read;
+        each = b.each;
+        legal = subst Q b.is b.legal;
+        replies = back-so-far see (batch_setup service opening items) journal.entries b.legal 0 held b.returned.0 b.returned.1 b.returned.3;
+        back = subst T b.back b.returned.2;
+        steady = b.steady;
+        log_ = b.log_;
+      },
+    )

@@ -1,0 +1,157 @@
+-- Links that were taken back: what was written is their flows' replies.
+use Rattle.std.proofs.Common.{◌≡◌, inl, inr, ℕ, Bool, true, false, ◌||◌, MatchBool, List, [], ◌∷◌, ◌++◌, refl, sym, ap, subst, ◌∙◌}
+use Rattle.std.specs.List.{list_any}
+use Rattle.flow_model.specs.declared.journals.Entry.{Entry}
+use Rattle.flow_model.specs.declared.journals.Event.{Event}
+use Rattle.flow_model.specs.Setup.{Setup}
+use Rattle.flow_model.specs.Events.{events_by}
+use Rattle.flow_model.specs.Legal.{IsLegal}
+use Rattle.flux_laws.specs.Growth.{is_end, has_ended}
+use Rattle.flux_laws.proofs.OwnEvents.{events_by-append}
+use Rattle.flux_outside.specs.Streams.{WroteOrBroke}
+use Rattle.flux_batches.specs.declared.reading.Sent.{Sent}
+use Rattle.flux_batches.specs.declared.reading.Sent.TheVariants.{Text, Failed, Memory}
+use Rattle.flux_batches.specs.declared.reading.Held.{Held}
+use Rattle.flux_batches.specs.Links.{Seen, IsSame, stream_of}
+use Rattle.flux_batches.specs.Replies.{reply_of, flow_behind, IsAnswered, AreAnswered}
+use Rattle.flux_serve.specs.AtOnce.{IsAnsweredSoFar, AreAnsweredSoFar}
+use Rattle.flux_serve.specs.declared.dues.Due.{Due}
+use Rattle.flux_serve.specs.steps.Dues.{HasText, IsFromFront, IsDueSo, IsBack, IsBackOf, AreBack}
+use Rattle.flux_serve.proofs.EndedReplies.{reply-stays}
+
+-- ---- one link
+
+-- an `end` in a front is there in all entries
+any-left : (test : Event → Bool) (xs ys : List Event) → list_any test xs ≡ true → list_any test (xs ++ ys) ≡ true
+any-left test [] ys any = absurd cc
+any-left test (x ∷ xs) ys any = by (test x) any (any-left test xs ys)
+  where
+    by : (b : Bool) → (b || list_any test xs) ≡ true → (list_any test xs ≡ true → list_any test (xs ++ ys) ≡ true) → (b || list_any test (xs ++ ys)) ≡ true
+    by true any more = refl
+    by false any more = more any
+
+ended-more : (entries more : List Entry) (flow : ℕ) → has_ended entries flow ≡ true → has_ended (entries ++ more) flow ≡ true
+ended-more entries more flow ended =
+    ap (list_any is_end) (events_by-append flow entries more) ∙ any-left is_end (events_by flow entries) (events_by flow more) ended
+
+module _ (setup : Setup) (entries : List Entry) (legal : IsLegal setup entries) (flow : ℕ) (before after : Seen) where
+  wrote-all : (sent : Sent) → IsFromFront entries flow before after sent → WroteOrBroke (stream_of before) (stream_of after) (reply_of flow entries)
+  wrote-all sent from =
+      let same : reply_of flow entries ≡ reply_of flow from.front =
+      ap (reply_of flow) from.is ∙ reply-stays setup from.front from.more (subst (IsLegal setup) from.is legal) flow from.ended in
+      subst (WroteOrBroke (stream_of before) (stream_of after)) (sym same) from.wrote
+
+  from-answered : (sent : Sent) → IsFromFront entries flow before after sent → IsAnswered entries flow before after sent
+  from-answered (Text text) from = wrote-all (Text text) from
+  from-answered Failed from = absurd from.text
+  from-answered Memory from = absurd from.text
+
+  from-so-far : (sent : Sent) → IsFromFront entries flow before after sent → IsAnsweredSoFar entries flow before after sent
+  from-so-far (Text text) from =
+      inr (ap (λ (e : List Entry). has_ended e flow) from.is ∙ ended-more from.front from.more flow from.ended, wrote-all (Text text) from)
+  from-so-far Failed from = absurd from.text
+  from-so-far Memory from = absurd from.text
+
+  none-so-far : (sent : Sent) → stream_of after ≡ stream_of before → IsAnsweredSoFar entries flow before after sent
+  none-so-far (Text text) same = inl same
+  none-so-far Failed same = same
+  none-so-far Memory same = same
+
+  back-one : (sent : Sent) → IsBack true entries flow before after sent → IsAnswered entries flow before after sent
+  back-one sent (inl answered) = answered
+  back-one sent (inr from) = from-answered sent from
+
+  back-one-so-far : (sent : Sent) → IsBack false entries flow before after sent → IsAnsweredSoFar entries flow before after sent
+  back-one-so-far sent (inl same) = none-so-far sent same
+  back-one-so-far sent (inr from) = from-so-far sent from
+
+-- ---- all links
+
+module _ {K : Type 0} (see : K → Seen) (setup : Setup) (entries : List Entry) (legal : IsLegal setup entries) where
+  -- of a batch that was driven whole
+  pub back-answered : (flow : ℕ) (helds : List (Held K)) (backs : List K) (next : ℕ)
+      → AreBack see true entries flow helds backs [] next → AreAnswered see entries flow helds backs []
+  back-answered flow helds [] next back = back.0
+  back-answered flow [] (link ∷ backs) next back = absurd back
+  back-answered flow (held ∷ rest) (link ∷ backs) next back = (
+    back.0,
+    back-one setup entries legal flow (see held.link) (see link) held.sent back.1,
+    back-answered (flow_behind flow held.sent) rest backs next back.2,
+  )
+
+  -- and of any other
+  pub back-so-far : (flow : ℕ) (helds : List (Held K)) (backs : List K) (next : ℕ)
+      → AreBack see false entries flow helds backs [] next → AreAnsweredSoFar see entries flow helds backs
+  back-so-far flow helds [] next back =
+      let P : List (Held K) → Type 0 = λ them. AreAnsweredSoFar see entries flow them [] in subst P (sym back.0) tt
+  back-so-far flow [] (link ∷ backs) next back = absurd back
+  back-so-far flow (held ∷ rest) (link ∷ backs) next back = (
+    back.0,
+    back-one-so-far setup entries legal flow (see held.link) (see link) held.sent back.1,
+    back-so-far (flow_behind flow held.sent) rest backs next back.2,
+  )
+
+-- one link more
+pub back-more : {K : Type 0} → (see : K → Seen) (whole : Bool) (entries : List Entry) (flow : ℕ) (helds : List (Held K)) (backs : List K)
+    (held : Held K) (rest : List (Held K)) (next : ℕ) (link : K)
+    → AreBack see whole entries flow helds backs (held ∷ rest) next → IsSame (see held.link) (see link)
+    → IsBack whole entries next (see held.link) (see link) held.sent
+    → AreBack see whole entries flow helds (backs ++ link ∷ []) rest (flow_behind next held.sent)
+back-more {K} see whole entries flow helds [] held rest next link back same is =
+    let H : List (Held K) → Type 0 = λ them. AreBack see whole entries flow them (link ∷ []) rest (flow_behind next held.sent) in
+    let F : ℕ → Type 0 = λ f. AreBack see whole entries f (held ∷ rest) (link ∷ []) rest (flow_behind next held.sent) in
+    subst H (sym back.0) (subst F (sym back.1) (same, is, (refl, refl)))
+back-more see whole entries flow [] (first ∷ backs) held rest next link back same is = absurd back
+back-more see whole entries flow (one ∷ helds) (first ∷ backs) held rest next link back same is =
+    (back.0, back.1, back-more see whole entries (flow_behind flow one.sent) helds backs held rest next link back.2 same is)
+
+-- ---- a link that is answered when it is taken back, if it has to be
+
+module _ {K : Type 0} (see : K → Seen) (entries : List Entry) where
+  -- one that sent nothing is as it was
+  silent-same : (link : Seen) (flow : ℕ) (sent : Sent) → (HasText sent → ⊥) → IsAnswered entries flow link link sent
+  silent-same link flow (Text text) silent = absurd (silent tt)
+  silent-same link flow Failed silent = refl
+  silent-same link flow Memory silent = refl
+
+  text-answered : (before after : Seen) (flow : ℕ) (sent : Sent) → HasText sent
+      → WroteOrBroke (stream_of before) (stream_of after) (reply_of flow entries) → IsAnswered entries flow before after sent
+  text-answered before after flow (Text text) has wrote = wrote
+  text-answered before after flow Failed has wrote = absurd has
+  text-answered before after flow Memory has wrote = absurd has
+
+  -- it wasn't
+  pub answered-stood : (whole : Bool) (before old : Due K) → before.written ≡ false → IsDueSo see entries before old
+      → (whole ≡ true → (let held = old.held in HasText held.sent) → old.written ≡ true)
+      → (let held = old.held in IsBackOf see whole entries before held.link)
+  answered-stood whole before old fresh (inr was) over = (was.same, inr was.from)
+  answered-stood whole before old fresh (inl same) over =
+      let P : Due K → Type 0 = λ due. ((whole ≡ true → (let held = due.held in HasText held.sent) → due.written ≡ true)
+      → (let held = due.held in IsBackOf see whole entries before held.link)) in
+      subst P (sym same) (λ over'. (refl, inl (by whole over'))) over
+    where
+      held : Held K
+      held = before.held
+
+      by : (b : Bool) → (b ≡ true → HasText held.sent → before.written ≡ true)
+          → (let flow = before.flow in MatchBool b (IsAnswered entries flow.0 (see held.link) (see held.link) held.sent)
+          (stream_of (see held.link) ≡ stream_of (see held.link)))
+      by false over' = refl
+      by true over' = let flow = before.flow in
+          silent-same (see held.link) flow.0 held.sent (λ has. let is : false ≡ true = sym fresh ∙ over' refl has in absurd cc)
+
+  -- it was
+  pub answered-now : (before old : Due K) (link : K) → before.written ≡ false → IsDueSo see entries before old
+      → (let held = old.held in HasText held.sent) → old.written ≡ false
+      → (let held = old.held in IsSame (see held.link) (see link))
+      → (let held = old.held in let flow = old.flow in WroteOrBroke (stream_of (see held.link)) (stream_of (see link)) (reply_of flow.0 entries))
+      → IsBackOf see true entries before link
+  answered-now before old link fresh (inr was) has unwritten same wrote =
+      let is : false ≡ true = sym unwritten ∙ was.written_ in absurd cc
+  answered-now before old link fresh (inl is) has unwritten same wrote =
+      let P : Due K → Type 0 = λ due. (let held = due.held in HasText held.sent)
+      → (let held = due.held in IsSame (see held.link) (see link))
+      → (let held = due.held in let flow = due.flow in WroteOrBroke (stream_of (see held.link)) (stream_of (see link)) (reply_of flow.0 entries))
+      → IsBackOf see true entries before link in
+      subst P (sym is) (λ has' same' wrote'. let held = before.held in let flow = before.flow in
+      (same', inl (text-answered (see held.link) (see link) flow.0 held.sent has' wrote'))) has same wrote

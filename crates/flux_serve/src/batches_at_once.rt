@@ -1,0 +1,224 @@
+//! One batch, whose links are answered while its flows run.
+
+ghost use Rattle.std.specs.Prelude.{◌≡◌, ℕ, ◌+◌, ◌^◌, ◌<◌, ◌≤◌, true, All, List, [], length, vec_len, IfOk, IfErr, OnOk};
+ghost use Rattle.std.specs.Arc.{arc_value};
+ghost use Rattle.std.specs.VecDeque.{deque_len};
+ghost use Rattle.flow_model.specs.CellsAfter.{cells_after};
+ghost use Rattle.flow_model.specs.Legal.{IsLegal, IsWhole};
+ghost use Rattle.flux_cells.specs.Kept.{cells_of};
+ghost use Rattle.flow_core.specs.States.{opened, setup_in};
+ghost use Rattle.flux_batches.specs.Links.{seen_by, AreRead, items_from};
+ghost use Rattle.flux_batches.specs.Replies.{TakesBack};
+ghost use Rattle.flux_serve.specs.Served.{CanServe};
+ghost use Rattle.flux_serve.specs.Batches.{Service};
+ghost use Rattle.flux_serve.specs.steps.Batches.{HasPassed, StopsAtOnce};
+ghost use Rattle.flux_serve.specs.steps.Dues.{IsEmptyLane, AreBack};
+
+use crate::batches::{Run, ServeEnd, take, write_batch};
+use crate::lanes::{Lane, deal, empty_lanes, give_back_dues};
+use crate::runs::{Served, open};
+use crate::workers::drive;
+use flow_core::{Core, Gate, none_live_is_whole};
+use flow_model::Journal;
+use flow_shared::SharedSeat;
+use flux_batches::{Held, LINK_LIMIT, give_back_held, items_of};
+use flux_cells::Cells;
+use flux_doors::Door;
+use flux_library::Library;
+use flux_model::Item;
+use flux_outside::Sink;
+use flux_values::{List, Memory};
+use std::alloc::Global;
+use std::collections::VecDeque;
+use std::marker::{Send, Sync};
+use std::snapshot::Snapshot;
+use std::sync::Wait;
+use std::thread::Threads;
+
+/// The core of links' items, from the cells that the batch before left, beside those items.
+fn begin<K, L: Library>(
+    alloc: Global,
+    served: &Served<L>,
+    links: &VecDeque<Held<K>>,
+    number: u64,
+    opening: Cells,
+) -> Result<(Core<L>, List<Item>), Memory>
+    requires can { CanServe (L.meaning (arc_value served.now.library)) (arc_value served.now.program)
+        (arc_value served.now.plans) served.now.framing }
+    requires few { deque_len links.now ≤ 64 }
+    requires numbers { number + 64 < 2 ^ 63 }
+    ensures core { IfOk result (λ begun. begun.0 ≡ opened (arc_value served.now.program)
+        (arc_value served.now.plans) begun.1 opening (arc_value served.now.library)) }
+    ensures items { IfOk result (λ begun. begun.1 ≡ items_from number links.now.items) }
+    ensures read { OnOk result (AreRead links.now.items) }
+{
+    let items = items_of(alloc, links, number)?;
+    let kept = items_of(alloc, links, number)?;
+    let core = open(alloc, served, items, opening)?;
+    Ok((core, kept))
+}
+
+/// What a batch's run needs: the core of its items, those items, and a lane for each worker.
+fn prepare<K: Drop, L: Library>(
+    alloc: Global,
+    served: &Served<L>,
+    links: &VecDeque<Held<K>>,
+    number: u64,
+    opening: Cells,
+    workers: u8,
+) -> Result<(Core<L>, List<Item>, Vec<Lane<SharedSeat<L>, K>>), Memory>
+    requires can { CanServe (L.meaning (arc_value served.now.library)) (arc_value served.now.program)
+        (arc_value served.now.plans) served.now.framing }
+    requires few { deque_len links.now ≤ 64 }
+    requires numbers { number + 64 < 2 ^ 63 }
+    ensures core { IfOk result (λ all. all.0 ≡ opened (arc_value served.now.program)
+        (arc_value served.now.plans) all.1 opening (arc_value served.now.library)) }
+    ensures items { IfOk result (λ all. all.1 ≡ items_from number links.now.items) }
+    ensures read { OnOk result (AreRead links.now.items) }
+    ensures count { IfOk result (λ all. vec_len all.2 ≡ workers) }
+    ensures empty { IfOk result (λ all. All (IsEmptyLane (deque_len links.now)) all.2.items) }
+{
+    let (core, items) = begin(alloc, served, links, number, opening)?;
+    let lanes = empty_lanes(alloc, workers, links.len())?;
+    Ok((core, items, lanes))
+}
+
+/// Drives a batch by its workers, answers its links, and gives them back. Says whether it was driven whole.
+fn run_lanes<L: Library + Send + Sync, D: Door, G: Gate + Sync, Rt: Threads + Wait + Sync>(
+    rt: &Rt,
+    alloc: Global,
+    core: Core<L>,
+    lanes: &mut [Lane<SharedSeat<L>, D::Link>],
+    links: VecDeque<Held<D::Link>>,
+    door: &mut D,
+    gate: &G,
+) -> (Journal, Cells, bool)
+    requires some { 0 < length lanes.old }
+    requires empty { All (IsEmptyLane (deque_len links)) lanes.old }
+    requires few { deque_len links ≤ LINK_LIMIT }
+    requires out { D.out door.old ≡ deque_len links }
+    ensures out { D.out door.new ≡ 0 }
+    ensures legal { IsLegal (setup_in L.meaning core) result.0.entries }
+    ensures whole { result.2 ≡ true → IsWhole (setup_in L.meaning core) result.0.entries }
+    ensures cells { cells_of result.1 ≡ cells_after (setup_in L.meaning core) result.0.entries }
+    ensures back { (backs : List D.Link) × (next : ℕ) × TakesBack (D.taken_back door.old) (D.taken_back door.new) backs
+        × AreBack (seen_by D.Link.had D.Link.left D.Link.written D.Link.faults) result.2 result.0.entries 0
+        links.items backs [] next }
+    ensures kept { D.to_come door.new ≡ D.to_come door.old }
+    ensures open { D.open_at door.new ≡ D.open_at door.old }
+    ensures counts { (D.faults door.new ≡ D.faults door.old) × (D.late door.new ≡ D.late door.old) }
+{
+    let came = Snapshot::of(&links);
+    let count = links.len();
+    deal(lanes, links);
+    let core = drive(rt, alloc, core, lanes, gate);
+    none_live_is_whole::<L>();
+    let whole = core.live() == 0;
+    let (journal, cells) = core.into_parts();
+    give_back_dues(door, lanes, &came, count, journal.entries.as_slice(), whole);
+    (journal, cells, whole)
+}
+
+/// Serves the next batch, each link as soon as its flow has its `end`: gives the cells at its end, and the number of the link
+/// behind its links.
+pub fn serve_batch_at_once<
+    L: Library + Send + Sync,
+    D: Door,
+    O: Sink,
+    G: Gate + Sync,
+    Rt: Threads + Wait + Sync,
+>(
+    rt: &Rt,
+    alloc: Global,
+    served: &Served<L>,
+    door: &mut D,
+    log: &mut O,
+    workers: u8,
+    gate: &G,
+    opening: Cells,
+    count: u32,
+    number: u64,
+) -> Result<(Cells, u64), ServeEnd>
+    requires can { CanServe (L.meaning (arc_value served.now.library)) (arc_value served.now.program)
+        (arc_value served.now.plans) served.now.framing }
+    requires some { 0 < workers }
+    requires out { D.out door.old ≡ 0 }
+    requires numbers { number + 64 < 2 ^ 63 }
+    ensures out { D.out door.new ≡ 0 }
+    ensures open { D.open_at door.new ≡ D.open_at door.old }
+    ensures later { (D.faults door.old ≤ D.faults door.new) × (D.late door.old ≤ D.late door.new) }
+    ensures later_log { O.faults log.old ≤ O.faults log.new }
+    ensures bound { IfOk result (λ next. next.1 ≤ number + 64) }
+    ensures passed { let service : Service = (record { program = arc_value served.now.program; framing = served.now.framing; meaning = L.meaning (arc_value served.now.library) }) in
+        IfOk result (λ next. HasPassed
+        (seen_by D.Link.had D.Link.left D.Link.written D.Link.faults)
+        service (cells_of opening) count number
+        (record {
+          to_come = D.to_come door.old;
+          taken_back = D.taken_back door.old;
+          faults = D.faults door.old;
+          late = D.late door.old;
+          log = record { written = O.written log.old; faults = O.faults log.old };
+        })
+        (record {
+          to_come = D.to_come door.new;
+          taken_back = D.taken_back door.new;
+          faults = D.faults door.new;
+          late = D.late door.new;
+          log = record { written = O.written log.new; faults = O.faults log.new };
+        })
+        (cells_of next.0) next.1) }
+    ensures stopped { let service : Service = (record { program = arc_value served.now.program; framing = served.now.framing; meaning = L.meaning (arc_value served.now.library) }) in
+        IfErr result (StopsAtOnce
+        (seen_by D.Link.had D.Link.left D.Link.written D.Link.faults)
+        service (cells_of opening) count number
+        (record {
+          to_come = D.to_come door.old;
+          taken_back = D.taken_back door.old;
+          faults = D.faults door.old;
+          late = D.late door.old;
+          log = record { written = O.written log.old; faults = O.faults log.old };
+        })
+        (record {
+          to_come = D.to_come door.new;
+          taken_back = D.taken_back door.new;
+          faults = D.faults door.new;
+          late = D.late door.new;
+          log = record { written = O.written log.new; faults = O.faults log.new };
+        })) }
+{
+    let links = match take(rt, alloc, door, served.framing) {
+        Ok(links) => links,
+        Err(end) => return Err(end),
+    };
+    let (core, items, lanes) = match prepare(alloc, served, &links, number, opening, workers) {
+        Ok(prepared) => prepared,
+        Err(_) => {
+            give_back_held(door, links);
+            return Err(ServeEnd::Memory);
+        }
+    };
+    let mut lanes = lanes;
+    let next = number + links.len() as u64;
+    let (journal, cells, whole) = run_lanes(
+        rt,
+        alloc,
+        core,
+        lanes.as_mut_slice(),
+        links,
+        door,
+        gate,
+    );
+    if !whole {
+        return Err(ServeEnd::Memory);
+    }
+    let run = Run {
+        items,
+        journal,
+        cells,
+    };
+    match write_batch(alloc, &served.program, log, count, &run) {
+        Ok(()) => Ok((run.cells, next)),
+        Err(end) => Err(end),
+    }
+}
