@@ -1,4 +1,5 @@
 pub mod Doors
 pub mod Links
 pub mod Replies
+pub mod AtOnce
 pub mod Serving

@@ -9,7 +9,7 @@ use Rattle.serving_examples.proofs.Doors.{rose, stands}
 use Rattle.serving_examples.proofs.Links.{told_byte}
 
 -- how many bytes are told
-abbrev count_of : Option (List ℕ) → ℕ
+abbrev pub count_of : Option (List ℕ) → ℕ
 count_of None = 0
 count_of (Some bytes) = length bytes
 

@@ -2,4 +2,5 @@ pub mod Small
 pub mod Doors
 pub mod Links
 pub mod Replies
+pub mod AtOnce
 pub mod Serving

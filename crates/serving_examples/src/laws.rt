@@ -3,6 +3,7 @@
 ghost use Rattle.serving_examples.specs.Doors.{DoorsFit, DoorsMisfit};
 ghost use Rattle.serving_examples.specs.Links.{LinksFit, LinksMisfit};
 ghost use Rattle.serving_examples.specs.Replies.{RepliesFit, RepliesMisfit};
+ghost use Rattle.serving_examples.specs.AtOnce.{AtOnceFits, AtOnceMisfits};
 ghost use Rattle.serving_examples.specs.Serving.{ServingFits, ServingMisfits};
 
 /// What doors give, and which links make a batch.
@@ -21,6 +22,12 @@ pub fn links_by_example()
 pub fn replies_by_example()
     ensures fit { RepliesFit }
     ensures misfit { RepliesMisfit }
+{}
+
+/// What links are written before their batch is over.
+pub fn at_once_by_example()
+    ensures fit { AtOnceFits }
+    ensures misfit { AtOnceMisfits }
 {}
 
 /// Which programs are served, and how serving ends.

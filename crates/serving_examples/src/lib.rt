@@ -7,4 +7,6 @@
 
 mod laws;
 
-pub use laws::{doors_by_example, links_by_example, replies_by_example, serving_by_example};
+pub use laws::{
+    at_once_by_example, doors_by_example, links_by_example, replies_by_example, serving_by_example,
+};
