@@ -1,12 +1,11 @@
 -- Which words ask for threads.
-use Rattle.std.proofs.Common.{◌≡◌, ℕ, Bool, true, false, refl, ◌≤◌, ◌-◌, List, [], ◌∷◌, length, take, drop, get_or, sym, subst, ◌∙◌}
+use Rattle.std.proofs.Common.{◌≡◌, ℕ, Bool, false, refl, ◌≤◌, ◌-◌, List, [], ◌∷◌, length, take, drop, get_or, sym, subst}
 use Rattle.std.specs.Prelude.{◌↔◌, IsTrue, Option, Some, None}
 use Rattle.std.specs.Option.{is_some}
 use Rattle.std.specs.Borrow.{Bor}
 use Rattle.flux_words.specs.declared.names.CommandName.{CommandName}
 use Rattle.flux_words.specs.declared.names.CommandName.TheVariants as names
 use Rattle.flux_words.specs.declared.given.Given.{Given}
-use Rattle.flux_words.specs.declared.values.Runtime.{Runtime}
 use Rattle.flux_words.specs.declared.values.JournalFormat.{JournalFormat}
 use Rattle.flux_words.specs.declared.loads.TheConstants.{LOAD_LIMIT, FIRST_LIMIT}
 use Rattle.flux_words.specs.Names.{IsNamed}
@@ -48,12 +47,12 @@ calm name words no_run no_load no_serve = not_so (AskThreads name words) (λ ask
     by (swarm file items journal hash docs) c needs = needs
 
 module _ (words : List (List ℕ)) (given : Given) (is : IsGiven words given) (r : Bool) (told : IsTrue r ↔ IsThreaded (listed given.runtime)) where
-  pub run_asks : (file items : List ℕ) (journal : JournalFormat) → files_of given.files ≡ file ∷ items ∷ [] → IsFormat (listed given.journal) journal → listed given.port ≡ [] → listed given.batches ≡ []
+  pub run_asks : (file items : List ℕ) (journal : JournalFormat) → files_of given.files ≡ file ∷ items ∷ [] → IsFormat (listed given.journal) journal → listed given.port ≡ [] → listed given.batches ≡ [] → listed given.at_once ≡ []
       → listed given.processors ≡ [] → listed given.costs ≡ [] → IsTrue r ↔ AskThreads names.Run words
-  run_asks file items journal files_ format_ p b n c = (
+  run_asks file items journal files_ format_ p b a n c = (
     (λ e. let threaded = told.0 e in record {
       command = run file items _;
-      is = record { is = refl; behind = run_given words given is file items threaded.runtime journal files_ threaded.is format_ p b n c };
+      is = record { is = refl; behind = run_given words given is file items threaded.runtime journal files_ threaded.is format_ p b a n c };
       needs = threaded.starts;
     }),
     (λ asks. told.1 (by asks.command asks.is asks.needs)),
@@ -76,12 +75,12 @@ module _ (words : List (List ℕ)) (given : Given) (is : IsGiven words given) (r
       by (swarm f i j h docs) c needs = absurd needs
 
   pub load_asks : (x y : List ℕ) (count first : ℕ) → files_of given.files ≡ x ∷ y ∷ [] → SpellsNumber 1 LOAD_LIMIT x count → SpellsNumber 0 FIRST_LIMIT y first
-      → listed given.docs ≡ [] → listed given.journal ≡ [] → listed given.port ≡ [] → listed given.batches ≡ []
+      → listed given.docs ≡ [] → listed given.journal ≡ [] → listed given.port ≡ [] → listed given.batches ≡ [] → listed given.at_once ≡ []
       → listed given.processors ≡ [] → listed given.costs ≡ [] → IsTrue r ↔ AskThreads names.Load words
-  load_asks x y count first files_ n k d j p b m c = (
+  load_asks x y count first files_ n k d j p b a m c = (
     (λ e. let threaded = told.0 e in record {
       command = load count first threaded.runtime;
-      is = record { is = refl; behind = load_given words given is x y count first threaded.runtime files_ n k threaded.is d j p b m c };
+      is = record { is = refl; behind = load_given words given is x y count first threaded.runtime files_ n k threaded.is d j p b a m c };
       needs = threaded.starts;
     }),
     (λ asks. told.1 (by asks.command asks.is asks.needs)),

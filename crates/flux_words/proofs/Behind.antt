@@ -1,5 +1,5 @@
 -- What words ask for, or why they ask for nothing.
-use Rattle.std.proofs.Common.{◌≡◌, ℕ, Bool, true, false, ◌-◌, ◌≤◌, List, [], ◌∷◌, length, take, drop, get_or, ap, sym, refl, subst, arith, codes, ◌∙◌}
+use Rattle.std.proofs.Common.{◌≡◌, ℕ, Bool, true, false, ◌-◌, ◌≤◌, List, [], ◌∷◌, length, take, drop, get_or, ap, sym, refl, subst, subst₂, arith, codes, ◌∙◌}
 use Rattle.std.specs.Prelude.{Option, Some, None, IfNone, IfOk, Result, Ok, Err, option_map, option_copied}
 use Rattle.std.specs.Option.{is_some}
 use Rattle.std.proofs.lemmas.List.{take_all}
@@ -16,10 +16,11 @@ use Rattle.flux_words.specs.declared.values.JournalFormat.{JournalFormat}
 use Rattle.flux_words.specs.declared.loads.TheConstants.{LOAD_LIMIT, FIRST_LIMIT}
 use Rattle.flux_words.specs.declared.commands.Asked.{Asked}
 use Rattle.flux_words.specs.Names.{IsNamed}
-use Rattle.flux_words.specs.Parts.{Part, BeginWith, words_in, values_of}
+use Rattle.flux_words.specs.Parts.{Part, BeginWith}
 use Rattle.flux_words.specs.Values.{SpellsNumber, IsRuntime, IsFormat, IsPort, IsBatches}
 use Rattle.flux_words.specs.Costs.{IsProcessors, AreCosts}
-use Rattle.flux_words.specs.Behind.{Manner, Serving, Simulating, IsFile, HasParts, HasNoServing, HasNoSimulating, FitsRun, FitsAudit, FitsLoad, FitsServe, FitsSimulate, FitsSwarm}
+use Rattle.flux_words.specs.Replies.{IsReplying}
+use Rattle.flux_words.specs.Behind.{Manner, Serving, Simulating, HasParts, HasNoServing, HasNoSimulating, FitsRun, FitsAudit, FitsLoad, FitsServe, FitsSimulate, FitsSwarm}
 use Rattle.flux_words.specs.Commands.{Command, check, plan, format, run, audit, load, serve, help, simulate, swarm, name_of, StandsBehind, Spells, SpellsNone, IsServe, NeedsThreads}
 use Rattle.flux_words.specs.Asking.{asked}
 use Rattle.flux_words.specs.steps.Given.{files_of, listed, IsGiven, IsTooMuch}
@@ -142,12 +143,12 @@ module _ (words : List (List ℕ)) (given : Given) (is : IsGiven words given) wh
       → FitsSwarm file items journal hash docs is.parts
   swarm_fits file items journal hash docs has = fits_given words given is (FitsSwarm file items journal hash docs) has
 
-  no_serving : listed given.port ≡ [] → listed given.batches ≡ [] → HasNoServing is.parts
-  no_serving p b = record { no_port = sym is.holds.port_ ∙ p; no_batches = sym is.holds.batches_ ∙ b }
+  no_serving : listed given.port ≡ [] → listed given.batches ≡ [] → listed given.at_once ≡ [] → HasNoServing is.parts
+  no_serving p b a = record { no_port = sym is.holds.port_ ∙ p; no_batches = sym is.holds.batches_ ∙ b; no_at_once = sym is.holds.at_once_ ∙ a }
 
   -- an option that `serve` alone has is given
-  serving_given : (listed given.port ≡ [] → listed given.batches ≡ [] → ⊥) → HasNoServing is.parts → ⊥
-  serving_given some none = some (is.holds.port_ ∙ none.no_port) (is.holds.batches_ ∙ none.no_batches)
+  serving_given : (listed given.port ≡ [] → listed given.batches ≡ [] → listed given.at_once ≡ [] → ⊥) → HasNoServing is.parts → ⊥
+  serving_given some none = some (is.holds.port_ ∙ none.no_port) (is.holds.batches_ ∙ none.no_batches) (is.holds.at_once_ ∙ none.no_at_once)
 
   no_simulating : listed given.processors ≡ [] → listed given.costs ≡ [] → HasNoSimulating is.parts
   no_simulating p c = record { no_processors = sym is.holds.processors_ ∙ p; no_costs = sym is.holds.costs_ ∙ c }
@@ -158,7 +159,7 @@ module _ (words : List (List ℕ)) (given : Given) (is : IsGiven words given) wh
 
   -- ---- `run`
 
-  pub run_of_serving : (listed given.port ≡ [] → listed given.batches ≡ [] → ⊥) → Nothing names.Run words
+  pub run_of_serving : (listed given.port ≡ [] → listed given.batches ≡ [] → listed given.at_once ≡ [] → ⊥) → Nothing names.Run words
   run_of_serving some = none_of_run words (λ file items manner has. serving_given some (run_fits file items manner has).no_serving)
 
   pub run_of_simulating : (listed given.processors ≡ [] → listed given.costs ≡ [] → ⊥) → Nothing names.Run words
@@ -176,10 +177,10 @@ module _ (words : List (List ℕ)) (given : Given) (is : IsGiven words given) wh
   run_of_runtime none = none_of_run words (λ file items manner has.
       none manner.runtime (subst (λ (l : List (List ℕ)). IsRuntime l manner.runtime) (sym is.holds.runtime_) (run_fits file items manner has).runtime_))
 
-  pub run_given : (file items : List ℕ) (runtime : Runtime) (journal : JournalFormat) → files_of given.files ≡ file ∷ items ∷ [] → IsRuntime (listed given.runtime) runtime → IsFormat (listed given.journal) journal → listed given.port ≡ [] → listed given.batches ≡ []
+  pub run_given : (file items : List ℕ) (runtime : Runtime) (journal : JournalFormat) → files_of given.files ≡ file ∷ items ∷ [] → IsRuntime (listed given.runtime) runtime → IsFormat (listed given.journal) journal → listed given.port ≡ [] → listed given.batches ≡ [] → listed given.at_once ≡ []
       → listed given.processors ≡ [] → listed given.costs ≡ []
       → HasParts words (FitsRun file items (record { runtime = runtime; docs = option_copied given.docs; journal = journal }))
-  run_given file items runtime journal files_ r j p b n c = record {
+  run_given file items runtime journal files_ r j p b a n c = record {
     parts = is.parts;
     laid = is.laid;
     fits = record {
@@ -187,14 +188,14 @@ module _ (words : List (List ℕ)) (given : Given) (is : IsGiven words given) wh
       runtime_ = subst (λ (l : List (List ℕ)). IsRuntime l runtime) is.holds.runtime_ r;
       docs_ = sym is.holds.docs_;
       journal_ = subst (λ (l : List (List ℕ)). IsFormat l journal) is.holds.journal_ j;
-      no_serving = no_serving p b;
+      no_serving = no_serving p b a;
       no_simulating = no_simulating n c;
     };
   }
 
   -- ---- `audit`
 
-  pub audit_of_serving : (listed given.port ≡ [] → listed given.batches ≡ [] → ⊥) → Nothing names.Audit words
+  pub audit_of_serving : (listed given.port ≡ [] → listed given.batches ≡ [] → listed given.at_once ≡ [] → ⊥) → Nothing names.Audit words
   audit_of_serving some = none_of_audit words (λ file items journal docs has. serving_given some (audit_fits file items journal docs has).no_serving)
 
   pub audit_of_simulating : (listed given.processors ≡ [] → listed given.costs ≡ [] → ⊥) → Nothing names.Audit words
@@ -208,10 +209,10 @@ module _ (words : List (List ℕ)) (given : Given) (is : IsGiven words given) wh
   audit_of_options some = none_of_audit words (λ file items journal docs has. let fits = audit_fits file items journal docs has in
       some (is.holds.runtime_ ∙ fits.no_runtime) (is.holds.journal_ ∙ fits.no_journal))
 
-  pub audit_given : (file items journal : List ℕ) → files_of given.files ≡ file ∷ items ∷ journal ∷ [] → listed given.runtime ≡ [] → listed given.journal ≡ [] → listed given.port ≡ [] → listed given.batches ≡ []
+  pub audit_given : (file items journal : List ℕ) → files_of given.files ≡ file ∷ items ∷ journal ∷ [] → listed given.runtime ≡ [] → listed given.journal ≡ [] → listed given.port ≡ [] → listed given.batches ≡ [] → listed given.at_once ≡ []
       → listed given.processors ≡ [] → listed given.costs ≡ []
       → HasParts words (FitsAudit file items journal (option_copied given.docs))
-  audit_given file items journal files_ r j p b n c = record {
+  audit_given file items journal files_ r j p b a n c = record {
     parts = is.parts;
     laid = is.laid;
     fits = record {
@@ -219,14 +220,14 @@ module _ (words : List (List ℕ)) (given : Given) (is : IsGiven words given) wh
       docs_ = sym is.holds.docs_;
       no_runtime = sym is.holds.runtime_ ∙ r;
       no_journal = sym is.holds.journal_ ∙ j;
-      no_serving = no_serving p b;
+      no_serving = no_serving p b a;
       no_simulating = no_simulating n c;
     };
   }
 
   -- ---- `load`
 
-  pub load_of_serving : (listed given.port ≡ [] → listed given.batches ≡ [] → ⊥) → Nothing names.Load words
+  pub load_of_serving : (listed given.port ≡ [] → listed given.batches ≡ [] → listed given.at_once ≡ [] → ⊥) → Nothing names.Load words
   load_of_serving some = none_of_load words (λ count first runtime has. serving_given some (load_fits count first runtime has).no_serving)
 
   pub load_of_options : ((listed given.docs ≡ []) → (listed given.journal ≡ []) → ⊥) → Nothing names.Load words
@@ -257,9 +258,9 @@ module _ (words : List (List ℕ)) (given : Given) (is : IsGiven words given) wh
       none runtime (subst (λ (l : List (List ℕ)). IsRuntime l runtime) (sym is.holds.runtime_) fits.runtime_))
 
   pub load_given : (x y : List ℕ) (count first : ℕ) (runtime : Runtime) → files_of given.files ≡ x ∷ y ∷ [] → SpellsNumber 1 LOAD_LIMIT x count → SpellsNumber 0 FIRST_LIMIT y first
-      → IsRuntime (listed given.runtime) runtime → listed given.docs ≡ [] → listed given.journal ≡ [] → listed given.port ≡ [] → listed given.batches ≡ []
+      → IsRuntime (listed given.runtime) runtime → listed given.docs ≡ [] → listed given.journal ≡ [] → listed given.port ≡ [] → listed given.batches ≡ [] → listed given.at_once ≡ []
       → listed given.processors ≡ [] → listed given.costs ≡ [] → HasParts words (FitsLoad count first runtime)
-  load_given x y count first runtime files_ n k r d j p b m c = record {
+  load_given x y count first runtime files_ n k r d j p b a m c = record {
     parts = is.parts;
     laid = is.laid;
     fits = record {
@@ -271,7 +272,7 @@ module _ (words : List (List ℕ)) (given : Given) (is : IsGiven words given) wh
       runtime_ = subst (λ (l : List (List ℕ)). IsRuntime l runtime) is.holds.runtime_ r;
       no_docs = sym is.holds.docs_ ∙ d;
       no_journal = sym is.holds.journal_ ∙ j;
-      no_serving = no_serving p b;
+      no_serving = no_serving p b a;
       no_simulating = no_simulating m c;
     };
   }
@@ -293,12 +294,12 @@ module _ (words : List (List ℕ)) (given : Given) (is : IsGiven words given) wh
   pub serve_of_batches : ((batches : ℕ) → IsBatches (listed given.batches) batches → ⊥) → (file : List ℕ) (serving : Serving) → HasParts words (FitsServe file serving) → ⊥
   serve_of_batches none file serving has = none serving.batches (subst (λ (l : List (List ℕ)). IsBatches l serving.batches) (sym is.holds.batches_) (serve_fits file serving has).batches_)
 
-  -- all but the runtime is read
+  -- all but when replies are written is read
   pub serve_given : (file : Bor (List ℕ)) (port batches : ℕ) → files_of given.files ≡ file.now ∷ [] → IsPort (listed given.port) port → IsBatches (listed given.batches) batches → listed given.journal ≡ []
       → listed given.processors ≡ [] → listed given.costs ≡ []
-      → IsServeRead words (Some (record { file = file; port = port; batches = batches; docs = given.docs; runtime = given.runtime }))
+      → IsServeRead words (Some (record { file = file; port = port; batches = batches; docs = given.docs; runtime = given.runtime; at_once = given.at_once }))
   serve_given file port batches files_ p b j n c = record {
-    to = λ runtime r. record {
+    to = λ replying r. record {
       parts = is.parts;
       laid = is.laid;
       fits = record {
@@ -306,17 +307,18 @@ module _ (words : List (List ℕ)) (given : Given) (is : IsGiven words given) wh
         port_ = subst (λ (l : List (List ℕ)). IsPort l port) is.holds.port_ p;
         batches_ = subst (λ (l : List (List ℕ)). IsBatches l batches) is.holds.batches_ b;
         docs_ = sym is.holds.docs_;
-        runtime_ = subst (λ (l : List (List ℕ)). IsRuntime l runtime) is.holds.runtime_ r;
+        replying_ = subst₂ (λ (l m : List (List ℕ)). IsReplying l m replying) is.holds.runtime_ is.holds.at_once_ r;
         no_journal = sym is.holds.journal_ ∙ j;
         no_simulating = no_simulating n c;
       };
     };
-    from = λ other serving has. subst (λ (l : List (List ℕ)). IsRuntime l serving.runtime) (sym is.holds.runtime_) (serve_fits other serving has).runtime_;
+    from = λ other serving has. subst₂ (λ (l m : List (List ℕ)). IsReplying l m serving.replying) (sym is.holds.runtime_) (sym is.holds.at_once_)
+        (serve_fits other serving has).replying_;
   }
 
   -- ---- `simulate`
 
-  pub simulate_of_serving : (listed given.port ≡ [] → listed given.batches ≡ [] → ⊥) → Nothing names.Simulate words
+  pub simulate_of_serving : (listed given.port ≡ [] → listed given.batches ≡ [] → listed given.at_once ≡ [] → ⊥) → Nothing names.Simulate words
   simulate_of_serving some = none_of_simulate words (λ file items simulating has. serving_given some (simulate_fits file items simulating has).no_serving)
 
   pub simulate_of_options : ((listed given.runtime ≡ []) → (listed given.journal ≡ []) → ⊥) → Nothing names.Simulate words
@@ -336,9 +338,9 @@ module _ (words : List (List ℕ)) (given : Given) (is : IsGiven words given) wh
       none simulating.costs (subst (λ (l : List (List ℕ)). AreCosts l simulating.costs) (sym is.holds.costs_) (simulate_fits file items simulating has).costs_))
 
   pub simulate_given : (file items : List ℕ) (processors : ℕ) (costs : List ℕ) → files_of given.files ≡ file ∷ items ∷ [] → IsProcessors (listed given.processors) processors → AreCosts (listed given.costs) costs
-      → listed given.runtime ≡ [] → listed given.journal ≡ [] → listed given.port ≡ [] → listed given.batches ≡ []
+      → listed given.runtime ≡ [] → listed given.journal ≡ [] → listed given.port ≡ [] → listed given.batches ≡ [] → listed given.at_once ≡ []
       → HasParts words (FitsSimulate file items (record { processors = processors; costs = costs; docs = option_copied given.docs }))
-  simulate_given file items processors costs files_ n c r j p b = record {
+  simulate_given file items processors costs files_ n c r j p b a = record {
     parts = is.parts;
     laid = is.laid;
     fits = record {
@@ -348,13 +350,13 @@ module _ (words : List (List ℕ)) (given : Given) (is : IsGiven words given) wh
       docs_ = sym is.holds.docs_;
       no_runtime = sym is.holds.runtime_ ∙ r;
       no_journal = sym is.holds.journal_ ∙ j;
-      no_serving = no_serving p b;
+      no_serving = no_serving p b a;
     };
   }
 
   -- ---- `swarm`
 
-  pub swarm_of_serving : (listed given.port ≡ [] → listed given.batches ≡ [] → ⊥) → Nothing names.Swarm words
+  pub swarm_of_serving : (listed given.port ≡ [] → listed given.batches ≡ [] → listed given.at_once ≡ [] → ⊥) → Nothing names.Swarm words
   swarm_of_serving some = none_of_swarm words (λ file items journal hash docs has.
       serving_given some (swarm_fits file items journal hash docs has).no_serving)
 
@@ -383,9 +385,9 @@ module _ (words : List (List ℕ)) (given : Given) (is : IsGiven words given) wh
 
   pub swarm_given : (file items journal digits hash : List ℕ) → files_of given.files ≡ file ∷ items ∷ journal ∷ digits ∷ []
       → hash_of digits ≡ Some hash → listed given.runtime ≡ [] → listed given.journal ≡ []
-      → listed given.port ≡ [] → listed given.batches ≡ [] → listed given.processors ≡ [] → listed given.costs ≡ []
+      → listed given.port ≡ [] → listed given.batches ≡ [] → listed given.at_once ≡ [] → listed given.processors ≡ [] → listed given.costs ≡ []
       → HasParts words (FitsSwarm file items journal hash (option_copied given.docs))
-  swarm_given file items journal digits hash files_ h r j p b n c = record {
+  swarm_given file items journal digits hash files_ h r j p b a n c = record {
     parts = is.parts;
     laid = is.laid;
     fits = record {
@@ -395,7 +397,7 @@ module _ (words : List (List ℕ)) (given : Given) (is : IsGiven words given) wh
       docs_ = sym is.holds.docs_;
       no_runtime = sym is.holds.runtime_ ∙ r;
       no_journal = sym is.holds.journal_ ∙ j;
-      no_serving = no_serving p b;
+      no_serving = no_serving p b a;
       no_simulating = no_simulating n c;
     };
   }

@@ -3,13 +3,16 @@ use Rattle.std.proofs.Common.{◌≡◌, inl, inr, ℕ, ◌<◌, ◌≤◌, List
 use Rattle.std.specs.Prelude.{Option, Some, None, option_to_list}
 use Rattle.std.proofs.lemmas.List.{length-append}
 use Rattle.flux_words.specs.declared.names.OptionName.{OptionName}
-use Rattle.flux_words.specs.declared.names.OptionName.TheVariants.{Runtime, Docs, Journal, Port, Batches, Processors, Costs}
+use Rattle.flux_words.specs.declared.names.OptionName.TheVariants.{Runtime, Docs, Journal, Port, Batches, AtOnce, Processors, Costs}
 use Rattle.flux_words.specs.declared.given.Given.{Given}
 use Rattle.flux_words.specs.declared.values.Runtime as values
 use Rattle.flux_words.specs.declared.values.JournalFormat.{JournalFormat}
 use Rattle.flux_words.specs.Values.{IsRuntime, IsFormat, IsPort, IsBatches}
 use Rattle.flux_words.specs.Costs.{IsProcessors, AreCosts}
-use Rattle.flux_words.specs.Behind.{Manner, Serving, Simulating, HasParts, HasNoServing, HasNoSimulating, FitsRun, FitsAudit, FitsLoad, FitsServe, FitsSimulate, FitsSwarm}
+use Rattle.flux_words.specs.declared.replies.Replying.{Replying}
+use Rattle.flux_words.specs.declared.replies.Replying.TheVariants as replies
+use Rattle.flux_words.specs.Replies.{IsAtOnce, IsReplying}
+use Rattle.flux_words.specs.Behind.{Manner, Serving, Simulating, HasParts, FitsRun, FitsAudit, FitsLoad, FitsServe, FitsSimulate, FitsSwarm}
 use Rattle.flux_words.specs.Parts.{Part, word, option, Begins, BeginWith, if_for, words_in, values_of}
 use Rattle.flux_words.specs.steps.Given.{files_of, listed, HoldsAll, Adds, IsFull, IsTooMuch, IsGiven, AreSoFar}
 use Rattle.flux_words.proofs.Laid.{begin_more, past, one_part, one_parting, words_in-append, values_of-append, if_for-same}
@@ -18,7 +21,7 @@ use Rattle.flux_words.proofs.Laid.{begin_more, past, one_part, one_parting, word
 abbrev pub AreAllSoFar : List (List ℕ) → List (List ℕ) → Given → Type 0
 AreAllSoFar words rest given =
     AreSoFar words rest (files_of given.files) (listed given.runtime) (listed given.docs) (listed given.journal) (listed given.port) (listed given.batches)
-    (listed given.processors) (listed given.costs)
+    (listed given.at_once) (listed given.processors) (listed given.costs)
 
 value_more : (name : OptionName) (before after : List (List ℕ)) (parts : List Part) (p : Part) → before ≡ values_of name parts → after ≡ before ++ values_of name (p ∷ []) → after ≡ values_of name (parts ++ p ∷ [])
 value_more name before after parts p is adds = adds ∙ ap (λ (l : List (List ℕ)). l ++ values_of name (p ∷ [])) is ∙ sym (values_of-append name parts (p ∷ []))
@@ -34,6 +37,7 @@ one_more words rest next before after p sofar begins adds = record {
     journal_ = value_more Journal (listed before.journal) (listed after.journal) sofar.parts p sofar.holds.journal_ adds.journal_;
     port_ = value_more Port (listed before.port) (listed after.port) sofar.parts p sofar.holds.port_ adds.port_;
     batches_ = value_more Batches (listed before.batches) (listed after.batches) sofar.parts p sofar.holds.batches_ adds.batches_;
+    at_once_ = value_more AtOnce (listed before.at_once) (listed after.at_once) sofar.parts p sofar.holds.at_once_ adds.at_once_;
     processors_ = value_more Processors (listed before.processors) (listed after.processors) sofar.parts p sofar.holds.processors_ adds.processors_;
     costs_ = value_more Costs (listed before.costs) (listed after.costs) sofar.parts p sofar.holds.costs_ adds.costs_;
   };
@@ -63,6 +67,7 @@ full_too_much given sofar more all (option Docs v) holds full e = inr (Docs, twi
 full_too_much given sofar more all (option Journal v) holds full e = inr (Journal, twice Journal (listed given.journal) v sofar more all holds.journal_ full e)
 full_too_much given sofar more all (option Port v) holds full e = inr (Port, twice Port (listed given.port) v sofar more all holds.port_ full e)
 full_too_much given sofar more all (option Batches v) holds full e = inr (Batches, twice Batches (listed given.batches) v sofar more all holds.batches_ full e)
+full_too_much given sofar more all (option AtOnce v) holds full e = inr (AtOnce, twice AtOnce (listed given.at_once) v sofar more all holds.at_once_ full e)
 full_too_much given sofar more all (option Processors v) holds full e = inr (Processors, twice Processors (listed given.processors) v sofar more all holds.processors_ full e)
 full_too_much given sofar more all (option Costs v) holds full e = inr (Costs, twice Costs (listed given.costs) v sofar more all holds.costs_ full e)
 
@@ -138,6 +143,16 @@ costs_once [] costs is = omega arith
 costs_once (v ∷ []) costs is = omega arith
 costs_once (v ∷ w ∷ vs) costs is = absurd is
 
+at_once_once : (vs : List (List ℕ)) (workers : ℕ) → IsAtOnce vs workers → length vs ≤ 1
+at_once_once [] workers is = absurd is
+at_once_once (v ∷ []) workers is = omega arith
+at_once_once (v ∷ w ∷ vs) workers is = absurd is
+
+replying_once : (runtimes at_once : List (List ℕ)) (replying : Replying) → IsReplying runtimes at_once replying
+    → (length runtimes ≤ 1) × (length at_once ≤ 1)
+replying_once runtimes at_once (replies.AtEnd runtime) is = (runtime_once runtimes runtime is.1, none_once at_once is.0)
+replying_once runtimes at_once (replies.AtOnce workers) is = (none_once runtimes is.0, at_once_once at_once workers.count is.1)
+
 -- each option is given once at most
 record AreOnce (parts : List Part) : Type 0 where
   runtime_ : length (values_of Runtime parts) ≤ 1
@@ -145,6 +160,7 @@ record AreOnce (parts : List Part) : Type 0 where
   journal_ : length (values_of Journal parts) ≤ 1
   port_ : length (values_of Port parts) ≤ 1
   batches_ : length (values_of Batches parts) ≤ 1
+  at_once_ : length (values_of AtOnce parts) ≤ 1
   processors_ : length (values_of Processors parts) ≤ 1
   costs_ : length (values_of Costs parts) ≤ 1
 
@@ -154,6 +170,7 @@ by_name parts own Docs = own.docs_
 by_name parts own Journal = own.journal_
 by_name parts own Port = own.port_
 by_name parts own Batches = own.batches_
+by_name parts own AtOnce = own.at_once_
 by_name parts own Processors = own.processors_
 by_name parts own Costs = own.costs_
 
@@ -166,6 +183,7 @@ few_run file items manner parts fits = record {
     journal_ = format_once (values_of Journal parts) manner.journal fits.journal_;
     port_ = none_once (values_of Port parts) fits.no_serving.no_port;
     batches_ = none_once (values_of Batches parts) fits.no_serving.no_batches;
+    at_once_ = none_once (values_of AtOnce parts) fits.no_serving.no_at_once;
     processors_ = none_once (values_of Processors parts) fits.no_simulating.no_processors;
     costs_ = none_once (values_of Costs parts) fits.no_simulating.no_costs;
   });
@@ -180,6 +198,7 @@ few_audit file items journal docs parts fits = record {
     journal_ = none_once (values_of Journal parts) fits.no_journal;
     port_ = none_once (values_of Port parts) fits.no_serving.no_port;
     batches_ = none_once (values_of Batches parts) fits.no_serving.no_batches;
+    at_once_ = none_once (values_of AtOnce parts) fits.no_serving.no_at_once;
     processors_ = none_once (values_of Processors parts) fits.no_simulating.no_processors;
     costs_ = none_once (values_of Costs parts) fits.no_simulating.no_costs;
   });
@@ -194,6 +213,7 @@ few_load count first runtime parts fits = record {
     journal_ = none_once (values_of Journal parts) fits.no_journal;
     port_ = none_once (values_of Port parts) fits.no_serving.no_port;
     batches_ = none_once (values_of Batches parts) fits.no_serving.no_batches;
+    at_once_ = none_once (values_of AtOnce parts) fits.no_serving.no_at_once;
     processors_ = none_once (values_of Processors parts) fits.no_simulating.no_processors;
     costs_ = none_once (values_of Costs parts) fits.no_simulating.no_costs;
   });
@@ -203,11 +223,12 @@ pub few_serve : (file : List ℕ) (serving : Serving) (parts : List Part) → Fi
 few_serve file serving parts fits = record {
   words_ = omega (arith, ap length fits.files);
   once = by_name parts (record {
-    runtime_ = runtime_once (values_of Runtime parts) serving.runtime fits.runtime_;
+    runtime_ = (replying_once (values_of Runtime parts) (values_of AtOnce parts) serving.replying fits.replying_).0;
     docs_ = docs_once (values_of Docs parts) serving.docs fits.docs_;
     journal_ = none_once (values_of Journal parts) fits.no_journal;
     port_ = port_once (values_of Port parts) serving.port fits.port_;
     batches_ = batches_once (values_of Batches parts) serving.batches fits.batches_;
+    at_once_ = (replying_once (values_of Runtime parts) (values_of AtOnce parts) serving.replying fits.replying_).1;
     processors_ = none_once (values_of Processors parts) fits.no_simulating.no_processors;
     costs_ = none_once (values_of Costs parts) fits.no_simulating.no_costs;
   });
@@ -222,6 +243,7 @@ few_simulate file items simulating parts fits = record {
     journal_ = none_once (values_of Journal parts) fits.no_journal;
     port_ = none_once (values_of Port parts) fits.no_serving.no_port;
     batches_ = none_once (values_of Batches parts) fits.no_serving.no_batches;
+    at_once_ = none_once (values_of AtOnce parts) fits.no_serving.no_at_once;
     processors_ = processors_once (values_of Processors parts) simulating.processors fits.processors_;
     costs_ = costs_once (values_of Costs parts) simulating.costs fits.costs_;
   });
@@ -237,6 +259,7 @@ few_swarm file items journal hash docs parts fits = record {
     journal_ = none_once (values_of Journal parts) fits.no_journal;
     port_ = none_once (values_of Port parts) fits.no_serving.no_port;
     batches_ = none_once (values_of Batches parts) fits.no_serving.no_batches;
+    at_once_ = none_once (values_of AtOnce parts) fits.no_serving.no_at_once;
     processors_ = none_once (values_of Processors parts) fits.no_simulating.no_processors;
     costs_ = none_once (values_of Costs parts) fits.no_simulating.no_costs;
   });

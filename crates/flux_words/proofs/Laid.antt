@@ -1,9 +1,10 @@
 -- Parts at the front of words: there is one way to take words apart.
-use Rattle.std.proofs.Common.{◌≡◌, ◌⊎◌, inl, inr, ℕ, ◌+◌, ◌≤◌, List, [], ◌∷◌, ◌++◌, length, drop, get_or, refl, sym, ap, ◌∙◌, subst, arith, append_assoc}
-use Rattle.std.proofs.lemmas.List.{append_cancel_left, append-nil}
+use Rattle.std.proofs.Common.{◌≡◌, ◌⊎◌, inl, inr, ℕ, ◌+◌, ◌-◌, ◌<◌, ◌≤◌, List, [], ◌∷◌, ◌++◌, length, take, drop, get_or, refl, sym, ap, ◌∙◌, subst, arith, append_assoc}
+use Rattle.std.specs.Prelude.{Option, Some, None, IfNone}
+use Rattle.std.proofs.lemmas.List.{append_cancel_left, append-nil, take_all}
 use Rattle.flux_words.specs.declared.names.OptionName.{OptionName}
-use Rattle.flux_words.specs.declared.names.OptionName.TheVariants.{Runtime, Docs, Journal, Port, Batches, Processors, Costs}
-use Rattle.flux_words.specs.Parts.{Part, word, option, IsPositional, IsNoOption, Begins, BeginWith, spelled, if_for, words_in, values_of}
+use Rattle.flux_words.specs.declared.names.OptionName.TheVariants.{Runtime, Docs, Journal, Port, Batches, AtOnce, Processors, Costs}
+use Rattle.flux_words.specs.Parts.{Part, word, option, IsPositional, IsFilled, IsNoOption, Begins, BeginWith, spelled, if_for, words_in, values_of}
 
 -- ---- one part
 
@@ -14,6 +15,7 @@ letters Docs = 211
 letters Journal = 217
 letters Port = 223
 letters Batches = 195
+letters AtOnce = 213
 letters Processors = 226
 letters Costs = 210
 
@@ -27,6 +29,7 @@ letters_are Docs a = refl
 letters_are Journal a = refl
 letters_are Port a = refl
 letters_are Batches a = refl
+letters_are AtOnce a = refl
 letters_are Processors a = refl
 letters_are Costs a = refl
 
@@ -37,6 +40,7 @@ by_letters Docs Docs e = refl
 by_letters Journal Journal e = refl
 by_letters Port Port e = refl
 by_letters Batches Batches e = refl
+by_letters AtOnce AtOnce e = refl
 by_letters Processors Processors e = refl
 by_letters Costs Costs e = refl
 by_letters n m e = absurd (omega (arith, e))
@@ -55,6 +59,7 @@ no_word Docs x other = other refl
 no_word Journal x other = other refl
 no_word Port x other = other refl
 no_word Batches x other = other refl
+no_word AtOnce x other = other refl
 no_word Processors x other = other refl
 no_word Costs x other = other refl
 
@@ -154,6 +159,7 @@ if_for-same Docs v = refl
 if_for-same Journal v = refl
 if_for-same Port v = refl
 if_for-same Batches v = refl
+if_for-same AtOnce v = refl
 if_for-same Processors v = refl
 if_for-same Costs v = refl
 
@@ -166,3 +172,34 @@ no_begin (v ∷ words) w first some is same none other (option n value) rest b =
   | inl e ↦ none n (61 ∷ value) (same ∙ is ∙ same_head v (spelled n ++ 61 ∷ value) words rest e)
   | inr e ↦ none n [] (same ∙ is ∙ same_head v (spelled n) words (value ∷ rest) e.0 ∙ sym (append-nil (spelled n)))
 ]
+
+-- where the first word is an option's name alone, and no value stands behind it, no part begins words
+pub alone : {R : Type 0} (r : Option R) (words : List (List ℕ)) (w first more : List ℕ) (name : OptionName)
+    → 1 ≤ length words → first ≡ get_or words 0 first → w ≡ first → w ≡ spelled name ++ more → length more < 1
+    → IfNone r ((value : List ℕ) (rest : List (List ℕ)) → take (length words - 1) (drop 1 words) ≡ value ∷ rest
+    → IsFilled value → IsNoOption value → ⊥)
+    → IfNone r ((p : Part) (rest : List (List ℕ)) → Begins p words rest → ⊥)
+alone (Some x) words w first more name some is same found empty none = tt
+alone None [] w first more name some is same found empty none = absurd (omega (arith, some))
+alone None (v ∷ words) w first more name some is same found empty none = by
+  where
+    no_more : (l : List ℕ) → length l < 1 → l ≡ []
+    no_more [] few = refl
+    no_more (b ∷ l) few = absurd (omega (arith, few))
+
+    -- the first word is the option's name
+    head : spelled name ++ [] ≡ v
+    head = ap (λ (l : List ℕ). spelled name ++ l) (sym (no_more more empty)) ∙ sym found ∙ same ∙ is
+
+    tail : take (length (v ∷ words) - 1) (drop 1 (v ∷ words)) ≡ words
+    tail = take_all (length (v ∷ words) - 1) words (omega arith)
+
+    by : (p : Part) (rest : List (List ℕ)) → Begins p (v ∷ words) rest → ⊥
+    by (word a) rest b = no_word name [] (subst IsPositional (sym (head ∙ same_head v a words rest b.0)) b.1)
+    by (option n value) rest b = elim b.1 [
+      | inl e ↦
+          let heads : spelled name ++ [] ≡ spelled n ++ 61 ∷ value = head ∙ same_head v (spelled n ++ 61 ∷ value) words rest e in
+          let none : [] ≡ 61 ∷ value = same_behind name n [] (61 ∷ value) heads (one_name name n [] (61 ∷ value) heads) in
+          absurd cc
+      | inr e ↦ none value rest (tail ∙ same_tail v (spelled n) words (value ∷ rest) e.0) b.0 e.1
+    ]

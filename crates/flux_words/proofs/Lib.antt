@@ -2,6 +2,7 @@ pub mod Strips
 pub mod Laid
 pub mod Gathered
 pub mod Numbers
+pub mod WhenReplied
 pub mod CostLists
 pub mod OneCommand
 pub mod Behind

@@ -13,6 +13,9 @@ use Rattle.flux_words.specs.declared.values.Runtime.TheVariants.{Event, EventWit
 use Rattle.flux_words.specs.declared.values.JournalFormat.{JournalFormat}
 use Rattle.flux_words.specs.declared.values.JournalFormat.TheVariants.{One, Two}
 use Rattle.flux_words.specs.Values.{is_comma, IsDigit, number_from, SpellsNumber, SpellEach, SpellsNumbers, SpellsRuntime, StartsThreads, SpellsFormat, IsRuntime, IsFormat, IsPort, IsBatches}
+use Rattle.flux_words.specs.declared.replies.Replying.{Replying}
+use Rattle.flux_words.specs.declared.replies.Replying.TheVariants.{AtEnd, AtOnce}
+use Rattle.flux_words.specs.Replies.{IsAtOnce, IsReplying}
 use Rattle.flux_words.specs.steps.Found.{AreSoFar, IsThreadedRead, IsThreaded, IsRuntimeRead}
 
 -- ---- one number
@@ -326,3 +329,17 @@ pub one_batches : (vs : List (List ℕ)) (a b : ℕ) → IsBatches vs a → IsBa
 one_batches [] a b x y = x ∙ sym y
 one_batches (v ∷ []) a b x y = one_number 1 BATCHES_LIMIT v a b x y
 one_batches (v ∷ w ∷ vs) a b x y = absurd x
+
+one_at_once : (vs : List (List ℕ)) (a b : ℕ) → IsAtOnce vs a → IsAtOnce vs b → a ≡ b
+one_at_once [] a b x y = absurd x
+one_at_once (v ∷ []) a b x y = one_number 1 WORKER_LIMIT v a b x y
+one_at_once (v ∷ w ∷ vs) a b x y = absurd x
+
+none_at_once : (vs : List (List ℕ)) (workers : ℕ) → vs ≡ [] → IsAtOnce vs workers → ⊥
+none_at_once vs workers none is = subst (λ (l : List (List ℕ)). IsAtOnce l workers) none is
+
+pub one_replying : (runtimes at_once : List (List ℕ)) (a b : Replying) → IsReplying runtimes at_once a → IsReplying runtimes at_once b → a ≡ b
+one_replying runtimes at_once (AtEnd r) (AtEnd s) x y = ap AtEnd (one_runtime runtimes r s x.1 y.1)
+one_replying runtimes at_once (AtOnce v) (AtOnce w) x y = ap AtOnce (same_workers v w (one_at_once at_once v.count w.count x.1 y.1))
+one_replying runtimes at_once (AtEnd r) (AtOnce w) x y = absurd (none_at_once at_once w.count x.0 y.1)
+one_replying runtimes at_once (AtOnce v) (AtEnd s) x y = absurd (none_at_once at_once v.count y.0 x.1)

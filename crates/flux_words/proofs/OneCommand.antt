@@ -8,12 +8,12 @@ use Rattle.flux_words.specs.declared.names.OptionName.TheVariants as names
 use Rattle.flux_words.specs.declared.values.Runtime.{Runtime}
 use Rattle.flux_words.specs.declared.loads.TheConstants.{LOAD_LIMIT, FIRST_LIMIT}
 use Rattle.flux_words.specs.Names.{IsNamed}
-use Rattle.flux_words.specs.Parts.{Part, words_in, values_of}
-use Rattle.flux_words.specs.Values.{SpellsNumber, IsRuntime, IsFormat}
+use Rattle.flux_words.specs.Parts.{Part, values_of}
+use Rattle.flux_words.specs.Values.{SpellsNumber}
 use Rattle.flux_words.specs.Behind.{Manner, Serving, Simulating, IsFile, HasParts, FitsRun, FitsAudit, FitsLoad, FitsServe, FitsSimulate, FitsSwarm}
 use Rattle.flux_words.specs.Commands.{Command, check, plan, format, run, audit, load, serve, help, simulate, swarm, name_of, StandsBehind, Spells}
 use Rattle.flux_words.proofs.Laid.{one_parting}
-use Rattle.flux_words.proofs.Numbers.{one_number, one_runtime, one_format, one_port, one_batches}
+use Rattle.flux_words.proofs.Numbers.{one_number, one_runtime, one_format, one_port, one_batches, one_replying}
 use Rattle.flux_words.proofs.CostLists.{one_processors, one_costs}
 
 -- ---- one name
@@ -102,14 +102,15 @@ same_load n k m l r s parts a b =
     let runtime = one_runtime (values_of names.Runtime parts) r s a.runtime_ b.runtime_ in
     cc (count, first, runtime)
 
-same_serving : (a b : Serving) → a.port ≡ b.port → a.batches ≡ b.batches → a.docs ≡ b.docs → a.runtime ≡ b.runtime → a ≡ b
-same_serving a b p n d r = λ i. record { port = p i; batches = n i; docs = d i; runtime = r i }
+same_serving : (a b : Serving) → a.port ≡ b.port → a.batches ≡ b.batches → a.docs ≡ b.docs → a.replying ≡ b.replying → a ≡ b
+same_serving a b p n d r = λ i. record { port = p i; batches = n i; docs = d i; replying = r i }
 
 same_serve : (f g : List ℕ) (m n : Serving) (parts : List Part) → FitsServe f m parts → FitsServe g n parts → serve f m ≡ serve g n
 same_serve f g m n parts a b =
     let files : f ∷ [] ≡ g ∷ [] = sym a.files ∙ b.files in
     let serving = same_serving m n (one_port (values_of names.Port parts) m.port n.port a.port_ b.port_) (one_batches (values_of names.Batches parts) m.batches n.batches a.batches_ b.batches_)
-    (one_option m.docs n.docs (sym a.docs_ ∙ b.docs_)) (one_runtime (values_of names.Runtime parts) m.runtime n.runtime a.runtime_ b.runtime_) in
+    (one_option m.docs n.docs (sym a.docs_ ∙ b.docs_))
+    (one_replying (values_of names.Runtime parts) (values_of names.AtOnce parts) m.replying n.replying a.replying_ b.replying_) in
     cc (files, serving)
 
 same_simulating : (a b : Simulating) → a.processors ≡ b.processors → a.costs ≡ b.costs → a.docs ≡ b.docs → a ≡ b

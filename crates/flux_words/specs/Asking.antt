@@ -17,11 +17,11 @@ asked (reads.Run file items runtime docs journal) = run file.now items.now (reco
 asked (reads.Audit file items journal docs) =
     audit file.now items.now journal.now (option_copied docs)
 asked (reads.Load count first runtime) = load count first runtime
-asked (reads.Serve file port batches docs runtime) = serve file.now (record {
+asked (reads.Serve file port batches docs replying) = serve file.now (record {
   port = port;
   batches = batches;
   docs = option_copied docs;
-  runtime = runtime;
+  replying = replying;
 })
 asked reads.Help = help
 asked (reads.Simulate file items processors costs docs) = simulate file.now items.now (record {

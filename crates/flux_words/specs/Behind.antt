@@ -4,10 +4,12 @@ use Rattle.nodes_tracker.specs.Asks.{hash_of}
 use Rattle.flux_words.specs.declared.names.OptionName.TheVariants as names
 use Rattle.flux_words.specs.declared.values.Runtime.{Runtime}
 use Rattle.flux_words.specs.declared.values.JournalFormat.{JournalFormat}
+use Rattle.flux_words.specs.declared.replies.Replying.{Replying}
 use Rattle.flux_words.specs.declared.loads.TheConstants.{LOAD_LIMIT, FIRST_LIMIT}
 use Rattle.flux_words.specs.Parts.{Part, IsPositional, BeginWith, words_in, values_of}
 use Rattle.flux_words.specs.Values.{SpellsNumber, IsRuntime, IsFormat, IsPort, IsBatches}
 use Rattle.flux_words.specs.Costs.{IsProcessors, AreCosts}
+use Rattle.flux_words.specs.Replies.{IsReplying}
 
 -- how items are run: the runtime, the folder of documents, the journal's format
 pub record Manner : Type 0 where
@@ -15,12 +17,13 @@ pub record Manner : Type 0 where
   pub docs : Option (List ℕ)
   pub journal : JournalFormat
 
--- how a program is served: at which port, for how many batches, with which folder of documents, by which runtime
+-- how a program is served: at which port, for how many batches, with which folder of documents, and when its
+-- replies are written
 pub record Serving : Type 0 where
   pub port : ℕ
   pub batches : ℕ
   pub docs : Option (List ℕ)
-  pub runtime : Runtime
+  pub replying : Replying
 
 -- how a run is simulated: on how many processors, with which costs of the first nodes' calls and which folder of documents
 pub record Simulating : Type 0 where
@@ -42,6 +45,7 @@ pub record HasParts (words : List (List ℕ)) (Fits : List Part → Type 0) : Ty
 pub record HasNoServing (parts : List Part) : Type 0 where
   pub no_port : values_of names.Port parts ≡ []
   pub no_batches : values_of names.Batches parts ≡ []
+  pub no_at_once : values_of names.AtOnce parts ≡ []
 
 -- none of the options that `simulate` alone has
 pub record HasNoSimulating (parts : List Part) : Type 0 where
@@ -92,13 +96,14 @@ pub record FitsLoad (count first : ℕ) (runtime : Runtime) (parts : List Part) 
   pub no_serving : HasNoServing parts
   pub no_simulating : HasNoSimulating parts
 
--- `serve`: FILE, `--port P`, and anywhere `--batches B`, `--docs DIR` and `--runtime R`, each at most once
+-- `serve`: FILE, `--port P`, and anywhere `--batches B`, `--docs DIR`, and `--runtime R` or `--at-once W`, each at
+-- most once
 pub record FitsServe (file : List ℕ) (serving : Serving) (parts : List Part) : Type 0 where
   pub files : words_in parts ≡ file ∷ []
   pub port_ : IsPort (values_of names.Port parts) serving.port
   pub batches_ : IsBatches (values_of names.Batches parts) serving.batches
   pub docs_ : values_of names.Docs parts ≡ option_to_list serving.docs
-  pub runtime_ : IsRuntime (values_of names.Runtime parts) serving.runtime
+  pub replying_ : IsReplying (values_of names.Runtime parts) (values_of names.AtOnce parts) serving.replying
   pub no_journal : values_of names.Journal parts ≡ []
   pub no_simulating : HasNoSimulating parts
 

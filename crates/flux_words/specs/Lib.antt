@@ -2,6 +2,7 @@ pub mod Names
 pub mod Parts
 pub mod Values
 pub mod Costs
+pub mod Replies
 pub mod Behind
 pub mod Commands
 pub mod Asking

@@ -1,7 +1,7 @@
 -- What stands behind the command's word: positional words, and options with their values.
 use Rattle.std.specs.Prelude.{◌≡◌, ◌≢◌, ◌⊎◌, ℕ, List, [], ◌∷◌, ◌++◌, codes, ⊤}
 use Rattle.flux_words.specs.declared.names.OptionName.{OptionName}
-use Rattle.flux_words.specs.declared.names.OptionName.TheVariants.{Runtime, Docs, Journal, Port, Batches, Processors, Costs}
+use Rattle.flux_words.specs.declared.names.OptionName.TheVariants.{Runtime, Docs, Journal, Port, Batches, AtOnce, Processors, Costs}
 
 -- a positional word is not empty and doesn't begin with `-`
 abbrev pub IsPositional : List ℕ → Type 0
@@ -24,6 +24,7 @@ spelled Docs = codes "--docs"
 spelled Journal = codes "--journal"
 spelled Port = codes "--port"
 spelled Batches = codes "--batches"
+spelled AtOnce = codes "--at-once"
 spelled Processors = codes "--processors"
 spelled Costs = codes "--costs"
 
@@ -59,6 +60,7 @@ if_for Docs Docs value = value ∷ []
 if_for Journal Journal value = value ∷ []
 if_for Port Port value = value ∷ []
 if_for Batches Batches value = value ∷ []
+if_for AtOnce AtOnce value = value ∷ []
 if_for Processors Processors value = value ∷ []
 if_for Costs Costs value = value ∷ []
 if_for wanted name value = []

@@ -10,6 +10,7 @@ use crate::costs::{Costs, Processors};
 use crate::loads::read_load;
 use crate::names::{CommandName, read_name};
 use crate::parts::is_positional;
+use crate::replies::Replying;
 use crate::runs::read_run;
 use crate::serves::{is_serve, read_serve};
 use crate::simulations::read_simulation;
@@ -58,7 +59,7 @@ pub enum Asked<'a> {
         batches: u32,
         /// The folder of documents.
         docs: Option<&'a [u8]>,
-        runtime: Runtime,
+        replying: Replying,
     },
     Help,
     Simulate {
@@ -134,7 +135,8 @@ fn read_command<'a>(alloc: Global, words: &'a [Bytes]) -> Result<Option<Asked<'a
 ///
 /// The words are those behind the program's own name: `check FILE`, `plan FILE`, `format FILE`,
 /// `run FILE ITEMS [--runtime R] [--docs DIR] [--journal J]`, `audit FILE ITEMS JOURNAL [--docs DIR]`,
-/// `load N K [--runtime R]`, `serve FILE --port P [--docs DIR] [--batches B] [--runtime R]`, `help` or `--help`,
+/// `load N K [--runtime R]`, `serve FILE --port P [--docs DIR] [--batches B] [--runtime R] [--at-once W]` without
+/// both of the last two, `help` or `--help`,
 /// `simulate FILE ITEMS --processors N [--costs LIST] [--docs DIR]`, and
 /// `swarm FILE ITEMS JOURNAL HASH [--docs DIR]`.
 pub fn read_words<'a>(alloc: Global, words: &'a [Bytes]) -> Result<Option<Asked<'a>>, Memory>

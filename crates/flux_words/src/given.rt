@@ -28,6 +28,7 @@ pub struct Given<'a> {
     pub journal: Option<&'a [u8]>,
     pub port: Option<&'a [u8]>,
     pub batches: Option<&'a [u8]>,
+    pub at_once: Option<&'a [u8]>,
     pub processors: Option<&'a [u8]>,
     pub costs: Option<&'a [u8]>,
 }
@@ -70,6 +71,7 @@ impl<'a> Given<'a> {
             journal: None,
             port: None,
             batches: None,
+            at_once: None,
             processors: None,
             costs: None,
         }
@@ -77,10 +79,12 @@ impl<'a> Given<'a> {
 
     /// Whether an option is given that `serve` alone has.
     pub fn serves(&self) -> bool
-        ensures some { IsTrue result → listed self.now.port ≡ [] → listed self.now.batches ≡ [] → ⊥ }
-        ensures none { IsFalse result → (listed self.now.port ≡ []) × (listed self.now.batches ≡ []) }
+        ensures some { IsTrue result → listed self.now.port ≡ [] → listed self.now.batches ≡ []
+            → listed self.now.at_once ≡ [] → ⊥ }
+        ensures none { IsFalse result → (listed self.now.port ≡ []) × (listed self.now.batches ≡ [])
+            × (listed self.now.at_once ≡ []) }
     {
-        self.port.is_some() || self.batches.is_some()
+        self.port.is_some() || self.batches.is_some() || self.at_once.is_some()
     }
 
     /// Whether an option is given that `simulate` alone has.
@@ -103,6 +107,7 @@ impl<'a> Given<'a> {
             Part::Option(OptionName::Journal, value) => self.journal = once(self.journal, value)?,
             Part::Option(OptionName::Port, value) => self.port = once(self.port, value)?,
             Part::Option(OptionName::Batches, value) => self.batches = once(self.batches, value)?,
+            Part::Option(OptionName::AtOnce, value) => self.at_once = once(self.at_once, value)?,
             Part::Option(OptionName::Processors, value) => {
                 self.processors = once(self.processors, value)?
             }

@@ -29,6 +29,7 @@ pub enum OptionName {
     Journal,
     Port,
     Batches,
+    AtOnce,
     Processors,
     Costs,
 }
@@ -81,6 +82,9 @@ pub fn split_name(word: &[u8]) -> Option<(OptionName, &[u8])>
     }
     if let Some(rest) = strip(b"--batches", word) {
         return Some((OptionName::Batches, rest));
+    }
+    if let Some(rest) = strip(b"--at-once", word) {
+        return Some((OptionName::AtOnce, rest));
     }
     if let Some(rest) = strip(b"--processors", word) {
         return Some((OptionName::Processors, rest));

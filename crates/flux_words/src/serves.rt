@@ -7,11 +7,12 @@ ghost use Rattle.flux_words.specs.steps.Asking.{IsAskedBehind, IsServeRead};
 
 use crate::commands::Asked;
 use crate::given::{Files, gather};
-use crate::values::{is_runtime, read_batches, read_port, read_runtime};
+use crate::replies::{is_replying, read_replying};
+use crate::values::{read_batches, read_port};
 use flux_values::{Bytes, Memory};
 use std::alloc::Global;
 
-/// What they ask for, with the runtime as it is spelled.
+/// What they ask for, with both options that say when replies are written as they are spelled.
 #[derive(Clone, Copy, Debug)]
 pub struct Service<'a> {
     file: &'a [u8],
@@ -19,9 +20,10 @@ pub struct Service<'a> {
     batches: u32,
     docs: Option<&'a [u8]>,
     runtime: Option<&'a [u8]>,
+    at_once: Option<&'a [u8]>,
 }
 
-/// All of it but the runtime.
+/// All of it but when replies are written.
 fn read_service(words: &[Bytes]) -> Option<Service<'_>>
     ensures { IsServeRead words.now result }
 {
@@ -43,6 +45,7 @@ fn read_service(words: &[Bytes]) -> Option<Service<'_>>
         batches,
         docs: given.docs,
         runtime: given.runtime,
+        at_once: given.at_once,
     })
 }
 
@@ -53,7 +56,7 @@ pub fn read_serve<'a>(alloc: Global, words: &'a [Bytes]) -> Result<Option<Asked<
     let Some(service) = read_service(words) else {
         return Ok(None);
     };
-    let Some(runtime) = read_runtime(alloc, service.runtime)? else {
+    let Some(replying) = read_replying(alloc, service.runtime, service.at_once)? else {
         return Ok(None);
     };
     Ok(Some(Asked::Serve {
@@ -61,7 +64,7 @@ pub fn read_serve<'a>(alloc: Global, words: &'a [Bytes]) -> Result<Option<Asked<
         port: service.port,
         batches: service.batches,
         docs: service.docs,
-        runtime,
+        replying,
     }))
 }
 
@@ -70,7 +73,7 @@ pub fn is_serve(words: &[Bytes]) -> bool
     ensures { IsTrue result ↔ ((file : List ℕ) × (serving : Serving) × HasParts words.now (FitsServe file serving)) }
 {
     match read_service(words) {
-        Some(service) => is_runtime(service.runtime),
+        Some(service) => is_replying(service.runtime, service.at_once),
         None => false,
     }
 }

@@ -97,7 +97,7 @@ fn read_numbers(alloc: Global, list: &[u8]) -> Result<Option<List<FlowNo>>, Memo
 }
 
 /// The number of workers, or of helpers, that digits spell.
-fn read_workers(digits: &[u8]) -> Option<Workers>
+pub fn read_workers(digits: &[u8]) -> Option<Workers>
     ensures { AreWorkersRead digits.now result }
 {
     match read_number(digits, 1, WORKER_LIMIT) {

@@ -1,11 +1,11 @@
 -- Steps of the reader: what was asked for.
-use Rattle.std.specs.Prelude.{◌≡◌, ℕ, List, [], ◌∷◌, Option, Some, None, option_copied}
+use Rattle.std.specs.Prelude.{◌≡◌, ℕ, List, Option, Some, None, option_copied}
 use Rattle.std.specs.Borrow.{Bor}
 use Rattle.flux_words.specs.declared.names.CommandName.{CommandName}
 use Rattle.flux_words.specs.declared.commands.Asked.{Asked}
 use Rattle.flux_words.specs.declared.serves.Service.{Service}
-use Rattle.flux_words.specs.declared.values.Runtime.{Runtime}
-use Rattle.flux_words.specs.Values.{IsRuntime}
+use Rattle.flux_words.specs.declared.replies.Replying.{Replying}
+use Rattle.flux_words.specs.Replies.{IsReplying}
 use Rattle.flux_words.specs.Behind.{Serving, IsFile, HasParts, FitsServe}
 use Rattle.flux_words.specs.steps.Given.{listed}
 use Rattle.flux_words.specs.Commands.{Command, name_of, StandsBehind, Spells, SpellsNone, NeedsThreads}
@@ -37,17 +37,17 @@ pub record AskThreads (name : CommandName) (words : List (List ℕ)) : Type 0 wh
   pub is : IsCommand name words command
   pub needs : NeedsThreads command
 
--- all but the runtime of `serve` was read: with a runtime, where one is spelled, it is what the words spell
+-- all of `serve` but when replies are written was read: with what both options spell of that, it is what the words spell
 pub record IsService (words : List (List ℕ)) (service : Service) : Type 0 where
-  pub to : (runtime : Runtime) → IsRuntime (listed service.runtime) runtime
+  pub to : (replying : Replying) → IsReplying (listed service.runtime) (listed service.at_once) replying
       → HasParts words (FitsServe service.file.now (record {
         port = service.port;
         batches = service.batches;
         docs = option_copied service.docs;
-        runtime = runtime;
+        replying = replying;
       }))
   pub from : (file : List ℕ) (serving : Serving) → HasParts words (FitsServe file serving)
-      → IsRuntime (listed service.runtime) serving.runtime
+      → IsReplying (listed service.runtime) (listed service.at_once) serving.replying
 
 -- or the words spell none
 abbrev pub IsServeRead : List (List ℕ) → Option Service → Type 0

@@ -2,7 +2,7 @@
 use Rattle.std.specs.Prelude.{◌≡◌, ◌⊎◌, ℕ, ◌<◌, List, [], ◌∷◌, ◌++◌, length, Option, option_to_list, option_copied}
 use Rattle.std.specs.Borrow.{Bor}
 use Rattle.flux_words.specs.declared.names.OptionName.{OptionName}
-use Rattle.flux_words.specs.declared.names.OptionName.TheVariants.{Runtime, Docs, Journal, Port, Batches, Processors, Costs}
+use Rattle.flux_words.specs.declared.names.OptionName.TheVariants.{Runtime, Docs, Journal, Port, Batches, AtOnce, Processors, Costs}
 use Rattle.flux_words.specs.declared.given.Files.{Files}
 use Rattle.flux_words.specs.declared.given.Files.TheVariants as files
 use Rattle.flux_words.specs.declared.given.Given.{Given}
@@ -22,7 +22,7 @@ abbrev pub listed : Option (Bor (List ℕ)) → List (List ℕ)
 listed value = option_to_list (option_copied value)
 
 -- these are the positional words and the options' values of parts
-pub record Holds (words runtime docs journal port batches processors costs : List (List ℕ)) (parts : List Part)
+pub record Holds (words runtime docs journal port batches at_once processors costs : List (List ℕ)) (parts : List Part)
     : Type 0 where
   pub words_ : words ≡ words_in parts
   pub runtime_ : runtime ≡ values_of Runtime parts
@@ -30,6 +30,7 @@ pub record Holds (words runtime docs journal port batches processors costs : Lis
   pub journal_ : journal ≡ values_of Journal parts
   pub port_ : port ≡ values_of Port parts
   pub batches_ : batches ≡ values_of Batches parts
+  pub at_once_ : at_once ≡ values_of AtOnce parts
   pub processors_ : processors ≡ values_of Processors parts
   pub costs_ : costs ≡ values_of Costs parts
 
@@ -37,7 +38,8 @@ pub record Holds (words runtime docs journal port batches processors costs : Lis
 abbrev pub HoldsAll : Given → List Part → Type 0
 HoldsAll given parts =
     Holds (files_of given.files) (listed given.runtime) (listed given.docs) (listed given.journal)
-    (listed given.port) (listed given.batches) (listed given.processors) (listed given.costs) parts
+    (listed given.port) (listed given.batches) (listed given.at_once) (listed given.processors) (listed given.costs)
+    parts
 
 -- one part more
 pub record Adds (before after : Given) (part : Part) : Type 0 where
@@ -47,6 +49,7 @@ pub record Adds (before after : Given) (part : Part) : Type 0 where
   pub journal_ : listed after.journal ≡ listed before.journal ++ values_of Journal (part ∷ [])
   pub port_ : listed after.port ≡ listed before.port ++ values_of Port (part ∷ [])
   pub batches_ : listed after.batches ≡ listed before.batches ++ values_of Batches (part ∷ [])
+  pub at_once_ : listed after.at_once ≡ listed before.at_once ++ values_of AtOnce (part ∷ [])
   pub processors_ : listed after.processors ≡ listed before.processors ++ values_of Processors (part ∷ [])
   pub costs_ : listed after.costs ≡ listed before.costs ++ values_of Costs (part ∷ [])
 
@@ -58,6 +61,7 @@ IsFull given (option Docs value) = length (listed given.docs) ≡ 1
 IsFull given (option Journal value) = length (listed given.journal) ≡ 1
 IsFull given (option Port value) = length (listed given.port) ≡ 1
 IsFull given (option Batches value) = length (listed given.batches) ≡ 1
+IsFull given (option AtOnce value) = length (listed given.at_once) ≡ 1
 IsFull given (option Processors value) = length (listed given.processors) ≡ 1
 IsFull given (option Costs value) = length (listed given.costs) ≡ 1
 
@@ -73,8 +77,8 @@ IsTooMuch parts =
     (4 < length (words_in parts)) ⊎ ((name : OptionName) × (1 < length (values_of name parts)))
 
 -- the parts so far, and what they give
-pub record AreSoFar (words rest files runtime docs journal port batches processors costs : List (List ℕ))
+pub record AreSoFar (words rest files runtime docs journal port batches at_once processors costs : List (List ℕ))
     : Type 0 where
   pub parts : List Part
   pub front : BeginWith parts words rest
-  pub holds : Holds files runtime docs journal port batches processors costs parts
+  pub holds : Holds files runtime docs journal port batches at_once processors costs parts

@@ -1,6 +1,6 @@
 use Rattle.std.proofs.Common.{◌≡◌, ◌++◌, ℕ, List}
 use Rattle.flux_words.specs.declared.names.OptionName.{OptionName}
-use Rattle.flux_words.specs.declared.names.OptionName.TheVariants.{Runtime, Docs, Journal, Port, Batches, Processors, Costs}
+use Rattle.flux_words.specs.declared.names.OptionName.TheVariants.{Runtime, Docs, Journal, Port, Batches, AtOnce, Processors, Costs}
 use Rattle.flux_words.specs.Parts.{spelled}
 use Rattle.flux_words.proofs.names.split_name.Goals as goal
 
@@ -13,5 +13,6 @@ returns-clause-none c = by
     by Journal rest is = c.in_default-strip-2.ensures.none rest is
     by Port rest is = c.in_default-strip-3.ensures.none rest is
     by Batches rest is = c.in_default-strip-4.ensures.none rest is
-    by Processors rest is = c.in_default-strip-5.ensures.none rest is
-    by Costs rest is = c.in_default-strip-6.ensures.none rest is
+    by AtOnce rest is = c.in_default-strip-5.ensures.none rest is
+    by Processors rest is = c.in_default-strip-6.ensures.none rest is
+    by Costs rest is = c.in_default-strip-7.ensures.none rest is

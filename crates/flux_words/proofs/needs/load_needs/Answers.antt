@@ -35,6 +35,7 @@ returns c = load_asks c.args.words.now c.in-Some.given c.in-Some.ensures.found c
     (ap files_of c.in-Two.is) c.in-Some-read_number.ensures c.in-Some-read_number-2.ensures
     (none_listed c.in-Some.given.docs c.if-is_some.ensures) (none_listed c.in-Some.given.journal c.if-is_some-2.ensures)
     (c.serves.ensures.none c.if-serves.false).0 (c.serves.ensures.none c.if-serves.false).1
+    (c.serves.ensures.none c.if-serves.false).2
     (c.simulates.ensures.none c.if-simulates.false).0 (c.simulates.ensures.none c.if-simulates.false).1
 
 pub returns-then-serves : goal.returns-then-serves

@@ -20,6 +20,7 @@ pub returns : goal.returns
 returns c = run_asks c.args.words.now c.in-Some.given c.in-Some.ensures.found c.is_threaded.result c.is_threaded.ensures
     c.in-Two.field-0.now c.in-Two.field-1.now c.in-Some-read_format.field-0 (ap files_of c.in-Two.is) c.in-Some-read_format.ensures
     (c.serves.ensures.none c.if-serves.false).0 (c.serves.ensures.none c.if-serves.false).1
+    (c.serves.ensures.none c.if-serves.false).2
     (c.simulates.ensures.none c.if-simulates.false).0 (c.simulates.ensures.none c.if-simulates.false).1
 
 pub returns-then-serves : goal.returns-then-serves

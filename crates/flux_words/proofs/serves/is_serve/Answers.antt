@@ -5,8 +5,8 @@ use Rattle.flux_words.proofs.serves.is_serve.Goals as goal
 pub returns-in-Some : goal.returns-in-Some
 returns-in-Some c =
     let service = c.in-Some.ensures in (
-      λ yes. let found = c.is_runtime.ensures.0 yes in (c.in-Some.service.file.now, record { port = c.in-Some.service.port; batches = c.in-Some.service.batches; docs = option_copied c.in-Some.service.docs; runtime = found.0 }, service.to found.0 found.1),
-      λ has. let serving = has.1 in c.is_runtime.ensures.1 (serving.runtime, service.from has.0 has.1 has.2),
+      λ yes. let found = c.is_replying.ensures.0 yes in (c.in-Some.service.file.now, record { port = c.in-Some.service.port; batches = c.in-Some.service.batches; docs = option_copied c.in-Some.service.docs; replying = found.0 }, service.to found.0 found.1),
+      λ has. let serving = has.1 in c.is_replying.ensures.1 (serving.replying, service.from has.0 has.1 has.2),
     )
 
 pub returns-in-None : goal.returns-in-None

@@ -1,6 +1,4 @@
-use Rattle.std.proofs.Common.{ap}
-use Rattle.flux_words.specs.steps.Given.{files_of}
-use Rattle.flux_words.proofs.Behind.{some_given, simulate_of_serving, simulate_of_options, simulate_of_files, simulate_of_processors, simulate_of_costs}
+use Rattle.flux_words.proofs.Behind.{some_given, simulate_of_too_much, simulate_of_serving, simulate_of_options, simulate_of_files, simulate_of_processors, simulate_of_costs}
 use Rattle.flux_words.proofs.simulations.read_simulation.Goals.{then-is_some-via-then-is_some, then-is_some-via-else-is_some+then-is_some-2}
 use Rattle.flux_words.proofs.simulations.read_simulation.Goals as goal
 
@@ -23,3 +21,6 @@ pub returns-in_default-2 : goal.returns-in_default-2
 returns-in_default-2 c =
     let none = rw c.in_default-2.is at c.in_ok-costs.ensures in
     simulate_of_costs c.args.words.now c.in-Some.given c.in-Some.ensures.found none
+
+pub returns-in_default : goal.returns-in_default
+returns-in_default c = simulate_of_too_much c.args.words.now c.in_default.ensures.none

@@ -44,5 +44,5 @@ returns c =
           c.in-Four.journal.now c.in-Four.digits.now c.in_ok-copy.field-0 (ap files_of c.in-Four.is) spelled
           (none_given given.runtime c.is_some.result c.is_some.ensures c.if-is_some.false)
           (none_given given.journal c.is_some-else-is_some.result c.is_some-else-is_some.ensures c.if-is_some-2.false)
-          serving.0 serving.1 simulating.0 simulating.1;
+          serving.0 serving.1 serving.2 simulating.0 simulating.1;
     }

@@ -1,5 +1,4 @@
-use Rattle.std.proofs.Common.{◌≡◌, true, false, sym, ◌∙◌}
-use Rattle.flux_words.proofs.Numbers.{no_script, threaded_read}
+use Rattle.flux_words.proofs.Numbers.{no_script}
 use Rattle.flux_words.proofs.values.read_runtime.Goals as goal
 
 pub returns-in-None : goal.returns-in-None
