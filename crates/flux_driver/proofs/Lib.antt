@@ -12,4 +12,5 @@ pub mod Told
 pub mod Passed
 pub mod Readied
 pub mod Serves
+pub mod ServedBy
 pub mod ServedDone

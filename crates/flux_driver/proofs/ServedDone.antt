@@ -11,8 +11,8 @@ use Rattle.flux_batches.specs.declared.framing.Framing.{Framing}
 use Rattle.flux_serve.specs.declared.batches.ServeEnd.{ServeEnd}
 use Rattle.flux_serve.specs.declared.batches.ServeEnd.TheVariants.{Closed, Counted, Door, Log, Memory}
 use Rattle.flux_serve.specs.Batches.{Service}
-use Rattle.flux_serve.specs.Ends.{HasServed}
-use Rattle.flux_serve.proofs.Counted.{door_rose, door_same, log_rose, log_same}
+use Rattle.flux_serve.specs.AtOnce.{HasServedAtOnce}
+use Rattle.flux_serve.proofs.AtOnceSeen.{at_once_door_rose, at_once_door_same, at_once_log_rose, at_once_log_same}
 use Rattle.flux_words.specs.Behind.{Serving}
 use Rattle.flux_words.specs.Commands.{Command, serve, Spells}
 use Rattle.flux_driver.specs.declared.statuses.Status.{Status}
@@ -23,11 +23,12 @@ use Rattle.flux_driver.specs.Worlds.{Link, Seen}
 use Rattle.flux_driver.specs.Inputs.{HasServable}
 use Rattle.flux_driver.specs.Documents.{AreDocs}
 use Rattle.flux_driver.specs.Answers.{Libraries, OrMemory}
-use Rattle.flux_driver.specs.Serving.{end_status, end_line, sight_of, IsOpened, HasServedFile}
+use Rattle.flux_driver.specs.Serving.{end_status, end_line, sight_of, IsOpened, HasServedBy, HasServedFile}
 use Rattle.flux_driver.specs.Top.{HasAsked, MayBreak, AreLater, Decides, IsComplete, HasDone}
 use Rattle.flux_driver.specs.steps.Preparing.{AreSteady, AnswersWords}
 use Rattle.flux_driver.specs.steps.Serving.{command_of, IsReady}
 use Rattle.flux_driver.proofs.Answered.{asked_then}
+use Rattle.flux_driver.proofs.ServedBy.{at_once_of}
 use Rattle.flux_driver.proofs.Readied.{has_servable}
 
 -- ---- ends by their statuses
@@ -70,17 +71,21 @@ module _ (library : Libraries) (words : List (List ℕ)) (before after : Seen) (
   abbrev own_service : Service
   own_service = let there = has.there in record { program = program_of there.decls; framing = there.framing; meaning = library has.docs }
 
+  -- what is known of it, whenever replies were written
+  known : HasServedAtOnce (λ (link : Link). link) own_service serving.batches (sight_of before) (sight_of after) own_end
+  known = at_once_of serving.replying (λ (link : Link). link) serving.batches own_service (sight_of before) (sight_of after) own_end has.served
+
   log_counted : end_status own_end ≡ statuses.Write → (let own = before.out in let later = after.out in Rose own.faults later.faults)
-  log_counted h = log_rose (λ (link : Link). link) own_service serving.batches (sight_of before) (sight_of after) (subst (λ (end : ServeEnd). HasServed (λ (link : Link). link) own_service serving.batches (sight_of before) (sight_of after) end) (is_log own_end h) has.served)
+  log_counted h = at_once_log_rose (λ (link : Link). link) own_service serving.batches (sight_of before) (sight_of after) (subst (λ (end : ServeEnd). HasServedAtOnce (λ (link : Link). link) own_service serving.batches (sight_of before) (sight_of after) end) (is_log own_end h) known)
 
   log_stands : (MayBreak (end_status own_end) → ⊥) → (let own = before.out in let later = after.out in later.faults ≡ own.faults)
-  log_stands other = log_same (λ (link : Link). link) own_service serving.batches (sight_of before) (sight_of after) own_end (λ e. other (subst MayBreak (sym (ap end_status e)) tt)) has.served
+  log_stands other = at_once_log_same (λ (link : Link). link) own_service serving.batches (sight_of before) (sight_of after) own_end (λ e. other (subst MayBreak (sym (ap end_status e)) tt)) known
 
   door_counted : end_status own_end ≡ statuses.Door → (let own = before.door in let later = after.door in Rose own.faults later.faults)
-  door_counted h = door_rose (λ (link : Link). link) own_service serving.batches (sight_of before) (sight_of after) (subst (λ (end : ServeEnd). HasServed (λ (link : Link). link) own_service serving.batches (sight_of before) (sight_of after) end) (is_door own_end h) has.served)
+  door_counted h = at_once_door_rose (λ (link : Link). link) own_service serving.batches (sight_of before) (sight_of after) (subst (λ (end : ServeEnd). HasServedAtOnce (λ (link : Link). link) own_service serving.batches (sight_of before) (sight_of after) end) (is_door own_end h) known)
 
   door_stands : (end_status own_end ≡ statuses.Door → ⊥) → (let own = before.door in let later = after.door in later.faults ≡ own.faults)
-  door_stands other = door_same (λ (link : Link). link) own_service serving.batches (sight_of before) (sight_of after) own_end (λ e. other (ap end_status e)) has.served
+  door_stands other = at_once_door_same (λ (link : Link). link) own_service serving.batches (sight_of before) (sight_of after) own_end (λ e. other (ap end_status e)) known
 
   abbrev Asked : Status → Type 0
   Asked status = let folder = before.folder in let folder_after = after.folder in let store = before.store in let store_after = after.store in
@@ -122,9 +127,9 @@ module _ (library : Libraries) (words : List (List ℕ)) (before after : Seen) (
   own_program = ready.is
 
   served_file : (end : ServeEnd) → (let told = before.told in AreDocs told.folders (option_copied service.docs) docs)
-      → HasServed (λ (link : Link). link) (record { program = checked.program; framing = framing; meaning = library docs }) service.batches (sight_of before) (sight_of after) end
+      → HasServedBy service.replying (λ (link : Link). link) (record { program = checked.program; framing = framing; meaning = library docs }) service.batches (sight_of before) (sight_of after) end
       → (let own = before.door in let later = after.door in IsOpened end service.port own.open_at later.open_at) → WroteOrBroke before.err after.err (end_line end)
-      → HasServedFile library service.file.now (record { port = service.port; batches = service.batches; docs = option_copied service.docs; runtime = service.runtime }) before after
+      → HasServedFile library service.file.now (record { port = service.port; batches = service.batches; docs = option_copied service.docs; replying = service.replying }) before after
   unfolding has_servable
   served_file end are served opened said = record {
     docs = docs;
@@ -132,12 +137,12 @@ module _ (library : Libraries) (words : List (List ℕ)) (before after : Seen) (
     there = there_;
     end = end;
     opened = opened;
-    served = subst (λ (p : Program). HasServed (λ (link : Link). link) (record { program = p; framing = framing; meaning = library docs }) service.batches (sight_of before) (sight_of after) end) own_program served;
+    served = subst (λ (p : Program). HasServedBy service.replying (λ (link : Link). link) (record { program = p; framing = framing; meaning = library docs }) service.batches (sight_of before) (sight_of after) end) own_program served;
     said = said;
   }
 
   pub ready_done : (end : ServeEnd) (status : Status) → Spells words (command_of service) → (let told = before.told in AreDocs told.folders (option_copied service.docs) docs)
-      → HasServed (λ (link : Link). link) (record { program = checked.program; framing = framing; meaning = library docs }) service.batches (sight_of before) (sight_of after) end
+      → HasServedBy service.replying (λ (link : Link). link) (record { program = checked.program; framing = framing; meaning = library docs }) service.batches (sight_of before) (sight_of after) end
       → (let own = before.door in let later = after.door in IsOpened end service.port own.open_at later.open_at)
       → WroteOrBroke before.err after.err (end_line end) → after.told ≡ before.told → AreLater before after
       → (let folder = before.folder in let folder_after = after.folder in let store = before.store in let store_after = after.store in HasAsked library words before.told statuses.Done folder.asked folder_after.asked store.asked store_after.asked)
@@ -146,4 +151,4 @@ module _ (library : Libraries) (words : List (List ℕ)) (before after : Seen) (
   unfolding served_file
   ready_done end status spelled are served opened said kept later asked same due is =
       subst (λ (s : Status). HasDone library words before s after) (sym is)
-      (served_done library words before after service.file.now (record { port = service.port; batches = service.batches; docs = option_copied service.docs; runtime = service.runtime }) spelled (served_file end are served opened said) kept later asked same due)
+      (served_done library words before after service.file.now (record { port = service.port; batches = service.batches; docs = option_copied service.docs; replying = service.replying }) spelled (served_file end are served opened said) kept later asked same due)

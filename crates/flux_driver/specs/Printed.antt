@@ -24,7 +24,7 @@ use Rattle.flux_driver.specs.Swarmed.{IsSwarmed}
 
 -- a line for each command that is built
 abbrev pub help_text : List ℕ
-help_text = codes "flux check FILE\nflux plan FILE\nflux format FILE\nflux run FILE ITEMS [--runtime R] [--docs DIR] [--journal J]\nflux audit FILE ITEMS JOURNAL [--docs DIR]\nflux load N K [--runtime R]\nflux serve FILE --port P [--docs DIR] [--batches B] [--runtime R]\nflux help or --help\nflux simulate FILE ITEMS --processors N [--costs LIST] [--docs DIR]\nflux swarm FILE ITEMS JOURNAL HASH [--docs DIR]\n"
+help_text = codes "flux check FILE\nflux plan FILE\nflux format FILE\nflux run FILE ITEMS [--runtime R] [--docs DIR] [--journal J]\nflux audit FILE ITEMS JOURNAL [--docs DIR]\nflux load N K [--runtime R]\nflux serve FILE --port P [--docs DIR] [--batches B] [--runtime R] [--at-once W]\nflux help or --help\nflux simulate FILE ITEMS --processors N [--costs LIST] [--docs DIR]\nflux swarm FILE ITEMS JOURNAL HASH [--docs DIR]\n"
 
 -- the report on the locks of a sound program
 pub record IsReportText (meaning : LibraryMeaning) (told : Files) (program : Origin) (text : List ℕ)

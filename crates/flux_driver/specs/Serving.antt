@@ -5,7 +5,12 @@ use Rattle.flux_syntax.specs.ProgramOfText.{program_of}
 use Rattle.flux_outside.specs.Streams.{WroteOrBroke}
 use Rattle.flux_serve.specs.declared.batches.ServeEnd.{ServeEnd}
 use Rattle.flux_serve.specs.declared.batches.ServeEnd.TheVariants.{Closed, Counted, Door, Log, Memory}
+use Rattle.flux_serve.specs.Batches.{Service}
 use Rattle.flux_serve.specs.Ends.{Sight, HasServed}
+use Rattle.flux_serve.specs.AtOnce.{HasServedAtOnce}
+use Rattle.flux_batches.specs.Links as links
+use Rattle.flux_words.specs.declared.replies.Replying.{Replying}
+use Rattle.flux_words.specs.declared.replies.Replying.TheVariants.{AtEnd, AtOnce}
 use Rattle.flux_words.specs.Behind.{Serving}
 use Rattle.flux_words.specs.Commands.{serve, Spells}
 use Rattle.flux_driver.specs.declared.statuses.Status.{Status}
@@ -55,11 +60,20 @@ sight_of seen = let door = seen.door in record {
   log = seen.out;
 }
 
+-- what is promised of serving with replies behind each batch, or at once; no clause says when one is written, or by
+-- how many workers
+abbrev pub HasServedBy : {L : Type 0} → Replying → (L → links.Seen) → Service → ℕ → Sight L → Sight L
+    → ServeEnd → Type 0
+HasServedBy (AtEnd runtime) see service wanted before after end =
+    HasServed see service wanted before after end
+HasServedBy (AtOnce workers) see service wanted before after end =
+    HasServedAtOnce see service wanted before after end
+
 -- a file's program was served:
 --   docs, are_docs   with the documents of the folder that the words name;
 --   there            the file has a sound program that can be served;
 --   end, opened      serving ended so, and the door is open at the port that the words name, unless it never was;
---   served           so many batches were served, or fewer;
+--   served           so many batches were served, or fewer; with `--at-once` the next one may have been broken off;
 --   said             the end's line is on `err`, or a front of it where `err` failed.
 pub record HasServedFile (library : Libraries) (file : List ℕ) (serving : Serving) (before after : Seen)
     : Type 0 where
@@ -69,7 +83,7 @@ pub record HasServedFile (library : Libraries) (file : List ℕ) (serving : Serv
   pub end : ServeEnd
   pub opened : let own = before.door in let later = after.door in
       IsOpened end serving.port own.open_at later.open_at
-  pub served : let own = there in HasServed (λ link. link)
+  pub served : let own = there in HasServedBy serving.replying (λ link. link)
       (record { program = program_of own.decls; framing = own.framing; meaning = library docs })
       serving.batches (sight_of before) (sight_of after) end
   pub said : WroteOrBroke before.err after.err (end_line end)

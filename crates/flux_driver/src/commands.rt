@@ -33,7 +33,7 @@ use std::sync::Arc;
 
 /// What `help` prints: a line for each command that is built.
 const HELP: &[u8] =
-    b"flux check FILE\nflux plan FILE\nflux format FILE\nflux run FILE ITEMS [--runtime R] [--docs DIR] [--journal J]\nflux audit FILE ITEMS JOURNAL [--docs DIR]\nflux load N K [--runtime R]\nflux serve FILE --port P [--docs DIR] [--batches B] [--runtime R]\nflux help or --help\nflux simulate FILE ITEMS --processors N [--costs LIST] [--docs DIR]\nflux swarm FILE ITEMS JOURNAL HASH [--docs DIR]\n";
+    b"flux check FILE\nflux plan FILE\nflux format FILE\nflux run FILE ITEMS [--runtime R] [--docs DIR] [--journal J]\nflux audit FILE ITEMS JOURNAL [--docs DIR]\nflux load N K [--runtime R]\nflux serve FILE --port P [--docs DIR] [--batches B] [--runtime R] [--at-once W]\nflux help or --help\nflux simulate FILE ITEMS --processors N [--costs LIST] [--docs DIR]\nflux swarm FILE ITEMS JOURNAL HASH [--docs DIR]\n";
 
 /// The report that `check` prints.
 fn prepare_check<'a, L: Library, S: Store>(

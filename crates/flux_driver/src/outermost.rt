@@ -86,13 +86,15 @@ pub fn top_alone<S: Store, F: Folder, O: Sink, E: Sink, D: Door, G: Gate>(
 }
 
 /// Serves the program that the words name, and answers how it ended. It has the whole clause of `top`.
-fn serve_words<S: Store, F: Folder, O: Sink, E: Sink, D: Door, G: Gate, Rt: Threads + Wait + Sync>(
-    rt: &Rt,
-    alloc: Global,
-    words: &[Bytes],
-    world: &mut World<S, F, O, E, D>,
-    gate: &G,
-) -> Status
+fn serve_words<
+    S: Store,
+    F: Folder,
+    O: Sink,
+    E: Sink,
+    D: Door,
+    G: Gate + Sync,
+    Rt: Threads + Wait + Sync,
+>(rt: &Rt, alloc: Global, words: &[Bytes], world: &mut World<S, F, O, E, D>, gate: &G) -> Status
     requires spelled { (command : Command) × Spells words.now command × IsServe command }
     requires out { D.out world.old.door ≡ 0 }
     // Each accepted link has gone back to the door.

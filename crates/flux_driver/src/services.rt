@@ -25,7 +25,7 @@ use flux_library::Library;
 use flux_outside::{Folder, Store};
 use flux_serve::framing_of;
 use flux_values::Bytes;
-use flux_words::{Asked, Runtime, read_words};
+use flux_words::{Asked, Replying, read_words};
 use nodes_all::All;
 use std::alloc::Global;
 use std::sync::Arc;
@@ -37,7 +37,7 @@ pub struct Service<'a> {
     pub port: u16,
     pub batches: u32,
     pub docs: Option<&'a [u8]>,
-    pub runtime: Runtime,
+    pub replying: Replying,
 }
 
 /// A program that is ready to be served, with its library.
@@ -59,13 +59,13 @@ fn service_of<'a>(wanted: Asked<'a>) -> Option<Service<'a>>
             port,
             batches,
             docs,
-            runtime,
+            replying,
         } => Some(Service {
             file,
             port,
             batches,
             docs,
-            runtime,
+            replying,
         }),
         _ => None,
     }

@@ -7,8 +7,7 @@ ghost use Rattle.flux_model.specs.Soundness.{IsSound};
 ghost use Rattle.flux_batches.specs.Links.{seen_by};
 ghost use Rattle.flux_serve.specs.Served.{IsServed, CanServe};
 ghost use Rattle.flux_serve.specs.Batches as batches;
-ghost use Rattle.flux_serve.specs.Ends.{HasServed};
-ghost use Rattle.flux_driver.specs.Serving.{IsOpened};
+ghost use Rattle.flux_driver.specs.Serving.{IsOpened, HasServedBy};
 
 use crate::services::{Ready, Service};
 use flow_core::Gate;
@@ -20,11 +19,12 @@ use flux_library::Library;
 use flux_model::Program;
 use flux_outside::Sink;
 use flux_plan::VerifiedPlan;
-use flux_serve::{ServeEnd, Served, serve};
+use flux_serve::{ServeEnd, Served, serve, serve_at_once};
 use flux_values::{List, Memory};
+use flux_words::Replying;
 use rt_all::Chosen;
 use std::alloc::Global;
-use std::marker::Sync;
+use std::marker::{Send, Sync};
 use std::sync::{Arc, Wait};
 use std::thread::Threads;
 
@@ -70,8 +70,75 @@ fn plan_all<L: Library>(
     assemble(alloc, library, checked.program, plans, framing)
 }
 
+/// Serves so many batches, one after another, with replies when they are wanted.
+fn serve_batches<
+    L: Library + Send + Sync,
+    D: Door,
+    O: Sink,
+    G: Gate + Sync,
+    Rt: Threads + Wait + Sync,
+>(
+    rt: &Rt,
+    alloc: Global,
+    served: &Served<L>,
+    door: &mut D,
+    log: &mut O,
+    replying: Replying,
+    gate: &G,
+    wanted: u32,
+) -> ServeEnd
+    requires can { CanServe (L.meaning (arc_value served.now.library)) (arc_value served.now.program)
+        (arc_value served.now.plans) served.now.framing }
+    requires out { D.out door.old ≡ 0 }
+    ensures out { D.out door.new ≡ 0 }
+    ensures open { D.open_at door.new ≡ D.open_at door.old }
+    ensures later { (D.faults door.old ≤ D.faults door.new) × (D.late door.old ≤ D.late door.new) }
+    ensures later_log { O.faults log.old ≤ O.faults log.new }
+    ensures served { let own : batches.Service = (record { program = arc_value served.now.program; framing = served.now.framing; meaning = L.meaning (arc_value served.now.library) }) in
+        HasServedBy replying
+        (seen_by D.Link.had D.Link.left D.Link.written D.Link.faults)
+        own wanted
+        (record {
+          to_come = D.to_come door.old;
+          taken_back = D.taken_back door.old;
+          faults = D.faults door.old;
+          late = D.late door.old;
+          log = record { written = O.written log.old; faults = O.faults log.old };
+        })
+        (record {
+          to_come = D.to_come door.new;
+          taken_back = D.taken_back door.new;
+          faults = D.faults door.new;
+          late = D.late door.new;
+          log = record { written = O.written log.new; faults = O.faults log.new };
+        }) result }
+{
+    match replying {
+        Replying::AtEnd(runtime) => {
+            let mut runtime = Chosen::by(runtime);
+            serve(rt, alloc, served, door, log, &mut runtime, gate, wanted)
+        }
+        Replying::AtOnce(workers) => serve_at_once(
+            rt,
+            alloc,
+            served,
+            door,
+            log,
+            workers.count,
+            gate,
+            wanted,
+        ),
+    }
+}
+
 /// Serves a program that is ready: plans it, opens the door, and serves its batches.
-pub fn serve_ready<L: Library, D: Door, O: Sink, G: Gate, Rt: Threads + Wait + Sync>(
+pub fn serve_ready<
+    L: Library + Send + Sync,
+    D: Door,
+    O: Sink,
+    G: Gate + Sync,
+    Rt: Threads + Wait + Sync,
+>(
     rt: &Rt,
     alloc: Global,
     ready: Ready<L>,
@@ -90,7 +157,7 @@ pub fn serve_ready<L: Library, D: Door, O: Sink, G: Gate, Rt: Threads + Wait + S
     ensures later { (D.faults door.old ≤ D.faults door.new) × (D.late door.old ≤ D.late door.new) }
     ensures later_log { O.faults log.old ≤ O.faults log.new }
     ensures served { let own : batches.Service = (record { program = ready.checked.program; framing = ready.framing; meaning = L.meaning (arc_value ready.library) }) in
-        HasServed
+        HasServedBy service.entry.replying
         (seen_by D.Link.had D.Link.left D.Link.written D.Link.faults)
         own service.entry.batches
         (record {
@@ -121,14 +188,13 @@ pub fn serve_ready<L: Library, D: Door, O: Sink, G: Gate, Rt: Threads + Wait + S
         Ok(()) => {}
         Err(_) => return ServeEnd::Door,
     }
-    let mut runtime = Chosen::by(service.runtime);
-    serve(
+    serve_batches(
         rt,
         alloc,
         &served,
         door,
         log,
-        &mut runtime,
+        service.replying,
         gate,
         service.batches,
     )

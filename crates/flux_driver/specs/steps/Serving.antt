@@ -23,7 +23,7 @@ command_of service = serve service.file.now (record {
   port = service.port;
   batches = service.batches;
   docs = option_copied service.docs;
-  runtime = service.runtime;
+  replying = service.replying;
 })
 
 -- a checked program is that of the file, sound for the library, and its links are read so

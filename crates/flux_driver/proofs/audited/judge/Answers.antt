@@ -1,5 +1,4 @@
 use Rattle.std.proofs.Common.{subst, sym, IfOk}
-use Rattle.flux_model.specs.declared.programs.Program.{Program}
 use Rattle.flux_model.specs.Names.{IsNamed}
 use Rattle.flow_model.specs.Setup.{Setup}
 use Rattle.flux_audit.specs.Verdicts.{HasVerdict}

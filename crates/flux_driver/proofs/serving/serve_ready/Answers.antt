@@ -2,15 +2,17 @@ use Rattle.std.specs.Arc.{arc_value}
 use Rattle.std.proofs.Common.{ap, refl, ◌∙◌, subst, inl, inr}
 use Rattle.flux_batches.specs.Links.{Seen, seen_by}
 use Rattle.flux_serve.specs.Batches.{Service}
-use Rattle.flux_serve.specs.Ends.{Sight, HasServed}
-use Rattle.flux_driver.proofs.Serves.{unplanned, unopened, service_same, sight_same}
+use Rattle.flux_serve.specs.Ends.{Sight}
+use Rattle.flux_driver.specs.Serving.{HasServedBy}
+use Rattle.flux_driver.proofs.Serves.{service_same, sight_same}
+use Rattle.flux_driver.proofs.ServedBy.{unplanned_by, unopened_by}
 use Rattle.flux_driver.proofs.serving.serve_ready.Goals as goal
 
 pub returns-in-Err-clause-served : goal.returns-in-Err-clause-served
-returns-in-Err-clause-served g c = unplanned _ _ c.requires.some _ _
+returns-in-Err-clause-served g c = unplanned_by c.args.service.replying _ _ c.requires.some _ _
 
 pub returns-in-Err-open-clause-served : goal.returns-in-Err-open-clause-served
-returns-in-Err-open-clause-served g c = unopened _ _ c.requires.some _ _ _ (let cause = c.in-Err-open.ensures.cause in cause.failed) c.open.ensures.kept.1 refl
+returns-in-Err-open-clause-served g c = unopened_by c.args.service.replying _ _ c.requires.some _ _ _ (let cause = c.in-Err-open.ensures.cause in cause.failed) c.open.ensures.kept.1 refl
     c.open.ensures.kept.0 c.open.ensures.late
 
 pub returns-in-Err-clause-opened : goal.returns-in-Err-clause-opened
@@ -20,7 +22,7 @@ pub returns-in-Err-open-clause-opened : goal.returns-in-Err-open-clause-opened
 returns-in-Err-open-clause-opened g c = inr (tt, c.in-Err-open.ensures.opened)
 
 pub returns-clause-opened : goal.returns-clause-opened
-returns-clause-opened g c = inl (c.serve.ensures.open ∙ c.in-Ok-open.ensures.opened)
+returns-clause-opened g c = inl (c.serve_batches.ensures.open ∙ c.in-Ok-open.ensures.opened)
 
 pub returns-clause-served : goal.returns-clause-served
 returns-clause-served g c =
@@ -29,11 +31,11 @@ returns-clause-served g c =
     let checked = c.args.ready.checked in
     let own : Service = record { program = checked.program; framing = c.args.ready.framing; meaning = meaning (arc_value c.args.ready.library) } in
     let after : Sight g.row.D-Link.Denot = record {
-      to_come = g.D.Door.to_come c.serve.new.door;
-      taken_back = g.D.Door.taken_back c.serve.new.door;
-      faults = g.D.Door.faults c.serve.new.door;
-      late = g.D.Door.late c.serve.new.door;
-      log = record { written = g.O.Sink.written c.serve.new.log; faults = g.O.Sink.faults c.serve.new.log };
+      to_come = g.D.Door.to_come c.serve_batches.new.door;
+      taken_back = g.D.Door.taken_back c.serve_batches.new.door;
+      faults = g.D.Door.faults c.serve_batches.new.door;
+      late = g.D.Door.late c.serve_batches.new.door;
+      log = record { written = g.O.Sink.written c.serve_batches.new.log; faults = g.O.Sink.faults c.serve_batches.new.log };
     } in
     let opened : Sight g.row.D-Link.Denot = record {
       to_come = g.D.Door.to_come c.open.new.self;
@@ -42,7 +44,7 @@ returns-clause-served g c =
       late = g.D.Door.late c.open.new.self;
       log = record { written = g.O.Sink.written c.args.log.now; faults = g.O.Sink.faults c.args.log.now };
     } in
-    let S : Service → Type 0 = λ s. HasServed see s c.args.service.batches opened after c.serve.result in
-    let B : Sight g.row.D-Link.Denot → Type 0 = λ b. HasServed see own c.args.service.batches b after c.serve.result in
+    let S : Service → Type 0 = λ s. HasServedBy c.args.service.replying see s c.args.service.batches opened after c.serve_batches.result in
+    let B : Sight g.row.D-Link.Denot → Type 0 = λ b. HasServedBy c.args.service.replying see own c.args.service.batches b after c.serve_batches.result in
     subst B (sight_same _ _ _ _ _ _ _ _ _ c.open.ensures.kept.0 c.open.ensures.kept.1 (let cause = c.in-Ok-open.ensures.cause in cause.steady) c.open.ensures.late)
-    (subst S (service_same _ _ _ _ _ _ c.in-Ok.ensures.program c.in-Ok.ensures.framing (ap meaning c.in-Ok.ensures.library)) c.serve.ensures.served)
+    (subst S (service_same _ _ _ _ _ _ c.in-Ok.ensures.program c.in-Ok.ensures.framing (ap meaning c.in-Ok.ensures.library)) c.serve_batches.ensures.served)
