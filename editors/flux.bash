@@ -16,7 +16,7 @@ _flux() {
         run) options="--runtime --docs --journal" ;;
         audit) options="--docs" ;;
         load) options="--runtime" ;;
-        serve) options="--port --docs --batches --runtime" ;;
+        serve) options="--port --docs --batches --runtime --at-once" ;;
         simulate) options="--processors --costs --docs" ;;
         swarm) options="--docs" ;;
     esac
