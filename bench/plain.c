@@ -1,6 +1,7 @@
 /* A plain program of the same steps as `flux run FILE ITEMS`, to compare times with: it reads the same program and items,
-   runs the flows by the event loop, and prints the same journal. It proves nothing, checks nothing, and knows the nodes
-   Pass, Show, Add and Bump on items of one number, the predicate IsZero, and the session function ByNumber. */
+   runs the flows by the event loop, and prints the same journal. A flow that is blocked is not looked at again until its
+   key is dropped. It proves nothing, checks nothing, and knows the nodes Pass, Show, Add and Bump on items of one number,
+   the predicate IsZero, and the session function ByNumber. */
 #include <ctype.h>
 #include <stdint.h>
 #include <stdio.h>
@@ -180,18 +181,18 @@ static void hoist(void) {
     }
 }
 
-/* ---- keys: holders with counts, a line of waiting flows, and one number in the cell */
+/* ---- keys: how many hold them, a line of waiting flows, flows that are blocked beside it, and one number in the cell */
 
-typedef struct { int flow, count; enum Mode mode; } Holder;
 typedef struct { int flow; enum Mode mode; } Waiter;
 typedef struct {
-    int used, holder_count, holder_room, first, waiter_count, waiter_room;
+    int used, class, first, waiter_count, waiter_room, waiting_writers, idle_count, idle_room;
+    int holders[2];
     uint64_t session;
-    int class;
-    Holder *holders;
     Waiter *waiters;
+    int *idle;
     int64_t value;
 } Key;
+typedef struct { Key *key; int count; enum Mode mode; } Held;
 
 enum { TABLE = 1 << 16 };
 static Key table[TABLE];
@@ -206,63 +207,118 @@ static Key *key_at(int class, uint64_t session) {
     }
 }
 
-static Holder *held_by(Key *key, int flow) {
-    for (int i = 0; i < key->holder_count; i++)
-        if (key->holders[i].flow == flow) return &key->holders[i];
-    return NULL;
-}
-
-static int is_blocked(Key *key, int flow, enum Mode mode) {
-    if (held_by(key, flow)) return 0;
-    for (int i = 0; i < key->holder_count; i++)
-        if (mode || key->holders[i].mode) return 1;
-    for (int i = key->first; i < key->waiter_count && key->waiters[i].flow != flow; i++)
-        if (mode || key->waiters[i].mode) return 1;
-    return 0;
-}
-
-static void leave_line(Key *key, int flow) {
-    int i = key->first;
-    while (i < key->waiter_count && key->waiters[i].flow != flow) i++;
-    if (i == key->waiter_count) return;
-    for (; i > key->first; i--) key->waiters[i] = key->waiters[i - 1];
-    if (++key->first == key->waiter_count) key->first = key->waiter_count = 0;
-}
-
-static void take(Key *key, int flow, enum Mode mode) {
-    leave_line(key, flow);
-    Holder *own = held_by(key, flow);
-    if (own) {
-        own->count++;
-        return;
-    }
-    if (key->holder_count == key->holder_room) {
-        key->holder_room = key->holder_room ? 2 * key->holder_room : 4;
-        key->holders = more(key->holders, key->holder_room * sizeof(Holder));
-    }
-    key->holders[key->holder_count++] = (Holder){flow, 1, mode};
-}
-
-static void stand(Key *key, int flow, enum Mode mode) {
-    if (key->waiter_count == key->waiter_room) {
-        key->waiter_room = key->waiter_room ? 2 * key->waiter_room : 4;
-        key->waiters = more(key->waiters, key->waiter_room * sizeof(Waiter));
-    }
-    key->waiters[key->waiter_count++] = (Waiter){flow, mode};
-}
-
-static void drop(Key *key, int flow) {
-    Holder *own = held_by(key, flow);
-    if (--own->count == 0) *own = key->holders[--key->holder_count];
-}
-
 /* ---- flows: a stack of nodes, each with its place */
 
 enum Stage { TAKING, ENTERING, BODY, MEMBERS, EXITING, DROPPING };
 typedef struct { int node, done, of_case, member; enum Stage stage; int64_t input; } Frame;
-typedef struct { Frame *frames; int depth, room, ended, stands; int64_t value; int failed; uint64_t session; } Flow;
+typedef struct {
+    Frame *frames;
+    Held *held;
+    int depth, room, held_count, held_room, ended, stands, failed;
+    int64_t value;
+    uint64_t session;
+} Flow;
 static Flow flows[MOST_FLOWS];
 static int flow_count;
+
+/* The flows that are looked at, a bit each, and which words of them have bits. */
+static uint64_t ready[MOST_FLOWS / 64], ready_words;
+
+static void look_at(int flow) { ready[flow / 64] |= 1ull << flow % 64, ready_words |= 1ull << flow / 64; }
+
+static void look_away(int flow) {
+    if (!(ready[flow / 64] &= ~(1ull << flow % 64))) ready_words &= ~(1ull << flow / 64);
+}
+
+/* The first flow that is looked at, from a number on; MOST_FLOWS where there is none. */
+static int first_ready(int from) {
+    if (from >= MOST_FLOWS) return MOST_FLOWS;
+    uint64_t here = ready[from / 64] & ~0ull << from % 64;
+    if (here) return from / 64 * 64 + __builtin_ctzll(here);
+    uint64_t words = from / 64 == 63 ? 0 : ready_words & ~0ull << (from / 64 + 1);
+    if (!words) return MOST_FLOWS;
+    int word = __builtin_ctzll(words);
+    return word * 64 + __builtin_ctzll(ready[word]);
+}
+
+static Held *held_by(Flow *flow, Key *key) {
+    for (int i = 0; i < flow->held_count; i++)
+        if (flow->held[i].key == key) return &flow->held[i];
+    return NULL;
+}
+
+static int is_blocked(Key *key, int number, enum Mode mode) {
+    Flow *flow = &flows[number];
+    if (held_by(flow, key)) return 0;
+    if (key->holders[WRITER] || (mode && key->holders[READER])) return 1;
+    if (!flow->stands) return mode ? key->first < key->waiter_count : key->waiting_writers > 0;
+    for (int i = key->first; key->waiters[i].flow != number; i++)
+        if (mode || key->waiters[i].mode) return 1;
+    return 0;
+}
+
+static void leave_line(Key *key, int number) {
+    int i = key->first;
+    while (key->waiters[i].flow != number) i++;
+    key->waiting_writers -= key->waiters[i].mode;
+    for (; i > key->first; i--) key->waiters[i] = key->waiters[i - 1];
+    if (++key->first == key->waiter_count) key->first = key->waiter_count = 0;
+}
+
+static void take(Key *key, int number, enum Mode mode) {
+    Flow *flow = &flows[number];
+    if (flow->stands) leave_line(key, number);
+    Held *own = held_by(flow, key);
+    if (own) {
+        own->count++;
+        return;
+    }
+    if (flow->held_count == flow->held_room) {
+        flow->held_room = flow->held_room ? 2 * flow->held_room : 4;
+        flow->held = more(flow->held, flow->held_room * sizeof(Held));
+    }
+    flow->held[flow->held_count++] = (Held){key, 1, mode};
+    key->holders[mode]++;
+}
+
+static void stand(Key *key, int number, enum Mode mode) {
+    if (key->waiter_count == key->waiter_room) {
+        key->waiter_room = key->waiter_room ? 2 * key->waiter_room : 4;
+        key->waiters = more(key->waiters, key->waiter_room * sizeof(Waiter));
+    }
+    key->waiters[key->waiter_count++] = (Waiter){number, mode};
+    key->waiting_writers += mode;
+}
+
+/* Looks away from a blocked flow. One that stands in the key's line is found there again. */
+static void park(Key *key, int number) {
+    look_away(number);
+    if (flows[number].stands) return;
+    if (key->idle_count == key->idle_room) {
+        key->idle_room = key->idle_room ? 2 * key->idle_room : 4;
+        key->idle = more(key->idle, key->idle_room * sizeof(int));
+    }
+    key->idle[key->idle_count++] = number;
+}
+
+/* Looks at the flows that a dropped key may let go on: the first of the line, up to the first writer, and those beside it. */
+static void wake(Key *key) {
+    for (int i = key->first; i < key->waiter_count; i++) {
+        if (i > key->first && key->waiters[i].mode) break;
+        look_at(key->waiters[i].flow);
+        if (key->waiters[i].mode) break;
+    }
+    while (key->idle_count) look_at(key->idle[--key->idle_count]);
+}
+
+static void drop(Key *key, int number) {
+    Flow *flow = &flows[number];
+    Held *own = held_by(flow, key);
+    if (--own->count) return;
+    key->holders[own->mode]--;
+    *own = flow->held[--flow->held_count];
+    wake(key);
+}
 
 static void push(Flow *flow, int node) {
     if (flow->depth == flow->room) {
@@ -340,7 +396,7 @@ static int step(int number) {
             return flow->stands = 1;
         }
         take(key, number, hold.mode);
-        flow->stands = 0;
+        if (flow->stands) flow->stands = 0, wake(key);
         print_hold(number, "take", key, hold.mode);
         top->done++;
     } else if (top->stage == ENTERING) {
@@ -373,13 +429,25 @@ static int step(int number) {
     return over;
 }
 
-static int can_go_on(int number) {
+/* The key that blocks a flow's next event, or NULL. */
+static Key *blocking(int number) {
     Flow *flow = &flows[number];
-    if (flow->ended) return 0;
-    if (!flow->depth || flow->frames[flow->depth - 1].stage != TAKING) return 1;
+    if (!flow->depth || flow->frames[flow->depth - 1].stage != TAKING) return NULL;
     Frame *top = &flow->frames[flow->depth - 1];
     Hold hold = nodes[top->node].hold[top->done];
-    return !is_blocked(key_at(hold.class, flow->session), number, hold.mode);
+    Key *key = key_at(hold.class, flow->session);
+    return is_blocked(key, number, hold.mode) ? key : NULL;
+}
+
+/* The first flow, from a number on and then from 0 on, that can go on. */
+static int next_owner(int from) {
+    for (;;) {
+        int number = first_ready(from);
+        if (number == MOST_FLOWS) number = first_ready(0);
+        Key *key = blocking(number);
+        if (!key) return number;
+        park(key, number);
+    }
 }
 
 static char *read_file(const char *name) {
@@ -403,13 +471,13 @@ int main(int count, char **words) {
         flow->session = (uint64_t)flow->value;
         push(flow, target);
         settle(flow);
+        look_at(flow_count - 1);
     }
-    for (int live = flow_count, owner = flow_count - 1; live;) {
-        int next = owner;
-        do next = (next + 1) % flow_count; while (!can_go_on(next) && next != owner);
-        owner = next;
+    for (int live = flow_count, from = 0; live;) {
+        int owner = next_owner(from);
         while (!step(owner)) {}
-        live -= flows[owner].ended;
+        from = owner + 1;
+        if (flows[owner].ended) live--, look_away(owner);
     }
     return 0;
 }
