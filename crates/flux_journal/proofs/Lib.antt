@@ -1,4 +1,5 @@
 pub mod ValueLists
+pub mod Adding
 pub mod Cutting
 pub mod Named
 pub mod Keying
@@ -14,3 +15,4 @@ pub mod Clean
 pub mod Printed
 pub mod Entered
 pub mod Exemplary
+pub mod Decimals

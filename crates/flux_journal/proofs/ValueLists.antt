@@ -1,9 +1,10 @@
 -- Values with commas between them, one after the other.
-use Rattle.std.proofs.Common.{◌≡◌, ℕ, List, [], ◌∷◌, ◌++◌, refl, sym, ap, ◌∙◌, append_assoc, codes}
-use Rattle.std.proofs.lemmas.List.{append-nil}
+use Rattle.std.proofs.Common.{◌≡◌, ℕ, ◌-◌, ◌≤◌, List, [], ◌∷◌, ◌++◌, length, get_or, take, drop, refl, sym, ap, ◌∙◌, arith, append_assoc, codes}
+use Rattle.std.proofs.lemmas.List.{append-nil, take_all}
+use Rattle.std.specs.List.{flat_map}
 use Rattle.flux_values.specs.declared.values.Value.{Value}
 use Rattle.flux_values.specs.Texts.{printed_value}
-use Rattle.flux_journal.specs.steps.Listed.{listed, separator}
+use Rattle.flux_journal.specs.steps.Listed.{listed}
 
 -- values behind a first one
 abbrev pub more : List Value → List ℕ
@@ -14,17 +15,18 @@ pub listed_more : (v : Value) (vs : List Value) → listed (v ∷ vs) ≡ printe
 listed_more v [] = sym (append-nil (printed_value v))
 listed_more v (w ∷ vs) = append_assoc (printed_value v) (codes ", ") (listed (w ∷ vs)) ∙ ap (λ (s : List ℕ). printed_value v ++ (codes ", " ++ s)) (listed_more w vs)
 
-more_append : (vs ws : List Value) → more (vs ++ ws) ≡ more vs ++ more ws
-more_append [] ws = refl
-more_append (v ∷ vs) ws = ap (λ (s : List ℕ). codes ", " ++ (printed_value v ++ s)) (more_append vs ws) ∙ ap (λ (s : List ℕ). codes ", " ++ s) (sym (append_assoc (printed_value v) (more vs) (more ws)))
+-- a value behind a comma
+abbrev pub next : Value → List ℕ
+next value = codes ", " ++ printed_value value
 
--- one value more, and those behind it
-listed_next : (vs : List Value) (w : Value) (ws : List Value) → listed (vs ++ w ∷ ws) ≡ listed vs ++ (separator vs ++ (printed_value w ++ more ws))
-listed_next [] w ws = listed_more w ws
-listed_next (v ∷ vs) w ws =
-    listed_more v (vs ++ w ∷ ws) ∙ ap (λ (s : List ℕ). printed_value v ++ s) (more_append vs (w ∷ ws))
-    ∙ sym (append_assoc (printed_value v) (more vs) (more (w ∷ ws)))
-    ∙ ap (λ (s : List ℕ). s ++ more (w ∷ ws)) (sym (listed_more v vs))
+flat_more : (vs : List Value) → more vs ≡ flat_map next vs
+flat_more [] = refl
+flat_more (v ∷ vs) = sym (append_assoc (codes ", ") (printed_value v) (more vs)) ∙ ap (λ (s : List ℕ). next v ++ s) (flat_more vs)
 
-pub listed_push : (vs : List Value) (w : Value) → listed (vs ++ w ∷ []) ≡ listed vs ++ (separator vs ++ printed_value w)
-listed_push vs w = listed_next vs w [] ∙ ap (λ (s : List ℕ). listed vs ++ (separator vs ++ s)) (append-nil (printed_value w))
+-- the first of values, and those behind it
+pub listed_first : (vs : List Value) (v : Value) → 1 ≤ length vs → v ≡ get_or vs 0 v → listed vs ≡ printed_value v ++ flat_map next (take (length vs - 1) (drop 1 vs))
+listed_first [] v some first = absurd (omega arith)
+listed_first (w ∷ vs) v some first =
+    listed_more w vs ∙ ap (λ (s : List ℕ). printed_value w ++ s) (flat_more vs)
+    ∙ ap (λ (x : Value). printed_value x ++ flat_map next vs) (sym first)
+    ∙ ap (λ (s : List Value). printed_value v ++ flat_map next s) (sym (take_all _ vs (omega arith)))

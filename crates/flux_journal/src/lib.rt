@@ -8,6 +8,7 @@
 mod calls;
 mod cursors;
 mod cuts;
+mod digits;
 mod faults;
 mod journals;
 mod keys;

@@ -10,17 +10,21 @@ ghost use Rattle.flux_journal.specs.Formats.{head_line, printed_journal_2};
 ghost use Rattle.flux_journal.specs.Logs.{printed_sent, logged_call, logged_event, logged_entry, printed_log, item_line, printed_batch};
 ghost use Rattle.flux_journal.specs.steps.Listed.{called};
 
+use crate::digits::{append_marked, append_number, append_value};
 use flow_model::{CallMade, Entry, Event, Journal, Key, Outcome};
 use flux_model::{CallResult, ClassNo, Item, Mode, NodeNo, Program, Put, SourceNo};
-use flux_spelling::{append_number, append_text, append_value};
+use flux_spelling::append_text;
 use flux_values::{Bytes, List, Memory, Value};
 use std::alloc::Global;
+
+/// How many bytes an entry's line is reckoned to have. More are found room for when they come.
+const ENTRY_LENGTH: usize = 32;
 
 /// The one text of a journal in format 1.
 pub fn print_journal(alloc: Global, program: &Program, journal: &Journal) -> Result<Bytes, Memory>
     ensures { IfOk result (λ printed. printed ≡ printed_journal program.now journal.now) }
 {
-    let mut out = Bytes::new(alloc);
+    let mut out = with_room(alloc, journal.entries.len());
     append_entries(alloc, &mut out, program, journal.entries.as_slice())?;
     Ok(out)
 }
@@ -34,8 +38,8 @@ pub fn print_journal_2(
 ) -> Result<Bytes, Memory>
     ensures { IfOk result (λ printed. printed ≡ printed_journal_2 program.now flows journal.now) }
 {
-    let mut out = Bytes::new(alloc);
-    append_head(alloc, &mut out, flows, journal.entries.len() as u64)?;
+    let mut out = with_room(alloc, journal.entries.len());
+    append_head(&mut out, flows, journal.entries.len() as u64)?;
     append_entries(alloc, &mut out, program, journal.entries.as_slice())?;
     Ok(out)
 }
@@ -60,9 +64,8 @@ pub fn print_batch(
     ensures { IfOk result (λ printed. printed ≡ printed_batch program.now number items.now journal.now) }
 {
     let mut out = Bytes::new(alloc);
-    append_counted(alloc, &mut out, b"batch ", number as u64)?;
-    append_counted(alloc, &mut out, b" ", items.len() as u64)?;
-    out.append(b"\n")?;
+    append_counted(&mut out, b"batch ", number as u64)?;
+    append_counted_line(&mut out, b" ", items.len() as u64)?;
     append_items(alloc, &mut out, program, items)?;
     append_log(alloc, &mut out, program, journal.entries.as_slice())?;
     Ok(out)
@@ -77,12 +80,22 @@ pub fn print_item(alloc: Global, program: &Program, item: &Item) -> Result<Bytes
     Ok(out)
 }
 
+/// Nothing yet, with room for the text of so many entries where there is memory for it.
+fn with_room(alloc: Global, entries: usize) -> Bytes
+    ensures { result ≡ [] }
+{
+    match Vec::with_capacity(alloc, entries.saturating_mul(ENTRY_LENGTH)) {
+        Ok(bytes) => Bytes::from_vec(bytes),
+        Err(_) => Bytes::new(alloc),
+    }
+}
+
 fn append_item(alloc: Global, out: &mut Bytes, program: &Program, item: &Item) -> Result<(), Memory>
     ensures { OnOk result (out.new ≡ out.old ++ printed_item program.now item.now) }
 {
     out.append(source_name(program, item.source))?;
-    out.append(b" ")?;
-    append_values(alloc, out, item.values.as_slice())
+    append_listed(alloc, out, b" (", item.values.as_slice())?;
+    out.append(b")")
 }
 
 fn append_item_line(
@@ -125,20 +138,26 @@ fn append_log(
     Ok(())
 }
 
-fn append_head(alloc: Global, out: &mut Bytes, flows: u32, events: u64) -> Result<(), Memory>
+fn append_head(out: &mut Bytes, flows: u32, events: u64) -> Result<(), Memory>
     ensures { OnOk result (out.new ≡ out.old ++ (head_line flows events ++ codes "\n")) }
 {
-    append_counted(alloc, out, b"flux journal 2 flows ", flows as u64)?;
-    append_counted(alloc, out, b" events ", events)?;
-    out.append(b"\n")?;
-    Ok(())
+    append_counted(out, b"flux journal 2 flows ", flows as u64)?;
+    append_counted_line(out, b" events ", events)
 }
 
-fn append_counted(alloc: Global, out: &mut Bytes, word: &[u8], count: u64) -> Result<(), Memory>
+fn append_counted(out: &mut Bytes, word: &[u8], count: u64) -> Result<(), Memory>
     ensures { OnOk result (out.new ≡ out.old ++ (word.now ++ decimal count)) }
 {
     out.append(word)?;
-    append_number(alloc, out, count)
+    append_number(out, count)
+}
+
+/// Adds a word, a number and LF.
+fn append_counted_line(out: &mut Bytes, word: &[u8], count: u64) -> Result<(), Memory>
+    ensures { OnOk result (out.new ≡ out.old ++ ((word.now ++ decimal count) ++ codes "\n")) }
+{
+    out.append(word)?;
+    append_marked(out, count, b'\n')
 }
 
 fn append_entries(
@@ -163,37 +182,36 @@ fn append_logged(
 ) -> Result<(), Memory>
     ensures { OnOk result (out.new ≡ out.old ++ logged_entry program.now entry.now) }
 {
-    append_number(alloc, out, entry.flow.0 as u64)?;
-    out.append(b" ")?;
-    append_logged_event(alloc, out, program, &entry.event)?;
-    out.append(b"\n")
+    append_marked(out, entry.flow.0 as u64, b' ')?;
+    append_logged_event(alloc, out, program, &entry.event)
 }
 
+/// Adds an event as a log has it, and LF.
 fn append_logged_event(
     alloc: Global,
     out: &mut Bytes,
     program: &Program,
     event: &Event,
 ) -> Result<(), Memory>
-    ensures { OnOk result (out.new ≡ out.old ++ logged_event program.now event.now) }
+    ensures { OnOk result (out.new ≡ out.old ++ (logged_event program.now event.now ++ codes "\n")) }
 {
     match event {
         Event::Call(made) => {
             append_called(alloc, out, program, made)?;
-            append_sent(alloc, out, made.answer.emits.as_bytes())
+            append_sent(out, made.answer.emits.as_bytes())
         }
         _ => append_event(alloc, out, program, event),
     }
 }
 
-fn append_sent(alloc: Global, out: &mut Bytes, emission: &[u8]) -> Result<(), Memory>
-    ensures { OnOk result (out.new ≡ out.old ++ printed_sent emission.now) }
+/// Adds how many bytes are emitted, where there are any, and LF.
+fn append_sent(out: &mut Bytes, emission: &[u8]) -> Result<(), Memory>
+    ensures { OnOk result (out.new ≡ out.old ++ (printed_sent emission.now ++ codes "\n")) }
 {
     if emission.is_empty() {
-        return Ok(());
+        return out.append(b"\n");
     }
-    out.append(b" sent ")?;
-    append_number(alloc, out, emission.len() as u64)
+    append_counted_line(out, b" sent ", emission.len() as u64)
 }
 
 fn append_entry(
@@ -204,42 +222,28 @@ fn append_entry(
 ) -> Result<(), Memory>
     ensures { OnOk result (out.new ≡ out.old ++ printed_entry program.now entry.now) }
 {
-    append_number(alloc, out, entry.flow.0 as u64)?;
-    out.append(b" ")?;
-    append_event(alloc, out, program, &entry.event)?;
-    out.append(b"\n")
+    append_marked(out, entry.flow.0 as u64, b' ')?;
+    append_event(alloc, out, program, &entry.event)
 }
 
+/// Adds an event and LF.
 fn append_event(
     alloc: Global,
     out: &mut Bytes,
     program: &Program,
     event: &Event,
 ) -> Result<(), Memory>
-    ensures { OnOk result (out.new ≡ out.old ++ printed_event program.now event.now) }
+    ensures { OnOk result (out.new ≡ out.old ++ (printed_event program.now event.now ++ codes "\n")) }
 {
     match event {
-        Event::Take(key, mode) => append_hold(alloc, out, program, b"take ", *key, *mode),
-        Event::Wait(key, mode) => append_hold(alloc, out, program, b"wait ", *key, *mode),
-        Event::Enter(node) => append_pair(out, b"enter ", node_name(program, *node)),
-        Event::Choose(case) => {
-            out.append(b"choose ")?;
-            append_number(alloc, out, *case as u64)
-        }
+        Event::Take(key, mode) => append_hold(out, program, b"take ", *key, *mode),
+        Event::Wait(key, mode) => append_hold(out, program, b"wait ", *key, *mode),
+        Event::Enter(node) => append_line(out, b"enter ", node_name(program, *node)),
+        Event::Choose(case) => append_counted_line(out, b"choose ", *case as u64),
         Event::Call(made) => append_call(alloc, out, program, made),
-        Event::Exit(node, outcome) => {
-            append_pair(out, b"exit ", node_name(program, *node))?;
-            out.append(b" ")?;
-            append_exit(alloc, out, *outcome)
-        }
-        Event::Drop(key) => {
-            out.append(b"drop ")?;
-            append_key(alloc, out, program, *key)
-        }
-        Event::End(outcome) => {
-            out.append(b"end ")?;
-            append_end(alloc, out, *outcome)
-        }
+        Event::Exit(node, outcome) => append_exit(out, node_name(program, *node), *outcome),
+        Event::Drop(key) => append_drop(out, program, *key),
+        Event::End(outcome) => append_end(out, *outcome),
     }
 }
 
@@ -250,72 +254,84 @@ fn append_pair(out: &mut Bytes, first: &[u8], second: &[u8]) -> Result<(), Memor
     out.append(second)
 }
 
+/// Adds a word, a name and LF.
+fn append_line(out: &mut Bytes, word: &[u8], name: &[u8]) -> Result<(), Memory>
+    ensures { OnOk result (out.new ≡ out.old ++ ((word.now ++ name.now) ++ codes "\n")) }
+{
+    append_pair(out, word, name)?;
+    out.append(b"\n")
+}
+
+/// Adds a word, a key with its mark, and LF.
 fn append_hold(
-    alloc: Global,
     out: &mut Bytes,
     program: &Program,
     word: &[u8],
     key: Key,
     mode: Mode,
 ) -> Result<(), Memory>
-    ensures { OnOk result (out.new ≡ out.old ++ (word.now ++ printed_key program.now key
-        ++ printed_mode mode)) }
+    ensures { OnOk result (out.new ≡ out.old ++ ((word.now ++ printed_key program.now key
+        ++ printed_mode mode) ++ codes "\n")) }
 {
-    out.append(word)?;
-    append_key(alloc, out, program, key)?;
+    append_key(out, program, word, key)?;
     out.append(match mode {
-        Mode::Reader => b"?",
-        Mode::Writer => b"!",
+        Mode::Reader => b"?\n",
+        Mode::Writer => b"!\n",
     })
 }
 
-fn append_key(alloc: Global, out: &mut Bytes, program: &Program, key: Key) -> Result<(), Memory>
-    ensures { OnOk result (out.new ≡ out.old ++ printed_key program.now key) }
+fn append_drop(out: &mut Bytes, program: &Program, key: Key) -> Result<(), Memory>
+    ensures { OnOk result (out.new ≡ out.old ++ ((codes "drop " ++ printed_key program.now key)
+        ++ codes "\n")) }
 {
-    out.append(class_name(program, key.class))?;
+    append_key(out, program, b"drop ", key)?;
+    out.append(b"\n")
+}
+
+/// Adds a word and a key.
+fn append_key(out: &mut Bytes, program: &Program, word: &[u8], key: Key) -> Result<(), Memory>
+    ensures { OnOk result (out.new ≡ out.old ++ (word.now ++ printed_key program.now key)) }
+{
+    append_pair(out, word, class_name(program, key.class))?;
     match key.id {
         None => Ok(()),
-        Some(number) => {
-            out.append(b"@")?;
-            append_number(alloc, out, number)
-        }
+        Some(number) => append_counted(out, b"@", number),
     }
 }
 
-fn append_exit(alloc: Global, out: &mut Bytes, outcome: Outcome) -> Result<(), Memory>
-    ensures { OnOk result (out.new ≡ out.old ++ printed_exit outcome) }
+/// Adds how a node is left, and LF.
+fn append_exit(out: &mut Bytes, node: &[u8], outcome: Outcome) -> Result<(), Memory>
+    ensures { OnOk result (out.new ≡ out.old ++ ((codes "exit " ++ node.now ++ codes " "
+        ++ printed_exit outcome) ++ codes "\n")) }
+{
+    append_pair(out, b"exit ", node)?;
+    match outcome {
+        Outcome::Good => out.append(b" ok\n"),
+        Outcome::Over => out.append(b" over\n"),
+        Outcome::Bad(code) => append_counted_line(out, b" fail ", code as u64),
+    }
+}
+
+/// Adds how a flow ends, and LF.
+fn append_end(out: &mut Bytes, outcome: Outcome) -> Result<(), Memory>
+    ensures { OnOk result (out.new ≡ out.old ++ ((codes "end " ++ printed_end outcome)
+        ++ codes "\n")) }
 {
     match outcome {
-        Outcome::Good => out.append(b"ok"),
-        Outcome::Over => out.append(b"over"),
-        Outcome::Bad(code) => append_code(alloc, out, code),
+        Outcome::Good => out.append(b"end done\n"),
+        Outcome::Over => out.append(b"end handled\n"),
+        Outcome::Bad(code) => append_counted_line(out, b"end fail ", code as u64),
     }
 }
 
-fn append_end(alloc: Global, out: &mut Bytes, outcome: Outcome) -> Result<(), Memory>
-    ensures { OnOk result (out.new ≡ out.old ++ printed_end outcome) }
-{
-    match outcome {
-        Outcome::Good => out.append(b"done"),
-        Outcome::Over => out.append(b"handled"),
-        Outcome::Bad(code) => append_code(alloc, out, code),
-    }
-}
-
-fn append_code(alloc: Global, out: &mut Bytes, code: u16) -> Result<(), Memory>
-    ensures { OnOk result (out.new ≡ out.old ++ (codes "fail " ++ decimal code)) }
-{
-    out.append(b"fail ")?;
-    append_number(alloc, out, code as u64)
-}
-
+/// Adds a call and LF.
 fn append_call(
     alloc: Global,
     out: &mut Bytes,
     program: &Program,
     made: &CallMade,
 ) -> Result<(), Memory>
-    ensures { OnOk result (out.new ≡ out.old ++ printed_call program.now made.now) }
+    ensures { OnOk result (out.new ≡ out.old ++ (printed_call program.now made.now ++ codes "\n")) }
 {
     append_called(alloc, out, program, made)?;
     append_emission(out, made.answer.emits.as_bytes())
@@ -331,47 +347,58 @@ fn append_called(
     ensures { OnOk result (out.new ≡ out.old ++ called program.now made.now) }
 {
     append_pair(out, b"call ", node_name(program, made.node))?;
-    out.append(b" ")?;
-    append_values(alloc, out, made.args.as_slice())?;
-    out.append(b" ")?;
+    append_listed(alloc, out, b" (", made.args.as_slice())?;
     append_result(alloc, out, &made.answer.result)?;
     append_puts(alloc, out, made.answer.puts.as_slice())
 }
 
+/// Adds the end of a call's arguments, and its result.
 fn append_result(alloc: Global, out: &mut Bytes, result_: &CallResult) -> Result<(), Memory>
-    ensures { OnOk result (out.new ≡ out.old ++ printed_result result_.now) }
+    ensures { OnOk result (out.new ≡ out.old ++ (codes ") " ++ printed_result result_.now)) }
 {
     match result_ {
         CallResult::Good(values) => {
-            out.append(b"ok ")?;
-            append_values(alloc, out, values.as_slice())
+            append_listed(alloc, out, b") ok (", values.as_slice())?;
+            out.append(b")")
         }
-        CallResult::Bad(code) => append_code(alloc, out, *code),
+        CallResult::Bad(code) => append_counted(out, b") fail ", *code as u64),
     }
 }
 
-fn append_values(alloc: Global, out: &mut Bytes, values: &[Value]) -> Result<(), Memory>
-    ensures { OnOk result (out.new ≡ out.old ++ printed_values values.now) }
+/// Adds a word, and values with commas between them.
+fn append_listed(
+    alloc: Global,
+    out: &mut Bytes,
+    word: &[u8],
+    values: &[Value],
+) -> Result<(), Memory>
+    ensures { OnOk result (out.new ≡ out.old ++ (word.now ++ comma_separated (map printed_value values.now))) }
 {
-    out.append(b"(")?;
-    append_listed(alloc, out, values)?;
-    out.append(b")")
+    out.append(word)?;
+    match values {
+        [] => Ok(()),
+        [first, rest @ ..] => {
+            append_value(alloc, out, first)?;
+            append_more(alloc, out, rest)
+        }
+    }
 }
 
-fn append_listed(alloc: Global, out: &mut Bytes, values: &[Value]) -> Result<(), Memory>
-    ensures { OnOk result (out.new ≡ out.old ++ comma_separated (map printed_value values.now)) }
+/// Adds values, each with a comma before it.
+fn append_more(alloc: Global, out: &mut Bytes, values: &[Value]) -> Result<(), Memory>
+    ensures { OnOk result (out.new ≡ out.old
+        ++ flat_map (λ value. codes ", " ++ printed_value value) values.now) }
 {
-    for (place, value) in values.iter().enumerate() {
-        append_next(alloc, out, place == 0, value)?;
+    for value in values {
+        append_next(alloc, out, value)?;
     }
     Ok(())
 }
 
-fn append_next(alloc: Global, out: &mut Bytes, first: bool, value: &Value) -> Result<(), Memory>
-    ensures { OnOk result (out.new ≡ out.old ++ ((if first then [] else codes ", ")
-        ++ printed_value value.now)) }
+fn append_next(alloc: Global, out: &mut Bytes, value: &Value) -> Result<(), Memory>
+    ensures { OnOk result (out.new ≡ out.old ++ (codes ", " ++ printed_value value.now)) }
 {
-    out.append(if first { b"" } else { b", " })?;
+    out.append(b", ")?;
     append_value(alloc, out, value)
 }
 
@@ -406,12 +433,19 @@ fn append_change(out: &mut Bytes, word: &[u8], put: &Put) -> Result<(), Memory>
     append_text(out, put.name.as_bytes())
 }
 
+/// Adds what a call emits, if it emits anything, and LF.
 fn append_emission(out: &mut Bytes, emission: &[u8]) -> Result<(), Memory>
-    ensures { OnOk result (out.new ≡ out.old ++ printed_emission emission.now) }
+    ensures { OnOk result (out.new ≡ out.old ++ (printed_emission emission.now ++ codes "\n")) }
 {
-    if emission.is_empty() {
-        return Ok(());
+    if !emission.is_empty() {
+        append_emitted(out, emission)?;
     }
+    out.append(b"\n")
+}
+
+fn append_emitted(out: &mut Bytes, emission: &[u8]) -> Result<(), Memory>
+    ensures { OnOk result (out.new ≡ out.old ++ (codes " emits " ++ printed_text emission.now)) }
+{
     out.append(b" emits ")?;
     append_text(out, emission)
 }
