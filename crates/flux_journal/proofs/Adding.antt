@@ -1,5 +1,5 @@
 -- What is added in two steps.
-use Rattle.std.proofs.Common.{◌≡◌, ℕ, List, ◌++◌, Result, Ok, Err, sym, ap, ◌∙◌, append_assoc}
+use Rattle.std.proofs.Common.{◌≡◌, ℕ, List, ◌++◌, Result, Ok, Err, ap, ◌∙◌, append_assoc}
 use Rattle.std.specs.Result.{OnOk}
 
 pub added_then : {T E : Type 0} (r : Result T E) (out between after first second all : List ℕ) → between ≡ out ++ first → first ++ second ≡ all

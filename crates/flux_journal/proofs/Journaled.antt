@@ -2,6 +2,7 @@
 use Rattle.std.proofs.Common.{◌≡◌, inl, inr, ℕ, zero, suc, ◌+◌, ◌<◌, ◌≤◌, ◌^◌, Bool, true, false, cond, eqb, List, [], ◌∷◌, ◌++◌, length, drop, Option, Some, None, IfSome, IfNone, Result, Ok, Err, codes, refl, sym, ap, ◌∙◌, subst, append_assoc, arith, All}
 use Rattle.std.specs.List.{slice_split, onto_first}
 use Rattle.std.specs.Fmt.{decimal}
+use Rattle.std.specs.Result.{IsErrAnd}
 use Rattle.std.proofs.lemmas.Bool.{cases_order, eqb-true}
 use Rattle.std.proofs.lemmas.Bool.Decides.{nat_tests}
 use Rattle.std.proofs.lemmas.List.{append-nil, length-append, append_cancel_left}
@@ -123,6 +124,11 @@ read_bad p text rest line behind entries first number so is_first none = record 
   bad = none;
   place = so.place;
 }
+
+-- what was told where the entries failed is the answer
+pub entries_fail : (p : Program) (lines : List (List ℕ)) (first : ℕ) (fault : JournalFault) (r : Result Journal JournalFault) → IsErrAnd r (λ f. f ≡ fault) → AreEntriesRead p lines first (Err fault) → AreEntriesRead p lines first r
+entries_fail p lines first fault (Ok journal) is h = absurd is
+entries_fail p lines first fault (Err f) is h = subst (λ g. AreEntriesRead p lines first (Err g)) (sym is) h
 
 -- ---- head lines
 

@@ -11,7 +11,11 @@ fn length_before(mark: u8, text: &[u8]) -> usize
     ensures value { result ≡ position_or_len (λ b. b == mark) text.now }
     ensures within { result ≤ length text.now }
 {
-    text.iter().take_while(|byte| **byte != mark).count()
+    let mut place = 0;
+    while place < text.len() && text[place] != mark {
+        place += 1;
+    }
+    place
 }
 
 /// What stands before and behind the first mark.

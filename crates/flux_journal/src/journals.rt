@@ -1,6 +1,6 @@
 //! A journal read.
 
-ghost use Rattle.std.specs.Prelude.{◌≡◌, ◌<◌, ◌≤◌, ◌^◌, ℕ, Ok, Err, length};
+ghost use Rattle.std.specs.Prelude.{◌≡◌, ◌<◌, ◌≤◌, ◌^◌, ℕ, [], Ok, Err, IfErr, OnOk, length};
 ghost use Rattle.flux_values.specs.Answers.{IsOrMemory};
 ghost use Rattle.flow_model.specs.declared.journals.Journal.{Journal};
 ghost use Rattle.flux_model.specs.Names.{IsNamed};
@@ -9,16 +9,46 @@ ghost use Rattle.flux_model.specs.Numbered.{IsNumbered};
 ghost use Rattle.flux_journal.specs.declared.faults.JournalFault.TheVariants as faults;
 ghost use Rattle.flux_journal.specs.Formats.{printed_journal_2};
 ghost use Rattle.flux_journal.specs.Entries.{AreEntriesOf};
-ghost use Rattle.flux_journal.specs.Journals.{lines_of, IsWellHeaded, ReadsAs, IsBadLine, HasCause};
+ghost use Rattle.flux_journal.specs.Journals.{lines_of, IsWellHeaded, AreEntryLines, ReadsAs, IsBadLine, HasCause};
 ghost use Rattle.flux_journal.specs.steps.Lines.{AreEntriesRead};
+ghost use Rattle.flux_journal.specs.steps.Named.{IsReady};
 
 use crate::faults::{JournalFault, LineFault};
 use crate::lines::Reader;
 use crate::texts::{count_lines, is_head, is_headed, split_line};
-use flow_model::Journal;
+use flow_model::{Entry, Journal};
 use flux_model::Program;
 use flux_values::List;
 use std::alloc::Global;
+
+/// Adds the entries of lines, the first of which has this number, where there are none yet.
+fn add_entries(
+    reader: &Reader,
+    entries: &mut List<Entry>,
+    text: &[u8],
+    first: u64,
+) -> Result<(), JournalFault>
+    requires ready { IsReady reader.now.program.now reader.now.names }
+    requires none { entries.old ≡ [] }
+    requires first { first ≤ 2 }
+    ensures read { OnOk result (AreEntryLines reader.now.program.now (lines_of text.now) entries.new) }
+    ensures bad { IfErr result (λ fault.
+        AreEntriesRead reader.now.program.now (lines_of text.now) first (Err fault)) }
+{
+    let mut number = first;
+    let mut rest = text;
+    'lines: while !rest.is_empty() {
+        let (line, behind) = split_line(rest);
+        match reader.entry(line) {
+            Ok(entry) => entries.add(entry)?,
+            Err(LineFault::BadLine) => return Err(JournalFault::BadLine { line: number }),
+            Err(LineFault::Memory) => return Err(JournalFault::Memory),
+        }
+        number += 1;
+        rest = behind;
+    }
+    Ok(())
+}
 
 /// The entries of lines, the first of which has this number.
 fn read_entries(
@@ -34,18 +64,7 @@ fn read_entries(
 {
     let reader = Reader::new(alloc, program)?;
     let mut entries = List::new(alloc);
-    let mut number = first;
-    let mut rest = text;
-    'lines: while !rest.is_empty() {
-        let (line, behind) = split_line(rest);
-        match reader.entry(line) {
-            Ok(entry) => entries.add(entry)?,
-            Err(LineFault::BadLine) => return Err(JournalFault::BadLine { line: number }),
-            Err(LineFault::Memory) => return Err(JournalFault::Memory),
-        }
-        number += 1;
-        rest = behind;
-    }
+    add_entries(&reader, &mut entries, text, first)?;
     Ok(Journal { entries })
 }
 

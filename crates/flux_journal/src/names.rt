@@ -1,6 +1,6 @@
 //! The names of a program: nodes, found by hash, and classes.
 
-ghost use Rattle.std.specs.Prelude.{◌≡◌, ◌≤◌, ◌↔◌, ℕ, IfOk, IfSome, IfNone, IsTrue, length};
+ghost use Rattle.std.specs.Prelude.{◌≡◌, ◌≤◌, ◌↔◌, [], ℕ, IfOk, OnOk, IfSome, IfNone, IsTrue, length};
 ghost use Rattle.flux_model.specs.declared.programs.NodeNo.{NodeNo};
 ghost use Rattle.flux_model.specs.declared.programs.ClassNo.{ClassNo};
 ghost use Rattle.flux_model.specs.declared.programs.TheConstants.{COUNT_LIMIT};
@@ -12,15 +12,25 @@ use flux_model::{Class, ClassNo, Names, Node, NodeNo, Program};
 use flux_values::{Memory, TextBytes};
 use std::alloc::Global;
 
+/// Adds the names of nodes, where there are none yet.
+fn add_names<'a>(names: &mut Names<'a>, nodes: &'a [Node]) -> Result<(), Memory>
+    requires apart { AreNamedApart nodes.now }
+    requires none { names.old ≡ [] }
+    ensures { OnOk result (names.new ≡ names_in nodes.now) }
+{
+    for node in nodes {
+        names.add(node.name.as_bytes())?;
+    }
+    Ok(())
+}
+
 /// The names of nodes.
 pub fn names_of<'a>(alloc: Global, nodes: &'a [Node]) -> Result<Names<'a>, Memory>
     requires { AreNamedApart nodes.now }
     ensures { IfOk result (λ names. names ≡ names_in nodes.now) }
 {
     let mut names = Names::new(alloc);
-    for node in nodes {
-        names.add(node.name.as_bytes())?;
-    }
+    add_names(&mut names, nodes)?;
     Ok(names)
 }
 

@@ -1,6 +1,6 @@
-use Rattle.std.proofs.Common.{◌≡◌, ◌+◌, ◌-◌, ◌%◌, refl, arith, append_assoc}
+use Rattle.std.proofs.Common.{◌≡◌, ◌+◌, ◌-◌, refl, arith, append_assoc}
 use Rattle.std.proofs.lemmas.Fmt.{decimal_digit, decimal_step}
-use Rattle.std.proofs.lemmas.List.{drop-set, length-set}
+use Rattle.std.proofs.lemmas.List.{drop-set}
 use Rattle.flux_journal.proofs.Decimals.{length_all, length_one, length_step}
 use Rattle.flux_journal.proofs.digits.write_digits.Goals as goal
 

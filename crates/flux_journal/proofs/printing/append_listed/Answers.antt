@@ -1,4 +1,4 @@
-use Rattle.std.proofs.Common.{◌≡◌, ℕ, ◌-◌, List, ◌++◌, ap, sym, ◌∙◌, append_assoc, length, take, drop}
+use Rattle.std.proofs.Common.{ℕ, ◌-◌, List, ◌++◌, ap, sym, ◌∙◌, append_assoc, length, take, drop}
 use Rattle.std.specs.List.{flat_map}
 use Rattle.flux_values.specs.Texts.{printed_value}
 use Rattle.flux_journal.proofs.ValueLists.{next, listed_first}
