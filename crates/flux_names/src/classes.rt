@@ -1,8 +1,9 @@
 //! The classes of constraints.
 
 ghost use Rattle.std.specs.Prelude.{◌≡◌, ◌++◌, ◌∷◌, [], not, IfOk, OnOk};
-ghost use Rattle.flux_syntax.specs.ProgramOfText.{insert_class, class_of, constraints_of, classes_of};
-ghost use Rattle.flux_names.specs.Rows.{word_if, class_words};
+ghost use Rattle.std.specs.List.{flat_map};
+ghost use Rattle.flux_syntax.specs.ProgramOfText.{insert_class, class_of, constraints_of};
+ghost use Rattle.flux_names.specs.Rows.{word_if};
 ghost use Rattle.flux_names.specs.steps.Classes.{has_class, classes_after, words_by};
 
 use crate::words::{Words, copied_name};
@@ -119,17 +120,18 @@ impl<'a> ClassTable<'a> {
         }
     }
 
-    pub fn of(alloc: Global, decls: &'a [Decl]) -> Result<ClassTable<'a>, Memory>
-        ensures classes { IfOk result (λ table. table.classes ≡ classes_of decls.now) }
-        ensures words { IfOk result (λ table. table.words ≡ class_words decls.now) }
+    /// Adds the classes of declarations, and the words that name them first.
+    pub fn add_lines(&mut self, decls: &'a [Decl]) -> Result<(), Memory>
+        ensures classes { OnOk result
+            (self.new.classes ≡
+            classes_after self.old.classes (flat_map constraints_of decls.now)) }
+        ensures words { OnOk result
+            (self.new.words ≡
+            self.old.words ++ words_by self.old.classes (flat_map constraints_of decls.now)) }
     {
-        let mut table = ClassTable {
-            classes: Classes::new(alloc),
-            words: Words::new(alloc),
-        };
         for decl in decls {
-            table.add_line(decl)?;
+            self.add_line(decl)?;
         }
-        Ok(table)
+        Ok(())
     }
 }

@@ -1,13 +1,12 @@
 //! The names of nodes.
 
-ghost use Rattle.std.specs.Prelude.{◌≡◌, ◌++◌, IfOk, OnOk, option_copied};
-ghost use Rattle.flux_syntax.specs.Words.{and_name, unless_known, names_of, first_words};
+ghost use Rattle.std.specs.Prelude.{◌≡◌, ◌++◌, OnOk, option_copied};
+ghost use Rattle.flux_syntax.specs.Words.{and_name, unless_known, names_after, first_words_after};
 
 use crate::sorts::Sort;
 use crate::words::Words;
 use flux_syntax::{Decl, Names, Word};
 use flux_values::Memory;
-use std::alloc::Global;
 
 /// The names of nodes, in order of the lines that name them first, and the words that do.
 #[derive(Drop)]
@@ -35,17 +34,15 @@ impl<'a> NodeTable<'a> {
         Ok(())
     }
 
-    pub fn of(alloc: Global, decls: &'a [Decl]) -> Result<NodeTable<'a>, Memory>
-        ensures names { IfOk result (λ table. table.names ≡ names_of decls.now) }
-        ensures words { IfOk result (λ table. table.words ≡ first_words decls.now) }
+    /// Adds the names of declarations, and the words that name them first.
+    pub fn add_lines(&mut self, decls: &'a [Decl]) -> Result<(), Memory>
+        ensures names { OnOk result (self.new.names ≡ names_after self.old.names decls.now) }
+        ensures words { OnOk result
+            (self.new.words ≡ self.old.words ++ first_words_after self.old.names decls.now) }
     {
-        let mut table = NodeTable {
-            names: Names::new(alloc),
-            words: Words::new(alloc),
-        };
         for decl in decls {
-            table.add(Sort::Naming.word(decl))?;
+            self.add(Sort::Naming.word(decl))?;
         }
-        Ok(table)
+        Ok(())
     }
 }

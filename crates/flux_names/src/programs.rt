@@ -13,11 +13,12 @@ ghost use Rattle.flux_names.specs.steps.Sorts.{names_by, word_of};
 ghost use Rattle.flux_names.specs.steps.Picks.{words_now};
 ghost use Rattle.flux_names.specs.steps.Nodes.{lines_now, lines_of, nodes_from, unknown_in, sources_in, predicates_in, handler_sites_in, handler_sites_from};
 
-use crate::classes::ClassTable;
+use crate::classes::{ClassTable, Classes};
 use crate::lines::Lines;
 use crate::naming::NodeTable;
 use crate::nodes::{Tables, node_of, number_of, session_of};
 use crate::sorts::Sort;
+use crate::words::Words;
 use flux_model::{Named, Node, Program, Sites, SourceLine};
 use flux_syntax::{Decl, Names, Word};
 use flux_values::{List, Memory, TextBytes};
@@ -35,21 +36,50 @@ pub struct Symbols<'a> {
 }
 
 impl<'a> Symbols<'a> {
-    pub fn of(alloc: Global, decls: &'a [Decl]) -> Result<Symbols<'a>, Memory>
-        ensures names { IfOk result (λ symbols. symbols.nodes.names ≡ names_of decls.now) }
-        ensures words { IfOk result (λ symbols. symbols.nodes.words ≡ first_words decls.now) }
-        ensures classes { IfOk result (λ symbols. symbols.classes.classes ≡ classes_of decls.now) }
-        ensures class_words { IfOk result (λ symbols.
-            symbols.classes.words ≡ class_words decls.now) }
-        ensures types { IfOk result (λ symbols. symbols.types ≡ names_by defined decls.now) }
-        ensures sources { IfOk result (λ symbols. symbols.sources ≡ names_by sourced decls.now) }
+    pub fn new(alloc: Global) -> Symbols<'a>
+        ensures { result
+            ≡ record {
+              nodes = record { names = []; words = [] };
+              classes = record { classes = []; words = [] };
+              types = [];
+              sources = [];
+            } }
     {
-        Ok(Symbols {
-            nodes: NodeTable::of(alloc, decls)?,
-            classes: ClassTable::of(alloc, decls)?,
-            types: Sort::Defined.names(alloc, decls)?,
-            sources: Sort::Sourced.names(alloc, decls)?,
-        })
+        Symbols {
+            nodes: NodeTable {
+                names: Names::new(alloc),
+                words: Words::new(alloc),
+            },
+            classes: ClassTable {
+                classes: Classes::new(alloc),
+                words: Words::new(alloc),
+            },
+            types: Names::new(alloc),
+            sources: Names::new(alloc),
+        }
+    }
+
+    /// Takes in what declarations name, where nothing was taken in before.
+    pub fn fill(&mut self, decls: &'a [Decl]) -> Result<(), Memory>
+        requires { self.old
+            ≡ record {
+              nodes = record { names = []; words = [] };
+              classes = record { classes = []; words = [] };
+              types = [];
+              sources = [];
+            } }
+        ensures names { OnOk result (self.new.nodes.names ≡ names_of decls.now) }
+        ensures words { OnOk result (self.new.nodes.words ≡ first_words decls.now) }
+        ensures classes { OnOk result (self.new.classes.classes ≡ classes_of decls.now) }
+        ensures class_words { OnOk result (self.new.classes.words ≡ class_words decls.now) }
+        ensures types { OnOk result (self.new.types ≡ names_by defined decls.now) }
+        ensures sources { OnOk result (self.new.sources ≡ names_by sourced decls.now) }
+    {
+        self.nodes.add_lines(decls)?;
+        self.classes.add_lines(decls)?;
+        Sort::Defined.add_names(&mut self.types, decls)?;
+        Sort::Sourced.add_names(&mut self.sources, decls)?;
+        Ok(())
     }
 }
 
@@ -241,6 +271,28 @@ fn sites_of(
     })
 }
 
+fn named_by(
+    alloc: Global,
+    symbols: &Symbols,
+    lines: &Lines,
+    decls: &[Decl],
+) -> Result<Named, Memory>
+    requires names { symbols.now.nodes.names ≡ names_of decls.now }
+    requires words { symbols.now.nodes.words ≡ first_words decls.now }
+    requires classes { symbols.now.classes.classes ≡ classes_of decls.now }
+    requires types { symbols.now.types ≡ names_by defined decls.now }
+    requires lines { lines.now ≡ map (lines_of decls.now) (names_of decls.now) }
+    requires few { words_of decls.now ≤ COUNT_LIMIT }
+    requires once { repeated decls.now defined ≡ [] }
+    requires known { unknown_nodes decls.now ≡ [] }
+    requires codes { bad_codes decls.now ≡ [] }
+    ensures { IfOk result (λ named. named ≡ named_of decls.now) }
+{
+    let sites = sites_of(alloc, &symbols.nodes, lines, decls)?;
+    let program = program_of(alloc, symbols, lines, decls)?;
+    Ok(Named { program, sites })
+}
+
 /// The program of declarations without faults of names, and where its names stand.
 pub fn named_of(alloc: Global, symbols: &Symbols, decls: &[Decl]) -> Result<Named, Memory>
     requires names { symbols.now.nodes.names ≡ names_of decls.now }
@@ -254,8 +306,5 @@ pub fn named_of(alloc: Global, symbols: &Symbols, decls: &[Decl]) -> Result<Name
     ensures { IfOk result (λ named. named ≡ named_of decls.now) }
 {
     let lines = Lines::gathered(alloc, &symbols.nodes.names, decls)?;
-    Ok(Named {
-        program: program_of(alloc, symbols, &lines, decls)?,
-        sites: sites_of(alloc, &symbols.nodes, &lines, decls)?,
-    })
+    named_by(alloc, symbols, &lines, decls)
 }

@@ -1,6 +1,6 @@
 //! The row on names that stand twice.
 
-ghost use Rattle.std.specs.Prelude.{◌≡◌, None, IfOk, OnOk};
+ghost use Rattle.std.specs.Prelude.{◌≡◌, [], None, IfOk, OnOk};
 ghost use Rattle.flux_syntax.specs.Words.{and_name};
 ghost use Rattle.flux_syntax.specs.Least.{soonest};
 ghost use Rattle.flux_names.specs.Rows.{is_patterned, repeated, twice_named};
@@ -55,6 +55,19 @@ impl<'a> Seen<'a> {
             Ok(place)
         }
     }
+
+    /// Sees lines, the first ones of all.
+    fn see_all(&mut self, sort: Sort, decls: &'a [Decl], place: Place) -> Result<Place, Memory>
+        requires names { self.old.names ≡ [] }
+        requires plain { self.old.plain ≡ [] }
+        ensures { IfOk result (λ p. p ≡ soonest place (repeated decls.now (word_of sort))) }
+    {
+        let mut place = place;
+        for decl in decls {
+            place = self.see(sort, decl, place)?;
+        }
+        Ok(place)
+    }
 }
 
 /// With the names of the lines of one sort that repeat one before.
@@ -65,11 +78,7 @@ fn with_repeated(alloc: Global, place: Place, sort: Sort, decls: &[Decl]) -> Res
         names: Names::new(alloc),
         plain: Names::new(alloc),
     };
-    let mut place = place;
-    for decl in decls {
-        place = seen.see(sort, decl, place)?;
-    }
-    Ok(place)
+    seen.see_all(sort, decls, place)
 }
 
 /// The least place of a name that stands twice.

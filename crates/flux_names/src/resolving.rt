@@ -1,6 +1,6 @@
 //! Declarations to a program, or the least fault.
 
-ghost use Rattle.std.specs.Prelude.{◌≡◌, ◌≤◌, None, IfOk, IfErr};
+ghost use Rattle.std.specs.Prelude.{◌≡◌, ◌≤◌, [], None, IfOk, IfErr};
 ghost use Rattle.flux_model.specs.declared.programs.TheConstants.{COUNT_LIMIT};
 ghost use Rattle.flux_syntax.specs.Counted.{words_of};
 ghost use Rattle.flux_syntax.specs.Words.{names_of, first_words, defined, sourced};
@@ -15,11 +15,11 @@ use crate::places::{Place, with_words_behind};
 use crate::programs::{Symbols, named_of};
 use crate::repeats::twice_named;
 use crate::rows::{CLASS_LIMIT, Known, NODE_LIMIT, Row, least};
-use crate::signatures::source_nodes;
+use crate::signatures::add_source_nodes;
 use flux_faults::{CheckFault, FaultKind};
 use flux_library::Library;
 use flux_model::Named;
-use flux_syntax::{Decl, fault_at};
+use flux_syntax::{Decl, Names, fault_at};
 use flux_values::{List, Memory};
 use std::alloc::Global;
 
@@ -87,10 +87,10 @@ fn find_by<L: Library>(
 }
 
 /// The least row that stands, at its least place.
-fn find_fault<L: Library>(
+fn find_fault<'a, L: Library>(
     alloc: Global,
-    symbols: &Symbols,
-    decls: &[Decl],
+    symbols: &Symbols<'a>,
+    decls: &'a [Decl],
     library: &L,
 ) -> Result<Option<(FaultKind, u32)>, Memory>
     requires names { symbols.now.nodes.names ≡ names_of decls.now }
@@ -100,7 +100,8 @@ fn find_fault<L: Library>(
     requires sources { symbols.now.sources ≡ names_by sourced decls.now }
     ensures { IfOk result (λ fault. fault ≡ first_fault (rows (L.meaning library.now) decls.now)) }
 {
-    let sources = source_nodes(alloc, library, decls)?;
+    let mut sources = Names::new(alloc);
+    add_source_nodes(alloc, library, decls, &mut sources)?;
     let known = Known {
         nodes: &symbols.nodes.names,
         types: &symbols.types,
@@ -108,6 +109,32 @@ fn find_fault<L: Library>(
         lines: &symbols.sources,
     };
     find_by(alloc, symbols, &known, decls, library)
+}
+
+/// The program of declarations, or their least fault, by what they name, which symbols take in first.
+fn resolve_by<'a, L: Library>(
+    alloc: Global,
+    symbols: &mut Symbols<'a>,
+    decls: &'a [Decl],
+    library: &L,
+) -> Result<Named, CheckFault>
+    requires none { symbols.old
+        ≡ record {
+          nodes = record { names = []; words = [] };
+          classes = record { classes = []; words = [] };
+          types = [];
+          sources = [];
+        } }
+    requires few { words_of decls.now ≤ COUNT_LIMIT }
+    ensures named { IfOk result (IsResolved (L.meaning library.now) decls.now) }
+    ensures fault { IfErr result (IsLeastFault
+        (first_fault (rows (L.meaning library.now) decls.now))) }
+{
+    symbols.fill(decls)?;
+    match find_fault(alloc, symbols, decls, library)? {
+        Some((kind, at)) => Err(fault_at(alloc, kind, at)),
+        None => Ok(named_of(alloc, symbols, decls)?),
+    }
 }
 
 /// The program of declarations with the places of its names, or the least of the faults 5 to 14, or 28
@@ -122,10 +149,6 @@ pub fn resolve<L: Library>(
     ensures fault { IfErr result (IsLeastFault
         (first_fault (rows (L.meaning library.now) decls.now))) }
 {
-    let decls = decls.as_slice();
-    let symbols = Symbols::of(alloc, decls)?;
-    match find_fault(alloc, &symbols, decls, library)? {
-        Some((kind, at)) => Err(fault_at(alloc, kind, at)),
-        None => Ok(named_of(alloc, &symbols, decls)?),
-    }
+    let mut symbols = Symbols::new(alloc);
+    resolve_by(alloc, &mut symbols, decls.as_slice(), library)
 }

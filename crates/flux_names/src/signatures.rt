@@ -1,13 +1,13 @@
 //! The rows on what the library has: types, nodes, predicates and session functions.
 
-ghost use Rattle.std.specs.Prelude.{◌≡◌, IfOk, option_copied};
+ghost use Rattle.std.specs.Prelude.{◌≡◌, IfOk, OnOk, option_copied};
 ghost use Rattle.std.specs.List.{flat_map, position_or_len};
 ghost use Rattle.std.specs.Prelude.{◌≤◌, ◌==◌, length};
 ghost use Rattle.flux_syntax.specs.Words.{spelling};
 ghost use Rattle.flux_syntax.specs.ProgramOfText.{library_name};
 ghost use Rattle.flux_syntax.specs.Least.{soonest};
 ghost use Rattle.flux_names.specs.Rows.{unknown_type, unknown_types_in, library_node, not_in, same_kind, is_kind, have_kinds, are_like, unlike, pattern_words, not_among, unknown_function, unknown_predicates_in, unknown_session, is_source, source_node};
-ghost use Rattle.flux_names.specs.steps.Sorts.{names_by};
+ghost use Rattle.flux_names.specs.steps.Sorts.{names_by_after};
 
 use crate::places::{Place, with_listed, with_word};
 use flux_library::Library;
@@ -290,18 +290,19 @@ fn source_node<'a, L: Library>(
     }
 }
 
-/// The names of the concrete nodes with a source role.
-pub fn source_nodes<'a, L: Library>(
+/// Adds the names of the concrete nodes with a source role.
+pub fn add_source_nodes<'a, L: Library>(
     alloc: Global,
     library: &L,
     decls: &'a [Decl],
-) -> Result<Names<'a>, Memory>
-    ensures { IfOk result (λ names.
-        names ≡ names_by (source_node (L.meaning library.now)) decls.now) }
+    names: &mut Names<'a>,
+) -> Result<(), Memory>
+    ensures { OnOk result
+        (names.new ≡
+        names_by_after (source_node (L.meaning library.now)) names.old decls.now) }
 {
-    let mut names = Names::new(alloc);
     for decl in decls {
         names.add_word(source_node(alloc, library, decl)?)?;
     }
-    Ok(names)
+    Ok(())
 }

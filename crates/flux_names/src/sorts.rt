@@ -1,11 +1,10 @@
 //! Names of lines by what they are there for.
 
-ghost use Rattle.std.specs.Prelude.{◌≡◌, option_copied, IfOk};
-ghost use Rattle.flux_names.specs.steps.Sorts.{word_of, names_by};
+ghost use Rattle.std.specs.Prelude.{◌≡◌, option_copied, OnOk};
+ghost use Rattle.flux_names.specs.steps.Sorts.{word_of, names_by_after};
 
 use flux_syntax::{Decl, Names, Word};
 use flux_values::Memory;
-use std::alloc::Global;
 
 /// What a line says of a name.
 #[derive(Clone, Copy)]
@@ -40,14 +39,13 @@ impl Sort {
         }
     }
 
-    /// The distinct names of this sort, in order of the text.
-    pub fn names<'a>(self, alloc: Global, decls: &'a [Decl]) -> Result<Names<'a>, Memory>
-        ensures { IfOk result (λ names. names ≡ names_by (word_of self) decls.now) }
+    /// Adds the names of this sort that aren't there yet, in order of the text.
+    pub fn add_names<'a>(self, names: &mut Names<'a>, decls: &'a [Decl]) -> Result<(), Memory>
+        ensures { OnOk result (names.new ≡ names_by_after (word_of self) names.old decls.now) }
     {
-        let mut names = Names::new(alloc);
         for decl in decls {
             names.add_word(self.word(decl))?;
         }
-        Ok(names)
+        Ok(())
     }
 }

@@ -4,7 +4,7 @@ use Rattle.flux_syntax.specs.Least.{soonest}
 use Rattle.flux_names.specs.steps.Sorts.{word_of}
 use Rattle.flux_names.specs.steps.Repeats.{repeated_by}
 use Rattle.flux_names.proofs.Twice.{repeated_is}
-use Rattle.flux_names.proofs.repeats.with_repeated.Goals as goal
+use Rattle.flux_names.proofs.repeats.Seen.see_all.Goals as goal
 
 pub returns : goal.returns
 returns c =
@@ -12,4 +12,4 @@ returns c =
     let decls = c.args.decls.now in
     sym (sym (ap (soonest c.args.place) (repeated_is sort decls))
     ∙ c.loop-decl.invariant
-    ∙ at_drop_all (λ ds. soonest c.loop-decl.place (repeated_by sort c.loop-decl.seen.names c.loop-decl.seen.plain ds)) decls c.loop-decl.decl-index c.loop-decl-test.false)
+    ∙ at_drop_all (λ ds. soonest c.loop-decl.place (repeated_by sort c.loop-decl.self.names c.loop-decl.self.plain ds)) decls c.loop-decl.decl-index c.loop-decl-test.false)

@@ -6,14 +6,14 @@ use Rattle.flux_syntax.specs.declared.declarations.Word.{Word}
 use Rattle.flux_syntax.specs.declared.declarations.Decl.{Decl}
 use Rattle.flux_syntax.specs.ProgramOfText.{constraints_of}
 use Rattle.flux_names.specs.steps.Classes.{classes_after, words_by}
-use Rattle.flux_names.proofs.Canonical.{classes_are, words_are, classes_append, words_append}
-use Rattle.flux_names.proofs.classes.ClassTable.of.Goals as goal
+use Rattle.flux_names.proofs.Canonical.{classes_append, words_append}
+use Rattle.flux_names.proofs.classes.ClassTable.add_lines.Goals as goal
 
 pub loop-decl-preserved : goal.loop-decl-preserved
 loop-decl-preserved c =
     let decls = c.args.decls.now in
     let i = c.loop-decl.decl-index in
-    let table = c.loop-decl.table in
+    let table = c.loop-decl.self in
     let d = c.decl-item.result in
     let rest = flat_map constraints_of (drop (i + 1) decls) in
     let lt = c.loop-decl-test.true in (
@@ -33,12 +33,12 @@ loop-decl-preserved c =
 
 pub returns-clause-classes : goal.returns-clause-classes
 returns-clause-classes c =
-    sym (sym (classes_are (flat_map constraints_of c.args.decls.now)) ∙ c.loop-decl.invariant.0
-    ∙ at_drop_all (λ (ds : List Decl). classes_after c.loop-decl.table.classes (flat_map constraints_of ds)) c.args.decls.now c.loop-decl.decl-index c.loop-decl-test.false)
+    sym (c.loop-decl.invariant.0
+    ∙ at_drop_all (λ (ds : List Decl). classes_after c.loop-decl.self.classes (flat_map constraints_of ds)) c.args.decls.now c.loop-decl.decl-index c.loop-decl-test.false)
 
 pub returns-clause-words : goal.returns-clause-words
 returns-clause-words c =
-    let table = c.loop-decl.table in
-    sym (sym (words_are (flat_map constraints_of c.args.decls.now)) ∙ c.loop-decl.invariant.1
+    let table = c.loop-decl.self in
+    sym (c.loop-decl.invariant.1
     ∙ at_drop_all (λ (ds : List Decl). table.words ++ words_by table.classes (flat_map constraints_of ds)) c.args.decls.now c.loop-decl.decl-index c.loop-decl-test.false
     ∙ append-nil table.words)
