@@ -12,7 +12,7 @@ use Rattle.flux_syntax.specs.Declares.{Declares}
 use Rattle.flux_syntax.specs.ProgramOfText.{program_of}
 use Rattle.flux_syntax.proofs.Texts.{one_list, no_decls}
 use Rattle.flux_check.specs.Judgement.{AreSound, IsTextFault}
-use Rattle.flux_serve.specs.Served.{IsServed}
+use Rattle.flux_sources.specs.Sources.{IsServed}
 use Rattle.flux_check.proofs.Exclusive.{not_both}
 use Rattle.flux_items.specs.declared.rules.ItemRules.{ItemRules}
 use Rattle.flux_items.specs.Items.{AreItemsOf}

@@ -12,7 +12,7 @@ use Rattle.flux_syntax.specs.ProgramOfText.{program_of}
 use Rattle.flux_hoist.specs.declared.checked.Checked.{Checked}
 use Rattle.flux_check.specs.Judgement.{IsTextFault, IsChecked}
 use Rattle.flux_batches.specs.declared.framing.Framing.{Framing}
-use Rattle.flux_serve.specs.Served.{IsServed, IsNotServed}
+use Rattle.flux_sources.specs.Sources.{IsServed, IsNotServed}
 use Rattle.flux_words.specs.Behind.{Serving}
 use Rattle.flux_words.specs.Commands.{Command, serve, Spells}
 use Rattle.flux_driver.specs.declared.files.TheConstants.{PROGRAM_FILE_LIMIT}

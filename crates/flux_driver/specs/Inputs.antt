@@ -9,7 +9,7 @@ use Rattle.flux_syntax.specs.ProgramOfText.{program_of}
 use Rattle.flux_check.specs.Judgement.{AreSound}
 use Rattle.flux_driver.specs.declared.files.TheConstants.{PROGRAM_FILE_LIMIT, ITEMS_FILE_LIMIT}
 use Rattle.flux_batches.specs.declared.framing.Framing.{Framing}
-use Rattle.flux_serve.specs.Served.{IsServed, IsNotServed}
+use Rattle.flux_sources.specs.Sources.{IsServed, IsNotServed}
 use Rattle.flux_driver.specs.Worlds.{Files}
 use Rattle.flux_driver.specs.Origins.{Origin, GivesText}
 use Rattle.flux_driver.specs.Items.{rules_in}

@@ -23,7 +23,7 @@ use flux_batches::Framing;
 use flux_hoist::Checked;
 use flux_library::Library;
 use flux_outside::{Folder, Store};
-use flux_serve::framing_of;
+use flux_sources::framing_of;
 use flux_values::Bytes;
 use flux_words::{Asked, Replying, read_words};
 use nodes_all::All;

@@ -5,7 +5,8 @@ ghost use Rattle.std.specs.Arc.{arc_value};
 ghost use Rattle.flux_model.specs.Kinds.{kinds_at};
 ghost use Rattle.flux_model.specs.Soundness.{IsSound};
 ghost use Rattle.flux_batches.specs.Links.{seen_by};
-ghost use Rattle.flux_serve.specs.Served.{IsServed, CanServe};
+ghost use Rattle.flux_serve.specs.Served.{CanServe};
+ghost use Rattle.flux_sources.specs.Sources.{IsServed};
 ghost use Rattle.flux_serve.specs.Batches as batches;
 ghost use Rattle.flux_driver.specs.Serving.{IsOpened, HasServedBy};
 

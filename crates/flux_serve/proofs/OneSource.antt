@@ -21,7 +21,7 @@ use Rattle.flow_state.specs.Calls.{body_name, node_name}
 use Rattle.flux_batches.specs.declared.framing.Framing.{Framing}
 use Rattle.flux_batches.specs.declared.framing.Framing.TheVariants.{Head, Line}
 use Rattle.flux_batches.specs.Links.{IsLinkItem}
-use Rattle.flux_serve.specs.Served.{role_of, IsServed}
+use Rattle.flux_sources.specs.Sources.{role_of, IsServed}
 
 gives_text : (framing : Framing) (outs : List Kind) → GivesText (role_of framing) outs → outs ≡ Int ∷ Text ∷ []
 gives_text Head outs gives = gives

@@ -16,7 +16,6 @@ mod replies;
 mod runs;
 mod serving;
 mod serving_at_once;
-mod sources;
 mod turns;
 mod workers;
 
@@ -24,4 +23,3 @@ pub use batches::ServeEnd;
 pub use runs::Served;
 pub use serving::serve;
 pub use serving_at_once::serve_at_once;
-pub use sources::framing_of;

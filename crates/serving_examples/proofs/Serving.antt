@@ -6,7 +6,7 @@ use Rattle.flux_values.specs.declared.meanings.Sig.{Sig}
 use Rattle.flux_batches.specs.declared.framing.Framing.{Framing}
 use Rattle.flux_batches.specs.declared.framing.Framing.TheVariants.{Head, Line}
 use Rattle.flux_batches.specs.Links.{Seen}
-use Rattle.flux_serve.specs.Served.{role_of, IsServed}
+use Rattle.flux_sources.specs.Sources.{role_of, IsServed}
 use Rattle.serving_examples.specs.Small.{with_role, sig_with, line, sources_of_one}
 use Rattle.serving_examples.specs.Serving.{ServingFits, ServingMisfits}
 use Rattle.serving_examples.proofs.Doors.{rose, stands}

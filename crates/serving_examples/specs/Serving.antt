@@ -5,7 +5,7 @@ use Rattle.flux_batches.specs.declared.framing.Framing.TheVariants.{Head, Line}
 use Rattle.flux_batches.specs.Links.{Seen}
 use Rattle.flux_serve.specs.declared.batches.ServeEnd.{ServeEnd}
 use Rattle.flux_serve.specs.declared.batches.ServeEnd.TheVariants.{Closed, Counted, Door}
-use Rattle.flux_serve.specs.Served.{IsServed, IsNotServed}
+use Rattle.flux_sources.specs.Sources.{IsServed, IsNotServed}
 use Rattle.flux_serve.specs.Batches.{Service, empty_cells}
 use Rattle.flux_serve.specs.Ends.{Sight, HasStopped}
 use Rattle.serving_examples.specs.Small.{link, itself, with_role, line, sources_of_one, door}

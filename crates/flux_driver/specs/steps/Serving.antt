@@ -7,7 +7,7 @@ use Rattle.flux_model.specs.Kinds.{kinds_at}
 use Rattle.flux_model.specs.Soundness.{IsSound}
 use Rattle.flux_hoist.specs.declared.checked.Checked.{Checked}
 use Rattle.flux_batches.specs.declared.framing.Framing.{Framing}
-use Rattle.flux_serve.specs.Served.{IsServed}
+use Rattle.flux_sources.specs.Sources.{IsServed}
 use Rattle.flux_words.specs.Commands.{Command, serve}
 use Rattle.flux_driver.specs.declared.services.Service.{Service}
 use Rattle.flux_driver.specs.Worlds.{Files}

@@ -1,8 +1,8 @@
-//! Which programs can be served, and how their links are read.
+//! How the links of a program are read, by the role of its one source.
 
 ghost use Rattle.std.specs.Prelude.{◌≡◌, [], ◌∷◌, Some, None, IfOk, IfSome, IfNone, MatchOption};
 ghost use Rattle.flow_state.specs.Calls.{library_name};
-ghost use Rattle.flux_serve.specs.Served.{role_of, IsServed, IsNotServed};
+ghost use Rattle.flux_sources.specs.Sources.{role_of, IsServed, IsNotServed};
 
 use flux_batches::Framing;
 use flux_library::{Library, Role};
