@@ -6,8 +6,8 @@ use Rattle.nodes_tracker.specs.declared.peers.Peer.{Peer}
 
 -- four numbers with dots between them
 abbrev pub dotted : ℕ → ℕ → ℕ → ℕ → List ℕ
-dotted a b c d =
-    decimal a ++ codes "." ++ decimal b ++ codes "." ++ decimal c ++ codes "." ++ decimal d
+dotted first second third fourth = decimal first ++ codes "." ++ decimal second ++ codes "."
+    ++ decimal third ++ codes "." ++ decimal fourth
 
 -- the number of two bytes, the higher one first, behind a colon
 abbrev pub port_of : ℕ → ℕ → List ℕ
@@ -15,7 +15,8 @@ port_of high low = codes ":" ++ decimal (256 * high + low)
 
 -- the six bytes of a peer: four of its address and two of its port; of another length: nothing
 abbrev pub printed_address : List ℕ → List ℕ
-printed_address (a ∷ b ∷ c ∷ d ∷ high ∷ low ∷ []) = dotted a b c d ++ port_of high low
+printed_address (first ∷ second ∷ third ∷ fourth ∷ high ∷ low ∷ []) =
+    dotted first second third fourth ++ port_of high low
 printed_address other = []
 
 -- a peer's line: its address and its number left

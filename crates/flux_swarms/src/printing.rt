@@ -43,8 +43,8 @@ fn append_address(alloc: Global, out: &mut Bytes, address: &[u8]) -> Result<(), 
     ensures { OnOk result (out.new ≡ out.old ++ printed_address address.now) }
 {
     match address {
-        [a, b, c, d, high, low] => {
-            append_dotted(alloc, out, *a, *b, *c, *d)?;
+        [first, second, third, fourth, high, low] => {
+            append_dotted(alloc, out, *first, *second, *third, *fourth)?;
             append_port(alloc, out, *high, *low)
         }
         _ => Ok(()),
@@ -52,16 +52,23 @@ fn append_address(alloc: Global, out: &mut Bytes, address: &[u8]) -> Result<(), 
 }
 
 /// Adds four numbers with dots between them.
-fn append_dotted(alloc: Global, out: &mut Bytes, a: u8, b: u8, c: u8, d: u8) -> Result<(), Memory>
-    ensures { OnOk result (out.new ≡ out.old ++ dotted a b c d) }
+fn append_dotted(
+    alloc: Global,
+    out: &mut Bytes,
+    first: u8,
+    second: u8,
+    third: u8,
+    fourth: u8,
+) -> Result<(), Memory>
+    ensures { OnOk result (out.new ≡ out.old ++ dotted first second third fourth) }
 {
-    append_number(alloc, out, u64::from(a))?;
+    append_number(alloc, out, u64::from(first))?;
     out.append(b".")?;
-    append_number(alloc, out, u64::from(b))?;
+    append_number(alloc, out, u64::from(second))?;
     out.append(b".")?;
-    append_number(alloc, out, u64::from(c))?;
+    append_number(alloc, out, u64::from(third))?;
     out.append(b".")?;
-    append_number(alloc, out, u64::from(d))
+    append_number(alloc, out, u64::from(fourth))
 }
 
 /// Adds the number of two bytes, of which the first counts 256, behind a colon.
