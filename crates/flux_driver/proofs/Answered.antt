@@ -1,22 +1,25 @@
 -- What is printed and said is the answer, and it is the one that is due.
-use Rattle.std.proofs.Common.{◌≡◌, ◌≤◌, ℕ, ◌⊎◌, inl, inr, List, [], Some, Result, Ok, Err, IfErr, Option, refl, sym, ap, subst, ◌∙◌, arith}
-use Rattle.std.proofs.lemmas.List.{append-nil}
+use Rattle.std.proofs.Common.{◌≡◌, ◌≤◌, ℕ, ◌⊎◌, inl, inr, List, [], Option, refl, sym, subst, ◌∙◌, arith}
 use Rattle.flux_words.specs.Commands.{Command, Spells, SpellsNone}
-use Rattle.flux_driver.specs.declared.statuses.Status.{Status}
-use Rattle.flux_driver.specs.declared.statuses.Status.TheVariants as statuses
-use Rattle.flux_driver.specs.declared.prepared.Prepared.{Prepared}
-use Rattle.flux_driver.specs.declared.prepared.Prepared.TheVariants.{Text, No}
-use Rattle.flux_driver.specs.declared.refusals.Refusal.{Refusal}
-use Rattle.flux_driver.specs.declared.refusals.Refusal.TheVariants as refusals
+use Rattle.flux_commands.specs.declared.statuses.Status.{Status}
+use Rattle.flux_commands.specs.declared.statuses.Status.TheVariants as statuses
+use Rattle.flux_commands.specs.declared.prepared.Prepared.{Prepared}
+use Rattle.flux_commands.specs.declared.prepared.Prepared.TheVariants.{Text, No}
+use Rattle.flux_commands.specs.declared.refusals.Refusal.{Refusal}
+use Rattle.flux_commands.specs.declared.refusals.Refusal.TheVariants as refusals
 use Rattle.flux_outside.specs.Streams.{Stream, Wrote, Broke, WroteOrBroke}
-use Rattle.flux_driver.specs.Worlds.{Told, Doorway}
-use Rattle.flux_driver.specs.Causes.{write_line}
-use Rattle.flux_driver.specs.Answers.{Libraries, IsAnswer, OrMemory}
-use Rattle.flux_driver.specs.Documents.{WithDocs}
-use Rattle.flux_driver.specs.Commands.{folder_of}
-use Rattle.flux_driver.specs.Top.{SpellNoServe, AreFiles, IsStopped, AsksFor, HasAsked, MayBreak, HasAnswered, RoseForReading, Decides, IsComplete, HasDone}
-use Rattle.flux_driver.specs.steps.Refusals.{status_of, line_of}
-use Rattle.flux_driver.specs.steps.Preparing.{status_with, AsksAll, IsRefusedAll, AreSteady, CountsBothRefusal, AnswersDue, AnswersWords, PreparesWords}
+use Rattle.flux_commands.specs.Told.{Told}
+use Rattle.flux_driver.specs.Seen.{Doorway}
+use Rattle.flux_commands.specs.Causes.{write_line}
+use Rattle.flux_commands.specs.Answers.{Libraries, IsAnswer, OrMemory}
+use Rattle.flux_commands.specs.Documents.{WithDocs}
+use Rattle.flux_commands.specs.Commands.{folder_of}
+use Rattle.flux_driver.specs.Top.{SpellNoServe, MayBreak, HasAnswered, RoseForReading, Decides, IsComplete, HasDone}
+use Rattle.flux_commands.specs.Asked.{AreFiles, IsStopped, AsksFor, HasAsked}
+use Rattle.flux_commands.specs.Refusals.{status_of, line_of}
+use Rattle.flux_commands.specs.Prepared.{status_with, PreparesWords}
+use Rattle.flux_commands.specs.Counts.{AreSteady, CountsBothRefusal}
+use Rattle.flux_commands.specs.Due.{AnswersWords}
 use Rattle.flux_driver.specs.steps.Telling.{IsTold, IsWritten, IsNoWritten, IsPut}
 use Rattle.flux_outside.proofs.Writes.{wrote_none}
 
@@ -65,44 +68,6 @@ counted (refusals.Static line) status s t f g same read own = steady_counts stat
 counted (refusals.Items fault) status s t f g same read own = steady_counts status s t f g same (not_read status statuses.Items (λ e. absurd cc) own)
 counted (refusals.Missing name) status s t f g same read own = steady_counts status s t f g same (not_read status statuses.Missing (λ e. absurd cc) own)
 counted refusals.Memory status s t f g same read own = steady_counts status s t f g same (not_read status statuses.Memory (λ e. absurd cc) own)
-
--- ---- words
-
-module _ (library : Libraries) (words : List (List ℕ)) (told : Told) where
-  pub words_asked : (command : Command) (status : Status) (folder folder_after store store_after : List (List ℕ)) → Spells words command
-      → AsksAll library command told status folder folder_after store store_after → HasAsked library words told status folder folder_after store store_after
-  words_asked command status folder folder_after store store_after spelled asks = record {
-    dirs = asks.dirs;
-    names = asks.names;
-    folder_ = asks.folder_;
-    store_ = asks.store_;
-    are = inr (command, spelled, asks.are);
-  }
-
-  pub nothing_asked : (status : Status) (folder store : List (List ℕ)) → SpellsNone words ⊎ (status ≡ statuses.Memory) → HasAsked library words told status folder folder store store
-  nothing_asked status folder store why = record {
-    dirs = [];
-    names = [];
-    folder_ = sym (append-nil folder);
-    store_ = sym (append-nil store);
-    are = inl (refl, refl, why);
-  }
-
-  pub words_refused : (command : Command) (refusal : Refusal) → Spells words command → IsRefusedAll library command told refusal → IsAnswer library words told (status_of refusal) [] (line_of refusal)
-  words_refused command refusal spelled (inl decided) = inr (inl (record { command = command; spelled = spelled; cause = inl decided }))
-  words_refused command refusal spelled (inr (inl happened)) = inr (inl (record { command = command; spelled = spelled; cause = inr happened }))
-  words_refused command refusal spelled (inr (inr short)) = inr (inr (ap status_of short, refl, ap line_of short))
-
-  pub result_refused : (command : Command) (result : Result Prepared Refusal) → Spells words command → IfErr result (IsRefusedAll library command told) → IfErr result (λ refusal. IsAnswer library words told (status_of refusal) [] (line_of refusal))
-  result_refused command (Ok prepared) spelled refused = tt
-  result_refused command (Err refusal) spelled refused = words_refused command refusal spelled refused
-
-  -- the words spell this command alone
-  pub words_due : (command : Command) (status : Status) → ((other : Command) → Spells words other → ◌≡◌ {A = Option Command} (Some command) (Some other)) → AnswersDue library command told status → AnswersWords library words told status
-  words_due command status only due other spelled =
-      let e = only other spelled in
-      let same : command ≡ other = cc in
-      subst (λ (x : Command). AnswersDue library x told status) same due
 
 -- ---- what was asked for, at another status
 

@@ -1,16 +1,6 @@
 pub mod Steps
-pub mod Named
-pub mod Once
-pub mod Fitting
-pub mod RuleLists
-pub mod Runs
-pub mod Loading
-pub mod Swarming
-pub mod Documented
 pub mod Answered
 pub mod Told
-pub mod Passed
-pub mod Readied
 pub mod Serves
 pub mod ServedBy
 pub mod ServedDone

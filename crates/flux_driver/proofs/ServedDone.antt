@@ -14,22 +14,24 @@ use Rattle.flux_serve.specs.Batches.{Service}
 use Rattle.flux_serve.specs.AtOnce.{HasServedAtOnce}
 use Rattle.flux_serve.proofs.AtOnceSeen.{at_once_door_rose, at_once_door_same, at_once_log_rose, at_once_log_same}
 use Rattle.flux_words.specs.Behind.{Serving}
-use Rattle.flux_words.specs.Commands.{Command, serve, Spells}
-use Rattle.flux_driver.specs.declared.statuses.Status.{Status}
-use Rattle.flux_driver.specs.declared.statuses.Status.TheVariants as statuses
-use Rattle.flux_driver.specs.declared.services.Service as services
-use Rattle.flux_driver.specs.Origins.{named}
-use Rattle.flux_driver.specs.Worlds.{Link, Seen}
-use Rattle.flux_driver.specs.Inputs.{HasServable}
-use Rattle.flux_driver.specs.Documents.{AreDocs}
-use Rattle.flux_driver.specs.Answers.{Libraries, OrMemory}
+use Rattle.flux_words.specs.Commands.{serve, Spells}
+use Rattle.flux_commands.specs.declared.statuses.Status.{Status}
+use Rattle.flux_commands.specs.declared.statuses.Status.TheVariants as statuses
+use Rattle.flux_commands.specs.declared.services.Service as services
+use Rattle.flux_commands.specs.Origins.{named}
+use Rattle.flux_driver.specs.Seen.{Link, Seen}
+use Rattle.flux_commands.specs.Inputs.{HasServable}
+use Rattle.flux_commands.specs.Documents.{AreDocs}
+use Rattle.flux_commands.specs.Answers.{Libraries, OrMemory}
 use Rattle.flux_driver.specs.Serving.{end_status, end_line, sight_of, IsOpened, HasServedBy, HasServedFile}
-use Rattle.flux_driver.specs.Top.{HasAsked, MayBreak, AreLater, Decides, IsComplete, HasDone}
-use Rattle.flux_driver.specs.steps.Preparing.{AreSteady, AnswersWords}
-use Rattle.flux_driver.specs.steps.Serving.{command_of, IsReady}
+use Rattle.flux_commands.specs.Asked.{HasAsked}
+use Rattle.flux_driver.specs.Top.{MayBreak, AreLater, Decides, IsComplete, HasDone}
+use Rattle.flux_commands.specs.Counts.{AreSteady}
+use Rattle.flux_commands.specs.Due.{AnswersWords}
+use Rattle.flux_commands.specs.Ready.{command_of, IsReady}
 use Rattle.flux_driver.proofs.Answered.{asked_then}
 use Rattle.flux_driver.proofs.ServedBy.{at_once_of}
-use Rattle.flux_driver.proofs.Readied.{has_servable}
+use Rattle.flux_commands.proofs.Readied.{has_servable}
 
 -- ---- ends by their statuses
 

@@ -1,14 +1,6 @@
--- Small steps of reasoning on answers.
-use Rattle.std.proofs.Common.{◌≡◌, Result, Ok, Err, IfOk, IfErr}
-use Rattle.flux_driver.specs.Worlds.{Files, Folders, Told}
-
-pub if_ok : {A B : Type 0} (P Q : A → Type 0) (r : Result A B) → ((x : A) → P x → Q x) → IfOk r P → IfOk r Q
-if_ok P Q (Ok x) f p = f x p
-if_ok P Q (Err e) f p = tt
-
-pub if_err : {A B : Type 0} (P Q : B → Type 0) (r : Result A B) → ((e : B) → P e → Q e) → IfErr r P → IfErr r Q
-if_err P Q (Ok x) f p = tt
-if_err P Q (Err e) f p = f e p
+-- Small steps of reasoning on what is seen.
+use Rattle.std.proofs.Common.{◌≡◌}
+use Rattle.flux_commands.specs.Told.{Files, Folders, Told}
 
 -- what is told of both stays where each stays
 pub told_same : (files files_after : Files) (folders folders_after : Folders) → files_after ≡ files → folders_after ≡ folders → ◌≡◌ {A = Told} (record { files = files_after; folders = folders_after }) (record { files = files; folders = folders })

@@ -1,10 +1,10 @@
 -- What is told of a refusal.
 use Rattle.std.proofs.Common.{◌≡◌, inl, refl, sym, subst}
-use Rattle.flux_driver.specs.declared.statuses.Status.TheVariants as statuses
-use Rattle.flux_driver.specs.declared.refusals.Refusal.{Refusal}
-use Rattle.flux_driver.specs.declared.refusals.Refusal.TheVariants.{Read}
+use Rattle.flux_commands.specs.declared.statuses.Status.TheVariants as statuses
+use Rattle.flux_commands.specs.declared.refusals.Refusal.{Refusal}
+use Rattle.flux_commands.specs.declared.refusals.Refusal.TheVariants.{Read}
 use Rattle.flux_outside.specs.Streams.{Stream, WroteOrBroke}
-use Rattle.flux_driver.specs.Causes.{read_line}
+use Rattle.flux_commands.specs.Causes.{read_line}
 use Rattle.flux_driver.specs.steps.Telling.{IsTold}
 
 pub told_read : (refusal : Refusal) (before after : Stream) → refusal ≡ Read → WroteOrBroke before after read_line → IsTold refusal statuses.Read before after

@@ -13,14 +13,14 @@ use Rattle.flux_words.specs.declared.replies.Replying.{Replying}
 use Rattle.flux_words.specs.declared.replies.Replying.TheVariants.{AtEnd, AtOnce}
 use Rattle.flux_words.specs.Behind.{Serving}
 use Rattle.flux_words.specs.Commands.{serve, Spells}
-use Rattle.flux_driver.specs.declared.statuses.Status.{Status}
-use Rattle.flux_driver.specs.declared.statuses.Status.TheVariants as statuses
-use Rattle.flux_driver.specs.Worlds.{Link, Seen}
-use Rattle.flux_driver.specs.Origins.{named}
-use Rattle.flux_driver.specs.Inputs.{HasServable}
-use Rattle.flux_driver.specs.Documents.{AreDocs}
-use Rattle.flux_driver.specs.Causes.{door_line, write_line}
-use Rattle.flux_driver.specs.Answers.{Libraries}
+use Rattle.flux_commands.specs.declared.statuses.Status.{Status}
+use Rattle.flux_commands.specs.declared.statuses.Status.TheVariants as statuses
+use Rattle.flux_driver.specs.Seen.{Link, Seen}
+use Rattle.flux_commands.specs.Origins.{named}
+use Rattle.flux_commands.specs.Inputs.{HasServable}
+use Rattle.flux_commands.specs.Documents.{AreDocs}
+use Rattle.flux_commands.specs.Causes.{door_line, write_line}
+use Rattle.flux_commands.specs.Answers.{Libraries}
 
 -- the status with which serving ends
 abbrev pub end_status : ServeEnd → Status

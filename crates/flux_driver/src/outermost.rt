@@ -2,18 +2,15 @@
 
 ghost use Rattle.std.specs.Prelude.{◌≡◌, [], IfOk, IsErr};
 ghost use Rattle.flux_words.specs.Commands.{Command, Spells, IsServe, NeedsThreads};
-ghost use Rattle.flux_driver.specs.BuiltIn.{built_in, meaning_in};
-ghost use Rattle.flux_driver.specs.Worlds.{Seen, seen_by, door_by, link_by};
+ghost use Rattle.flux_commands.specs.BuiltIn.{built_in, meaning_in};
+ghost use Rattle.flux_driver.specs.Seen.{Seen, seen_by, door_by, link_by};
 ghost use Rattle.flux_driver.specs.Top.{HasDone};
-ghost use Rattle.flux_driver.specs.steps.Running.{CanDrive, DrivesTo};
+ghost use Rattle.flux_commands.specs.Driving.{CanDrive, DrivesTo};
 
-use crate::asking::prepare_words;
-use crate::running::{drive_alone, drive_by_threads};
-use crate::services::ready_words;
 use crate::serving::serve_ready;
-use crate::statuses::Status;
 use crate::telling::{print, refuse, tell_end};
 use flow_core::{Core, Gate};
+use flux_commands::{Status, drive_alone, drive_by_threads, prepare_words, ready_words};
 use flux_doors::{Door, Link};
 use flux_outside::{Folder, Sink, Store};
 use flux_values::{Bytes, List, Memory};

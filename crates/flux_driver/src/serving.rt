@@ -10,9 +10,9 @@ ghost use Rattle.flux_sources.specs.Sources.{IsServed};
 ghost use Rattle.flux_serve.specs.Batches as batches;
 ghost use Rattle.flux_driver.specs.Serving.{IsOpened, HasServedBy};
 
-use crate::services::{Ready, Service};
 use flow_core::Gate;
 use flux_batches::Framing;
+use flux_commands::{Ready, Service};
 use flux_compile::compile;
 use flux_doors::Door;
 use flux_hoist::Checked;

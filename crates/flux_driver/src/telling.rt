@@ -5,9 +5,7 @@ ghost use Rattle.flux_outside.specs.Streams.{WroteOrBroke};
 ghost use Rattle.flux_driver.specs.Serving.{end_status, end_line};
 ghost use Rattle.flux_driver.specs.steps.Telling.{IsTold, IsPut};
 
-use crate::prepared::Prepared;
-use crate::refusals::Refusal;
-use crate::statuses::Status;
+use flux_commands::{Prepared, Refusal, Status};
 use flux_outside::{Sink, write_all};
 use flux_serve::ServeEnd;
 use std::alloc::Global;

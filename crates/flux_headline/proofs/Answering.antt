@@ -7,17 +7,18 @@ use Rattle.flux_outside.specs.Streams.{Stream, Gains, Wrote, Broke, WroteOrBroke
 use Rattle.flux_words.specs.Behind.{Serving}
 use Rattle.flux_words.specs.Commands.{Command, serve, Spells}
 use Rattle.flux_words.proofs.OneCommand.{one_command}
-use Rattle.flux_driver.specs.declared.statuses.Status.{Status}
-use Rattle.flux_driver.specs.declared.statuses.Status.TheVariants as statuses
-use Rattle.flux_driver.specs.Worlds.{Told, Seen}
-use Rattle.flux_driver.specs.Documents.{AreDocs, WithDocs, TellsAll}
-use Rattle.flux_driver.specs.Commands.{folder_of}
-use Rattle.flux_driver.specs.Causes.{IsStatic, IsItems, IsMissing, IsUnserved}
+use Rattle.flux_commands.specs.declared.statuses.Status.{Status}
+use Rattle.flux_commands.specs.declared.statuses.Status.TheVariants as statuses
+use Rattle.flux_commands.specs.Told.{Told}
+use Rattle.flux_driver.specs.Seen.{Seen}
+use Rattle.flux_commands.specs.Documents.{AreDocs, WithDocs, TellsAll}
+use Rattle.flux_commands.specs.Commands.{folder_of}
+use Rattle.flux_commands.specs.Causes.{IsStatic, IsItems, IsMissing, IsUnserved}
 use Rattle.flux_driver.specs.Serving.{HasServedWords}
-use Rattle.flux_driver.specs.Answers.{Libraries, Decided, Happened, IsAnswer, OrMemory}
+use Rattle.flux_commands.specs.Answers.{Libraries, Decided, Happened, IsAnswer, OrMemory}
 use Rattle.flux_driver.specs.Top.{HasAnswered, HasDone}
 use Rattle.flux_headline.specs.Headline.{NoneRose}
-use Rattle.flux_driver.proofs.Documented.{docs_once, not_both}
+use Rattle.flux_commands.proofs.Documented.{docs_once, not_both}
 
 -- an empty line is all that was said
 pub silent : (before after : Stream) (line : List ℕ) → line ≡ [] → WroteOrBroke before after line → Gains before after []

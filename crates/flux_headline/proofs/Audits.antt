@@ -3,16 +3,17 @@ use Rattle.std.proofs.Common.{◌≡◌, ◌⊎◌, inl, inr, ℕ, List, Option,
 use Rattle.flux_values.specs.Meanings.{LibraryMeaning}
 use Rattle.flux_words.specs.Commands.{audit}
 use Rattle.flux_outside.specs.Streams.{Gains, Wrote, Broke, WroteOrBroke}
-use Rattle.flux_driver.specs.declared.files.TheConstants.{PROGRAM_FILE_LIMIT, ITEMS_FILE_LIMIT, JOURNAL_FILE_LIMIT}
-use Rattle.flux_driver.specs.declared.statuses.Status.{Status}
-use Rattle.flux_driver.specs.declared.statuses.Status.TheVariants as statuses
-use Rattle.flux_driver.specs.Worlds.{IsLost, Told, Seen}
-use Rattle.flux_driver.specs.Origins.{named}
-use Rattle.flux_driver.specs.Documents.{TellsAll}
-use Rattle.flux_driver.specs.Causes.{IsStatic, IsItemsText, AreItemsLost, IsJournalLost, IsMissing}
-use Rattle.flux_driver.specs.Answers.{Libraries, Decided, OrMemory}
+use Rattle.flux_commands.specs.declared.files.TheConstants.{PROGRAM_FILE_LIMIT, ITEMS_FILE_LIMIT, JOURNAL_FILE_LIMIT}
+use Rattle.flux_commands.specs.declared.statuses.Status.{Status}
+use Rattle.flux_commands.specs.declared.statuses.Status.TheVariants as statuses
+use Rattle.flux_commands.specs.Told.{IsLost, Told}
+use Rattle.flux_driver.specs.Seen.{Seen}
+use Rattle.flux_commands.specs.Origins.{named}
+use Rattle.flux_commands.specs.Documents.{TellsAll}
+use Rattle.flux_commands.specs.Causes.{IsStatic, IsItemsText, AreItemsLost, IsJournalLost, IsMissing}
+use Rattle.flux_commands.specs.Answers.{Libraries, Decided, OrMemory}
 use Rattle.flux_headline.specs.Audits.{HasAgreed, YesIsTrue, HasRefuted, NoIsTrue, IsAuditable, AuditsAreAnswered}
-use Rattle.flux_driver.proofs.Once.{not_lost, gives_here, not_faulty, fault_here}
+use Rattle.flux_commands.proofs.Once.{not_lost, gives_here, not_faulty, fault_here}
 use Rattle.flux_headline.proofs.Answering.{silent, gained, answered_of, of_done, of_no, done_or_no, not_read, not_write, answered_by}
 
 module _ (library : Libraries) (before after : Seen) (file items journal : List ℕ) (dir : Option (List ℕ)) where

@@ -2,12 +2,12 @@
 use Rattle.std.proofs.Common.{◌≡◌, ◌⊎◌, inl, inr, ℕ, List, refl}
 use Rattle.flux_words.specs.Commands.{Command, Spells, SpellsNone, IsServe}
 use Rattle.flux_words.specs.Commands.{check, plan, format, run, audit, load, serve, help, simulate, swarm}
-use Rattle.flux_driver.specs.declared.statuses.Status.{Status}
-use Rattle.flux_driver.specs.declared.statuses.Status.TheVariants as statuses
-use Rattle.flux_driver.specs.Worlds.{Seen}
+use Rattle.flux_commands.specs.declared.statuses.Status.{Status}
+use Rattle.flux_commands.specs.declared.statuses.Status.TheVariants as statuses
+use Rattle.flux_driver.specs.Seen.{Seen}
 use Rattle.flux_serve.specs.declared.batches.ServeEnd.{ServeEnd}
 use Rattle.flux_serve.specs.declared.batches.ServeEnd.TheVariants as ends
-use Rattle.flux_driver.specs.Answers.{Libraries, Decided, Happened, IsAnswer, OrMemory}
+use Rattle.flux_commands.specs.Answers.{Libraries, Decided, Happened, IsAnswer, OrMemory}
 use Rattle.flux_driver.specs.Serving.{end_status, HasServedWords}
 use Rattle.flux_driver.specs.Top.{HasAnswered, HasDone, Decides, SpellNoServe}
 use Rattle.flux_headline.proofs.Answering.{of_command, not_read, not_write}

@@ -5,16 +5,17 @@ use Rattle.flux_load.specs.Loads.{program_text, items_text}
 use Rattle.flux_words.specs.declared.values.Runtime.{Runtime}
 use Rattle.flux_words.specs.Commands.{load}
 use Rattle.flux_outside.specs.Streams.{Gains, WroteOrBroke}
-use Rattle.flux_driver.specs.declared.files.TheConstants.{PROGRAM_FILE_LIMIT}
-use Rattle.flux_driver.specs.declared.statuses.Status.{Status}
-use Rattle.flux_driver.specs.declared.statuses.Status.TheVariants as statuses
-use Rattle.flux_driver.specs.Worlds.{IsLost, Told, Seen}
-use Rattle.flux_driver.specs.Origins.{named, made}
-use Rattle.flux_driver.specs.Documents.{TellsAll}
-use Rattle.flux_driver.specs.Causes.{IsStatic, IsItemsText, IsMissing}
-use Rattle.flux_driver.specs.Answers.{Libraries, Decided, Happened, OrMemory}
+use Rattle.flux_commands.specs.declared.files.TheConstants.{PROGRAM_FILE_LIMIT}
+use Rattle.flux_commands.specs.declared.statuses.Status.{Status}
+use Rattle.flux_commands.specs.declared.statuses.Status.TheVariants as statuses
+use Rattle.flux_commands.specs.Told.{IsLost, Told}
+use Rattle.flux_driver.specs.Seen.{Seen}
+use Rattle.flux_commands.specs.Origins.{named, made}
+use Rattle.flux_commands.specs.Documents.{TellsAll}
+use Rattle.flux_commands.specs.Causes.{IsStatic, IsItemsText, IsMissing}
+use Rattle.flux_commands.specs.Answers.{Libraries, Decided, Happened, OrMemory}
 use Rattle.flux_headline.specs.Loads.{HasLoaded, LoadsAreTrue, IsLoadable, LoadsAreAnswered}
-use Rattle.flux_driver.proofs.Once.{gives_here, not_faulty, fault_here}
+use Rattle.flux_commands.proofs.Once.{gives_here, not_faulty, fault_here}
 use Rattle.flux_headline.proofs.Answering.{silent, gained, answered_of, of_done, done_or_no, not_read, not_write, answered_by}
 
 has_loaded : (library : Libraries) (before after : Seen) (count first : ℕ) (runtime : Runtime) (text line : List ℕ) → Decided library (load count first runtime) before.told statuses.Done text line → Gains before.out after.out text → WroteOrBroke before.err after.err line → HasLoaded library before after count first runtime

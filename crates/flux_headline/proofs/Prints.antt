@@ -4,17 +4,18 @@ use Rattle.flux_values.specs.Meanings.{LibraryMeaning}
 use Rattle.flux_words.specs.Behind.{Serving}
 use Rattle.flux_words.specs.Commands.{Command, check, plan, format, help, serve}
 use Rattle.flux_outside.specs.Streams.{Gains, WroteOrBroke}
-use Rattle.flux_driver.specs.declared.files.TheConstants.{PROGRAM_FILE_LIMIT}
-use Rattle.flux_driver.specs.declared.statuses.Status.{Status}
-use Rattle.flux_driver.specs.declared.statuses.Status.TheVariants as statuses
-use Rattle.flux_driver.specs.Worlds.{Files, IsLost, Told, Seen}
-use Rattle.flux_driver.specs.Origins.{named}
-use Rattle.flux_driver.specs.Documents.{AreDocs, TellsAll}
-use Rattle.flux_driver.specs.Commands.{folder_of, TellsFiles}
-use Rattle.flux_driver.specs.Causes.{IsStatic, IsItems, AreItemsLost, IsJournalLost, IsMissing, IsUnserved}
-use Rattle.flux_driver.specs.Answers.{Libraries, Decided, Happened, OrMemory}
+use Rattle.flux_commands.specs.declared.files.TheConstants.{PROGRAM_FILE_LIMIT}
+use Rattle.flux_commands.specs.declared.statuses.Status.{Status}
+use Rattle.flux_commands.specs.declared.statuses.Status.TheVariants as statuses
+use Rattle.flux_commands.specs.Told.{Files, IsLost, Told}
+use Rattle.flux_driver.specs.Seen.{Seen}
+use Rattle.flux_commands.specs.Origins.{named}
+use Rattle.flux_commands.specs.Documents.{AreDocs, TellsAll}
+use Rattle.flux_commands.specs.Commands.{folder_of, TellsFiles}
+use Rattle.flux_commands.specs.Causes.{IsStatic, IsItems, AreItemsLost, IsJournalLost, IsMissing, IsUnserved}
+use Rattle.flux_commands.specs.Answers.{Libraries, Decided, Happened, OrMemory}
 use Rattle.flux_headline.specs.Prints.{IsLook, HasPrinted, PrintsAreTrue, LooksAt, CanLook, LooksAreAnswered}
-use Rattle.flux_driver.proofs.Once.{IsSoundOf, sound_of, format_sound, sound_static, late_missing}
+use Rattle.flux_commands.proofs.Once.{IsSoundOf, sound_of, format_sound, sound_static, late_missing}
 use Rattle.flux_headline.proofs.Answering.{silent, gained, answered_of, of_done, done_or_no, not_read, not_write, answered_by}
 
 no_folder : (command : Command) → IsLook command → folder_of command ≡ None

@@ -6,10 +6,10 @@ use Rattle.flux_serve.specs.declared.batches.ServeEnd.TheVariants.{Closed, Count
 use Rattle.flux_words.specs.Behind.{Serving}
 use Rattle.flux_words.specs.Commands.{Command, serve, Spells}
 use Rattle.flux_words.proofs.OneCommand.{one_command}
-use Rattle.flux_driver.specs.declared.statuses.Status.{Status}
-use Rattle.flux_driver.specs.declared.statuses.Status.TheVariants as statuses
-use Rattle.flux_driver.specs.Worlds.{Seen}
-use Rattle.flux_driver.specs.Answers.{Libraries, OrMemory}
+use Rattle.flux_commands.specs.declared.statuses.Status.{Status}
+use Rattle.flux_commands.specs.declared.statuses.Status.TheVariants as statuses
+use Rattle.flux_driver.specs.Seen.{Seen}
+use Rattle.flux_commands.specs.Answers.{Libraries, OrMemory}
 use Rattle.flux_driver.specs.Serving.{end_status, HasServedFile, HasServedWords}
 use Rattle.flux_driver.specs.Top.{HasAnswered, HasDone, Decides}
 use Rattle.flux_headline.specs.ServedHeadline.{HasServedOut, ServingIsTrue, ServingIsAnswered}

@@ -10,16 +10,17 @@ use Rattle.flux_audit.specs.declared.verdicts.Verdict.{Verdict}
 use Rattle.flux_audit.specs.declared.verdicts.Verdict.TheVariants.{Yes, No}
 use Rattle.flux_audit.specs.Printed.{printed_verdict}
 use Rattle.flux_words.specs.Commands.{audit, Spells}
-use Rattle.flux_driver.specs.declared.files.TheConstants.{JOURNAL_FILE_LIMIT}
-use Rattle.flux_driver.specs.declared.statuses.Status.{Status}
-use Rattle.flux_driver.specs.declared.statuses.Status.TheVariants as statuses
-use Rattle.flux_driver.specs.Worlds.{Told, Seen, Gives}
-use Rattle.flux_driver.specs.Origins.{named}
-use Rattle.flux_driver.specs.Documents.{AreDocs, TellsAll}
-use Rattle.flux_driver.specs.Inputs.{HasItems}
-use Rattle.flux_driver.specs.Items.{rules_in}
-use Rattle.flux_driver.specs.Audited.{IsAudited}
-use Rattle.flux_driver.specs.Answers.{Libraries, OrMemory}
+use Rattle.flux_commands.specs.declared.files.TheConstants.{JOURNAL_FILE_LIMIT}
+use Rattle.flux_commands.specs.declared.statuses.Status.{Status}
+use Rattle.flux_commands.specs.declared.statuses.Status.TheVariants as statuses
+use Rattle.flux_commands.specs.Told.{Told, Gives}
+use Rattle.flux_driver.specs.Seen.{Seen}
+use Rattle.flux_commands.specs.Origins.{named}
+use Rattle.flux_commands.specs.Documents.{AreDocs, TellsAll}
+use Rattle.flux_commands.specs.Inputs.{HasItems}
+use Rattle.flux_commands.specs.Items.{rules_in}
+use Rattle.flux_commands.specs.Audited.{IsAudited}
+use Rattle.flux_commands.specs.Answers.{Libraries, OrMemory}
 use Rattle.flux_driver.specs.Top.{HasDone}
 use Rattle.flux_headline.specs.Headline.{NoneRose}
 

@@ -4,12 +4,12 @@ use Rattle.std.specs.Prelude.{◌≡◌, ◌⊎◌, List, [], ℕ}
 use Rattle.flux_outside.specs.Causes.{Rose}
 use Rattle.flux_outside.specs.Streams.{Wrote, Broke, WroteOrBroke}
 use Rattle.flux_words.specs.Commands.{Command, Spells, SpellsNone, IsServe}
-use Rattle.flux_driver.specs.declared.statuses.Status.{Status}
-use Rattle.flux_driver.specs.declared.statuses.Status.TheVariants as statuses
-use Rattle.flux_driver.specs.Worlds.{Seen}
-use Rattle.flux_driver.specs.Documents.{TellsAll}
-use Rattle.flux_driver.specs.Causes.{read_line, write_line}
-use Rattle.flux_driver.specs.Answers.{Libraries, Prints, Decided, OrMemory}
+use Rattle.flux_commands.specs.declared.statuses.Status.{Status}
+use Rattle.flux_commands.specs.declared.statuses.Status.TheVariants as statuses
+use Rattle.flux_driver.specs.Seen.{Seen}
+use Rattle.flux_commands.specs.Documents.{TellsAll}
+use Rattle.flux_commands.specs.Causes.{read_line, write_line}
+use Rattle.flux_commands.specs.Answers.{Libraries, Prints, Decided, OrMemory}
 use Rattle.flux_driver.specs.Serving.{HasServedWords}
 use Rattle.flux_driver.specs.Top.{HasDone, MayBreak}
 use Rattle.flux_headline.specs.Headline.{NoneRose}

@@ -50,14 +50,15 @@ use Rattle.flux_words.specs.Commands.{run, Spells}
 use Rattle.flux_runs.specs.Setups.{setup_of}
 use Rattle.flux_runs.specs.Printed.{printed_in}
 use Rattle.rt_all.specs.Orders.{IsOrderOf}
-use Rattle.flux_driver.specs.declared.files.TheConstants.{PROGRAM_FILE_LIMIT, ITEMS_FILE_LIMIT}
-use Rattle.flux_driver.specs.declared.statuses.Status.{Status}
-use Rattle.flux_driver.specs.declared.statuses.Status.TheVariants as statuses
+use Rattle.flux_commands.specs.declared.files.TheConstants.{PROGRAM_FILE_LIMIT, ITEMS_FILE_LIMIT}
+use Rattle.flux_commands.specs.declared.statuses.Status.{Status}
+use Rattle.flux_commands.specs.declared.statuses.Status.TheVariants as statuses
 use Rattle.flux_outside.specs.Streams.{Gains}
-use Rattle.flux_driver.specs.Worlds.{Told, Seen, Gives}
-use Rattle.flux_driver.specs.Documents.{AreDocs, TellsAll}
-use Rattle.flux_driver.specs.Items.{rules_in}
-use Rattle.flux_driver.specs.Answers.{Libraries, OrMemory}
+use Rattle.flux_commands.specs.Told.{Told, Gives}
+use Rattle.flux_driver.specs.Seen.{Seen}
+use Rattle.flux_commands.specs.Documents.{AreDocs, TellsAll}
+use Rattle.flux_commands.specs.Items.{rules_in}
+use Rattle.flux_commands.specs.Answers.{Libraries, OrMemory}
 use Rattle.flux_driver.specs.Top.{HasDone}
 
 -- what a run reads, as the world tells it, where `file` and `items` are the names of two files:

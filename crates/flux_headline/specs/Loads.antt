@@ -8,15 +8,16 @@ use Rattle.flux_load.specs.Loads.{program_text, items_text}
 use Rattle.flux_words.specs.declared.values.Runtime.{Runtime}
 use Rattle.flux_words.specs.Commands.{load, Spells}
 use Rattle.flux_runs.specs.declared.printing.Printing.TheVariants.{Summary}
-use Rattle.flux_driver.specs.declared.statuses.Status.{Status}
-use Rattle.flux_driver.specs.declared.statuses.Status.TheVariants as statuses
-use Rattle.flux_driver.specs.Worlds.{Told, Seen}
-use Rattle.flux_driver.specs.Origins.{made}
-use Rattle.flux_driver.specs.Documents.{AreDocs}
-use Rattle.flux_driver.specs.Inputs.{HasItems}
-use Rattle.flux_driver.specs.Items.{rules_in}
-use Rattle.flux_driver.specs.TrueRuns.{IsRunText}
-use Rattle.flux_driver.specs.Answers.{Libraries, OrMemory}
+use Rattle.flux_commands.specs.declared.statuses.Status.{Status}
+use Rattle.flux_commands.specs.declared.statuses.Status.TheVariants as statuses
+use Rattle.flux_commands.specs.Told.{Told}
+use Rattle.flux_driver.specs.Seen.{Seen}
+use Rattle.flux_commands.specs.Origins.{made}
+use Rattle.flux_commands.specs.Documents.{AreDocs}
+use Rattle.flux_commands.specs.Inputs.{HasItems}
+use Rattle.flux_commands.specs.Items.{rules_in}
+use Rattle.flux_commands.specs.TrueRuns.{IsRunText}
+use Rattle.flux_commands.specs.Answers.{Libraries, OrMemory}
 use Rattle.flux_driver.specs.Top.{HasDone}
 use Rattle.flux_headline.specs.Headline.{NoneRose}
 

@@ -6,15 +6,16 @@ use Rattle.flux_items.specs.declared.rules.ItemFault.{ItemFault}
 use Rattle.flux_items.specs.Faults.{IsFaultOf}
 use Rattle.flux_words.specs.Behind.{Simulating}
 use Rattle.flux_words.specs.Commands.{simulate, Spells}
-use Rattle.flux_driver.specs.declared.statuses.Status.{Status}
-use Rattle.flux_driver.specs.declared.statuses.Status.TheVariants as statuses
-use Rattle.flux_driver.specs.Worlds.{Told, Seen}
-use Rattle.flux_driver.specs.Origins.{named}
-use Rattle.flux_driver.specs.Documents.{AreDocs, TellsAll}
-use Rattle.flux_driver.specs.Inputs.{HasItems}
-use Rattle.flux_driver.specs.Items.{rules_in}
-use Rattle.flux_driver.specs.Simulated.{IsSimulated}
-use Rattle.flux_driver.specs.Answers.{Libraries, OrMemory}
+use Rattle.flux_commands.specs.declared.statuses.Status.{Status}
+use Rattle.flux_commands.specs.declared.statuses.Status.TheVariants as statuses
+use Rattle.flux_commands.specs.Told.{Told}
+use Rattle.flux_driver.specs.Seen.{Seen}
+use Rattle.flux_commands.specs.Origins.{named}
+use Rattle.flux_commands.specs.Documents.{AreDocs, TellsAll}
+use Rattle.flux_commands.specs.Inputs.{HasItems}
+use Rattle.flux_commands.specs.Items.{rules_in}
+use Rattle.flux_commands.specs.Simulated.{IsSimulated}
+use Rattle.flux_commands.specs.Answers.{Libraries, OrMemory}
 use Rattle.flux_driver.specs.Top.{HasDone}
 use Rattle.flux_headline.specs.Headline.{NoneRose}
 

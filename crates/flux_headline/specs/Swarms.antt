@@ -5,14 +5,14 @@ use Rattle.flux_library.specs.Documents.{DocMap}
 use Rattle.flux_outside.specs.Streams.{Gains}
 use Rattle.flux_words.specs.Commands.{swarm, Spells}
 use Rattle.tracker_peers.specs.Tracked.{HasTrackersNodes}
-use Rattle.flux_driver.specs.declared.statuses.Status.{Status}
-use Rattle.flux_driver.specs.declared.statuses.Status.TheVariants as statuses
-use Rattle.flux_driver.specs.Worlds.{Seen}
-use Rattle.flux_driver.specs.Origins.{named}
-use Rattle.flux_driver.specs.Documents.{AreDocs, TellsAll}
-use Rattle.flux_driver.specs.Swarmed.{IsSwarmed}
-use Rattle.flux_driver.specs.Answers.{Libraries, OrMemory}
-use Rattle.flux_driver.specs.BuiltIn.{built_in}
+use Rattle.flux_commands.specs.declared.statuses.Status.{Status}
+use Rattle.flux_commands.specs.declared.statuses.Status.TheVariants as statuses
+use Rattle.flux_driver.specs.Seen.{Seen}
+use Rattle.flux_commands.specs.Origins.{named}
+use Rattle.flux_commands.specs.Documents.{AreDocs, TellsAll}
+use Rattle.flux_commands.specs.Swarmed.{IsSwarmed}
+use Rattle.flux_commands.specs.Answers.{Libraries, OrMemory}
+use Rattle.flux_commands.specs.BuiltIn.{built_in}
 use Rattle.flux_driver.specs.Top.{HasDone}
 use Rattle.flux_headline.specs.Headline.{NoneRose}
 use Rattle.flux_headline.specs.Audits.{HasRefuted, IsAuditable}

@@ -12,7 +12,7 @@ use Rattle.flux_words.specs.declared.values.TheConstants.{DIGIT_LIMIT, NUMBER_LI
 use Rattle.flux_words.specs.declared.values.TheConstants.{PORT_LIMIT, BATCHES_LIMIT}
 use Rattle.flux_words.specs.declared.loads.TheConstants.{LOAD_LIMIT, FIRST_LIMIT}
 use Rattle.flux_words.specs.declared.costs.TheConstants.{PROCESSOR_LIMIT, COST_LIMIT, COSTS_LIMIT}
-use Rattle.flux_driver.specs.declared.files.TheConstants.{PROGRAM_FILE_LIMIT, ITEMS_FILE_LIMIT, JOURNAL_FILE_LIMIT}
+use Rattle.flux_commands.specs.declared.files.TheConstants.{PROGRAM_FILE_LIMIT, ITEMS_FILE_LIMIT, JOURNAL_FILE_LIMIT}
 use Rattle.nodes_cache.specs.declared.entries.TheConstants.{NAME_LIMIT, ENTRY_LIMIT}
 use Rattle.nodes_tracker.specs.declared.peers.TheConstants.{PEER_LIMIT}
 use Rattle.nodes_tracker.specs.declared.replies.TheConstants.{SHOWN_LIMIT}

@@ -4,7 +4,7 @@
 ghost use Rattle.std.specs.Prelude.{◌≡◌, ◌≢◌, [], drop, map, string_bytes, IfOk, IfErr, IsErr, Ok};
 ghost use Rattle.std.specs.IoError.{error_kind};
 ghost use Rattle.std.specs.Process.{exit_status};
-ghost use Rattle.flux_driver.specs.Statuses.{code_of};
+ghost use Rattle.flux_commands.specs.Statuses.{code_of};
 
 use flux_doors::{Door, RealDoor};
 use flux_driver::{OpenGate, Status, World, answer};

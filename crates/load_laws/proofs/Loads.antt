@@ -13,20 +13,21 @@ use Rattle.flux_load.specs.Loads.{program_text, items_text}
 use Rattle.flux_words.specs.declared.loads.TheConstants.{LOAD_LIMIT}
 use Rattle.flux_words.specs.declared.values.Runtime.{Runtime}
 use Rattle.flux_words.specs.Commands.{load, Spells}
-use Rattle.flux_driver.specs.declared.files.TheConstants.{PROGRAM_FILE_LIMIT}
-use Rattle.flux_driver.specs.declared.statuses.Status.{Status}
-use Rattle.flux_driver.specs.declared.statuses.Status.TheVariants as statuses
-use Rattle.flux_driver.specs.Worlds.{IsLost, Told, Seen}
-use Rattle.flux_driver.specs.Origins.{named, made}
-use Rattle.flux_driver.specs.Inputs.{HasItems}
-use Rattle.flux_driver.specs.Items.{rules_in}
-use Rattle.flux_driver.specs.Causes.{IsStatic, IsItemsText, IsMissing}
-use Rattle.flux_driver.specs.BuiltIn.{built_in}
-use Rattle.flux_driver.specs.Answers.{Decided, Happened, OrMemory}
+use Rattle.flux_commands.specs.declared.files.TheConstants.{PROGRAM_FILE_LIMIT}
+use Rattle.flux_commands.specs.declared.statuses.Status.{Status}
+use Rattle.flux_commands.specs.declared.statuses.Status.TheVariants as statuses
+use Rattle.flux_commands.specs.Told.{IsLost, Told}
+use Rattle.flux_driver.specs.Seen.{Seen}
+use Rattle.flux_commands.specs.Origins.{named, made}
+use Rattle.flux_commands.specs.Inputs.{HasItems}
+use Rattle.flux_commands.specs.Items.{rules_in}
+use Rattle.flux_commands.specs.Causes.{IsStatic, IsItemsText, IsMissing}
+use Rattle.flux_commands.specs.BuiltIn.{built_in}
+use Rattle.flux_commands.specs.Answers.{Decided, Happened, OrMemory}
 use Rattle.flux_driver.specs.Top.{HasDone}
 use Rattle.flux_headline.specs.Headline.{NoneRose}
 use Rattle.flux_headline.specs.Loads.{IsLoadable}
-use Rattle.flux_driver.proofs.Once.{gives_here, not_faulty, fault_here}
+use Rattle.flux_commands.proofs.Once.{gives_here, not_faulty, fault_here}
 use Rattle.flux_headline.proofs.Answering.{answered_of, of_command}
 use Rattle.load_laws.specs.Declarations.{program_decls}
 use Rattle.load_laws.specs.Loads.{LoadsAreLoadable, IsDoneOrUnwritten, LoadsEndSo, LoadsAreDone, NoLoadHasFault}

@@ -4,11 +4,12 @@ use Rattle.flux_outside.specs.Causes.{Rose}
 use Rattle.flux_words.specs.declared.loads.TheConstants.{LOAD_LIMIT}
 use Rattle.flux_words.specs.declared.values.Runtime.{Runtime}
 use Rattle.flux_words.specs.Commands.{load, Spells}
-use Rattle.flux_driver.specs.declared.statuses.Status.{Status}
-use Rattle.flux_driver.specs.declared.statuses.Status.TheVariants as statuses
-use Rattle.flux_driver.specs.Worlds.{Told, Seen}
-use Rattle.flux_driver.specs.BuiltIn.{built_in}
-use Rattle.flux_driver.specs.Answers.{OrMemory}
+use Rattle.flux_commands.specs.declared.statuses.Status.{Status}
+use Rattle.flux_commands.specs.declared.statuses.Status.TheVariants as statuses
+use Rattle.flux_commands.specs.Told.{Told}
+use Rattle.flux_driver.specs.Seen.{Seen}
+use Rattle.flux_commands.specs.BuiltIn.{built_in}
+use Rattle.flux_commands.specs.Answers.{OrMemory}
 use Rattle.flux_driver.specs.Top.{HasDone}
 use Rattle.flux_headline.specs.Headline.{NoneRose}
 use Rattle.flux_headline.specs.Loads.{IsLoadable}

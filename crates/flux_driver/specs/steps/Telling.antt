@@ -1,14 +1,14 @@
 -- Steps of a command: what is written at the end.
 use Rattle.std.specs.Prelude.{◌≡◌, ◌⊎◌, List, ℕ, []}
-use Rattle.flux_driver.specs.declared.prepared.Prepared.{Prepared}
-use Rattle.flux_driver.specs.declared.prepared.Prepared.TheVariants.{Text, No}
-use Rattle.flux_driver.specs.declared.statuses.Status.{Status}
-use Rattle.flux_driver.specs.declared.statuses.Status.TheVariants as statuses
-use Rattle.flux_driver.specs.declared.refusals.Refusal.{Refusal}
-use Rattle.flux_driver.specs.declared.refusals.Refusal.TheVariants.{Read}
+use Rattle.flux_commands.specs.declared.prepared.Prepared.{Prepared}
+use Rattle.flux_commands.specs.declared.prepared.Prepared.TheVariants.{Text, No}
+use Rattle.flux_commands.specs.declared.statuses.Status.{Status}
+use Rattle.flux_commands.specs.declared.statuses.Status.TheVariants as statuses
+use Rattle.flux_commands.specs.declared.refusals.Refusal.{Refusal}
+use Rattle.flux_commands.specs.declared.refusals.Refusal.TheVariants.{Read}
 use Rattle.flux_outside.specs.Streams.{Stream, Wrote, Broke, WroteOrBroke}
-use Rattle.flux_driver.specs.Causes.{write_line}
-use Rattle.flux_driver.specs.steps.Refusals.{status_of, line_of}
+use Rattle.flux_commands.specs.Causes.{write_line}
+use Rattle.flux_commands.specs.Refusals.{status_of, line_of}
 
 -- a refusal's line was written; or there was no memory for it, which can't be where reading failed
 pub record IsTold (refusal : Refusal) (status : Status) (before after : Stream) : Type 0 where

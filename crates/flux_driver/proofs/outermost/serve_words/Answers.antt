@@ -1,6 +1,6 @@
 use Rattle.std.specs.Arc.{arc_value}
-use Rattle.flux_driver.specs.BuiltIn.{built_in}
-use Rattle.flux_driver.specs.Worlds.{Link, link_by}
+use Rattle.flux_commands.specs.BuiltIn.{built_in}
+use Rattle.flux_driver.specs.Seen.{Link, link_by}
 use Rattle.flux_driver.proofs.Steps.{told_same}
 use Rattle.flux_driver.proofs.Answered.{told_done}
 use Rattle.flux_driver.proofs.Serves.{serves_some}

@@ -1,0 +1,12 @@
+pub mod Steps
+pub mod Named
+pub mod Once
+pub mod Fitting
+pub mod RuleLists
+pub mod Runs
+pub mod Loading
+pub mod Swarming
+pub mod Documented
+pub mod Words
+pub mod Passed
+pub mod Readied

@@ -1,0 +1,163 @@
+-- Why a command prints nothing: the cause of each status, and its line on `err`.
+use Rattle.std.specs.Prelude.{◌≡◌, ℕ, ◌⊎◌, List, [], ◌++◌, codes}
+use Rattle.std.specs.Fmt.{decimal}
+use Rattle.flux_values.specs.Meanings.{LibraryMeaning}
+use Rattle.flux_faults.specs.declared.faults.StaticFault.{StaticFault}
+use Rattle.flux_faults.specs.Faults.{printed_fault}
+use Rattle.flux_syntax.specs.declared.declarations.Decl.{Decl}
+use Rattle.flux_syntax.specs.Unexpected.{IsFaulty}
+use Rattle.flux_check.specs.Judgement.{IsTextFault}
+use Rattle.flux_items.specs.declared.rules.ItemFault.{ItemFault}
+use Rattle.flux_items.specs.declared.rules.ItemFault.TheVariants as items_
+use Rattle.flux_items.specs.Faults.{line_of, IsFaultOf}
+use Rattle.flux_load.specs.Loads.{program_text, items_text}
+use Rattle.flux_words.specs.Commands.{Command, check, plan, format, run, audit, load, serve, help, simulate, swarm}
+use Rattle.flux_commands.specs.declared.files.TheConstants.{PROGRAM_FILE_LIMIT, ITEMS_FILE_LIMIT, JOURNAL_FILE_LIMIT}
+use Rattle.flux_commands.specs.Told.{Files, IsLost}
+use Rattle.flux_commands.specs.Origins.{Origin, named, made, GivesText}
+use Rattle.flux_commands.specs.Commands.{ReadsProgram}
+use Rattle.flux_commands.specs.Inputs.{HasProgram, HasItems, GivesItems, HasUnservable}
+use Rattle.flux_commands.specs.Items.{rules_in}
+
+-- ---- lines
+
+abbrev pub usage_line : List ℕ
+usage_line = codes "flux: bad command line, try flux --help\n"
+
+abbrev pub fault_text : List ℕ → StaticFault → List ℕ
+fault_text text fault = printed_fault text fault ++ codes "\n"
+
+-- an item fault's number and name
+abbrev pub item_fault_name : ItemFault → List ℕ
+item_fault_name (items_.BadItem line) = codes "1 BadItem"
+item_fault_name (items_.UnknownSource line) = codes "2 UnknownSource"
+item_fault_name (items_.ItemTypes line) = codes "3 ItemTypes"
+item_fault_name (items_.TooMany line) = codes "4 TooMany"
+item_fault_name items_.Memory = []
+
+abbrev pub item_fault_line : ItemFault → List ℕ
+item_fault_line fault = codes "line " ++ decimal (line_of fault)
+    ++ codes ": item fault " ++ item_fault_name fault ++ codes "\n"
+
+abbrev pub read_line : List ℕ
+read_line = codes "flux: read failed\n"
+
+abbrev pub write_line : List ℕ
+write_line = codes "flux: write failed\n"
+
+abbrev pub door_line : List ℕ
+door_line = codes "flux: door failed\n"
+
+abbrev pub not_served_line : List ℕ
+not_served_line = codes "flux: not a served program\n"
+
+abbrev pub lost_line : List ℕ → List ℕ
+lost_line name = codes "flux: missing or too long: " ++ name ++ codes "\n"
+
+-- ---- the program's text has a fault
+
+-- the fault of a program's text that a command looks for: `format` looks for faults 1 to 4 alone
+abbrev pub IsStaticOf : LibraryMeaning → Command → List ℕ → StaticFault → Type 0
+IsStaticOf meaning (check file) text fault = IsTextFault meaning text fault
+IsStaticOf meaning (plan file) text fault = IsTextFault meaning text fault
+IsStaticOf meaning (format file) text fault = IsFaulty fault.kind fault.at text × (fault.path ≡ [])
+IsStaticOf meaning (run file items manner) text fault = IsTextFault meaning text fault
+IsStaticOf meaning (audit file items journal docs) text fault = IsTextFault meaning text fault
+IsStaticOf meaning (load count first runtime) text fault = IsTextFault meaning text fault
+IsStaticOf meaning (serve file serving) text fault = IsTextFault meaning text fault
+IsStaticOf meaning help text fault = ⊥
+IsStaticOf meaning (simulate file items simulating) text fault = IsTextFault meaning text fault
+IsStaticOf meaning (swarm file items journal hash docs) text fault = IsTextFault meaning text fault
+
+pub record IsStatic (meaning : LibraryMeaning) (command : Command) (told : Files) (line : List ℕ)
+    : Type 0 where
+  pub program : Origin
+  pub reads : ReadsProgram command program
+  pub text : List ℕ
+  pub gives : GivesText told program PROGRAM_FILE_LIMIT text
+  pub fault : StaticFault
+  pub stands : IsStaticOf meaning command text fault
+  pub said : line ≡ fault_text text fault
+
+-- ---- the items text has a fault
+
+pub record IsItemsText (meaning : LibraryMeaning) (told : Files) (program items : Origin)
+    (line : List ℕ) : Type 0 where
+  pub has : HasItems meaning told program items
+  pub fault : ItemFault
+  pub stands : let own = has.program_ in IsFaultOf (rules_in meaning has.decls own.sound) fault has.text
+  pub said : line ≡ item_fault_line fault
+
+abbrev pub IsItems : LibraryMeaning → Command → Files → List ℕ → Type 0
+IsItems meaning (check file) told line = ⊥
+IsItems meaning (plan file) told line = ⊥
+IsItems meaning (format file) told line = ⊥
+IsItems meaning (run file items manner) told line =
+    IsItemsText meaning told (named file) (named items) line
+IsItems meaning (audit file items journal docs) told line =
+    IsItemsText meaning told (named file) (named items) line
+IsItems meaning (load count first runtime) told line =
+    IsItemsText meaning told (made program_text) (made (items_text count first)) line
+IsItems meaning (serve file serving) told line = ⊥
+IsItems meaning help told line = ⊥
+IsItems meaning (simulate file items simulating) told line =
+    IsItemsText meaning told (named file) (named items) line
+IsItems meaning (swarm file items journal hash docs) told line =
+    IsItemsText meaning told (named file) (named items) line
+
+-- ---- a file isn't there, or is past its limit
+
+-- the items file of a sound program
+pub record IsItemsFileLost (meaning : LibraryMeaning) (told : Files) (file items name : List ℕ)
+    : Type 0 where
+  pub is : name ≡ items
+  pub lost : IsLost told items ITEMS_FILE_LIMIT
+  pub decls : List Decl
+  pub program_ : HasProgram meaning told (named file) decls
+
+abbrev pub AreItemsLost : LibraryMeaning → Command → Files → List ℕ → Type 0
+AreItemsLost meaning (run file items manner) told name =
+    IsItemsFileLost meaning told file items name
+AreItemsLost meaning (audit file items journal docs) told name =
+    IsItemsFileLost meaning told file items name
+AreItemsLost meaning (simulate file items simulating) told name =
+    IsItemsFileLost meaning told file items name
+AreItemsLost meaning (swarm file items journal hash docs) told name =
+    IsItemsFileLost meaning told file items name
+AreItemsLost meaning other told name = ⊥
+
+-- the journal's file, behind the items
+pub record IsJournalFileLost (meaning : LibraryMeaning) (told : Files)
+    (file items journal name : List ℕ) : Type 0 where
+  pub is : name ≡ journal
+  pub lost : IsLost told journal JOURNAL_FILE_LIMIT
+  pub given : GivesItems meaning told (named file) (named items)
+
+abbrev pub IsJournalLost : LibraryMeaning → Command → Files → List ℕ → Type 0
+IsJournalLost meaning (audit file items journal docs) told name =
+    IsJournalFileLost meaning told file items journal name
+IsJournalLost meaning (swarm file items journal hash docs) told name =
+    IsJournalFileLost meaning told file items journal name
+IsJournalLost meaning other told name = ⊥
+
+-- the program's file, or that of the items, or that of the journal
+pub record IsMissing (meaning : LibraryMeaning) (command : Command) (told : Files) (line : List ℕ)
+    : Type 0 where
+  pub name : List ℕ
+  pub lost : (ReadsProgram command (named name) × IsLost told name PROGRAM_FILE_LIMIT)
+      ⊎ (AreItemsLost meaning command told name ⊎ IsJournalLost meaning command told name)
+  pub said : line ≡ lost_line name
+
+-- ---- a sound program can't be served
+
+abbrev pub IsUnserved : LibraryMeaning → Command → Files → List ℕ → Type 0
+IsUnserved meaning (check file) told line = ⊥
+IsUnserved meaning (plan file) told line = ⊥
+IsUnserved meaning (format file) told line = ⊥
+IsUnserved meaning (run file items manner) told line = ⊥
+IsUnserved meaning (audit file items journal docs) told line = ⊥
+IsUnserved meaning (load count first runtime) told line = ⊥
+IsUnserved meaning (serve file serving) told line = HasUnservable meaning told (named file) × (line ≡ not_served_line)
+IsUnserved meaning help told line = ⊥
+IsUnserved meaning (simulate file items simulating) told line = ⊥
+IsUnserved meaning (swarm file items journal hash docs) told line = ⊥

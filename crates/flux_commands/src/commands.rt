@@ -1,0 +1,336 @@
+//! The commands: each makes all of its text before any of it is written.
+
+ghost use Rattle.std.specs.Prelude.{◌≡◌, ◌≤◌, IfOk, IfErr, ℕ, List, Option};
+ghost use Rattle.std.specs.Arc.{arc_value};
+ghost use Rattle.flux_words.specs.Commands.{IsServe, check, plan, format, audit, load, swarm};
+ghost use Rattle.flux_words.specs.Asking.{asked};
+ghost use Rattle.flux_commands.specs.BuiltIn.{meaning_in};
+ghost use Rattle.flux_commands.specs.Told.{Files};
+ghost use Rattle.flux_commands.specs.Printed.{help_text};
+ghost use Rattle.flux_commands.specs.steps.Refusals.{Counts, IsRefused};
+ghost use Rattle.flux_commands.specs.Driving.{CanDrive};
+ghost use Rattle.flux_commands.specs.steps.Preparing.{run_of, simulate_of, AsksFiles, IsPrepared, IsFirm};
+ghost use Rattle.flux_commands.specs.Prepared.{prepared_status};
+
+use crate::audited::{audit_text, swarm_text};
+use crate::files::{JOURNAL_FILE_LIMIT, PROGRAM_FILE_LIMIT, load};
+use crate::loaded::{Loaded, load_files, load_texts};
+use crate::prepared::Prepared;
+use crate::refusals::Refusal;
+use crate::running::{Wanted, run_items};
+use crate::texts::{check_text, read_text};
+use flow_core::Core;
+use flux_hoist::{print_plan, report};
+use flux_library::Library;
+use flux_load::make;
+use flux_outside::Store;
+use flux_runs::{Printing, simulate_items};
+use flux_syntax::format;
+use flux_values::{Bytes, Memory};
+use flux_words::{Asked, Costs, JournalFormat, Processors, Runtime};
+use nodes_all::All;
+use std::alloc::Global;
+use std::sync::Arc;
+
+/// What `help` prints: a line for each command that is built.
+const HELP: &[u8] =
+    b"flux check FILE\nflux plan FILE\nflux format FILE\nflux run FILE ITEMS [--runtime R] [--docs DIR] [--journal J]\nflux audit FILE ITEMS JOURNAL [--docs DIR]\nflux load N K [--runtime R]\nflux serve FILE --port P [--docs DIR] [--batches B] [--runtime R] [--at-once W]\nflux help or --help\nflux simulate FILE ITEMS --processors N [--costs LIST] [--docs DIR]\nflux swarm FILE ITEMS JOURNAL HASH [--docs DIR]\n";
+
+/// The report that `check` prints.
+fn prepare_check<'a, L: Library, S: Store>(
+    alloc: Global,
+    library: &L,
+    store: &mut S,
+    file: &'a [u8],
+) -> Result<Prepared, Refusal<'a>>
+    ensures kept { S.files store.new ≡ S.files store.old }
+    ensures later { S.faults store.old ≤ S.faults store.new }
+    ensures asked { AsksFiles (L.meaning library.now) (check file.now) (S.files store.old)
+        (S.asked store.old) (S.asked store.new) }
+    ensures done { IfOk result (IsPrepared (L.meaning library.now) (check file.now)
+        (S.files store.old)) }
+    ensures refused { IfErr result (IsRefused (L.meaning library.now) (check file.now)
+        (S.files store.old)) }
+    ensures counts { Counts result (S.faults store.old) (S.faults store.new) }
+    ensures firm { IsFirm (L.meaning library.now) (check file.now) (S.files store.old)
+        (prepared_status result) }
+{
+    let text = load(alloc, store, file, PROGRAM_FILE_LIMIT)?;
+    let checked = check_text(alloc, library, text.as_bytes())?;
+    let text = report(alloc, &checked.program, &checked.order, &checked.sets)?;
+    Ok(Prepared::Text(text))
+}
+
+/// The plan that `plan` prints.
+fn prepare_plan<'a, L: Library, S: Store>(
+    alloc: Global,
+    library: &L,
+    store: &mut S,
+    file: &'a [u8],
+) -> Result<Prepared, Refusal<'a>>
+    ensures kept { S.files store.new ≡ S.files store.old }
+    ensures later { S.faults store.old ≤ S.faults store.new }
+    ensures asked { AsksFiles (L.meaning library.now) (plan file.now) (S.files store.old)
+        (S.asked store.old) (S.asked store.new) }
+    ensures done { IfOk result (IsPrepared (L.meaning library.now) (plan file.now)
+        (S.files store.old)) }
+    ensures refused { IfErr result (IsRefused (L.meaning library.now) (plan file.now)
+        (S.files store.old)) }
+    ensures counts { Counts result (S.faults store.old) (S.faults store.new) }
+    ensures firm { IsFirm (L.meaning library.now) (plan file.now) (S.files store.old)
+        (prepared_status result) }
+{
+    let text = load(alloc, store, file, PROGRAM_FILE_LIMIT)?;
+    let checked = check_text(alloc, library, text.as_bytes())?;
+    Ok(Prepared::Text(print_plan(alloc, &checked, library)?))
+}
+
+/// The text that `format` prints.
+fn prepare_format<'a, L: Library, S: Store>(
+    alloc: Global,
+    library: &L,
+    store: &mut S,
+    file: &'a [u8],
+) -> Result<Prepared, Refusal<'a>>
+    ensures kept { S.files store.new ≡ S.files store.old }
+    ensures later { S.faults store.old ≤ S.faults store.new }
+    ensures asked { AsksFiles (L.meaning library.now) (format file.now) (S.files store.old)
+        (S.asked store.old) (S.asked store.new) }
+    ensures done { IfOk result (IsPrepared (L.meaning library.now) (format file.now)
+        (S.files store.old)) }
+    ensures refused { IfErr result (IsRefused (L.meaning library.now) (format file.now)
+        (S.files store.old)) }
+    ensures counts { Counts result (S.faults store.old) (S.faults store.new) }
+    ensures firm { IsFirm (L.meaning library.now) (format file.now) (S.files store.old)
+        (prepared_status result) }
+{
+    let _ = library;
+    let text = load(alloc, store, file, PROGRAM_FILE_LIMIT)?;
+    let decls = read_text(alloc, text.as_bytes())?;
+    Ok(Prepared::Text(format(alloc, &decls)?))
+}
+
+/// The journal that `run` prints.
+fn prepare_run<'a, S: Store, D: Fn(Core<All>, Runtime) -> Result<Core<All>, Memory>>(
+    alloc: Global,
+    library: Arc<All>,
+    store: &mut S,
+    driver: &D,
+    file: &'a [u8],
+    items: &'a [u8],
+    runtime: Runtime,
+    journal: JournalFormat,
+) -> Result<Prepared, Refusal<'a>>
+    requires { CanDrive (D.pre driver.now) (D.post driver.now) }
+    ensures kept { S.files store.new ≡ S.files store.old }
+    ensures later { S.faults store.old ≤ S.faults store.new }
+    ensures asked { (docs : Option (List ℕ)) → AsksFiles (meaning_in (arc_value library))
+        (run_of file.now items.now runtime docs journal) (S.files store.old)
+        (S.asked store.old) (S.asked store.new) }
+    ensures done { (docs : Option (List ℕ)) → IfOk result (IsPrepared (meaning_in (arc_value library))
+        (run_of file.now items.now runtime docs journal) (S.files store.old)) }
+    ensures refused { (docs : Option (List ℕ)) → IfErr result (IsRefused (meaning_in (arc_value library))
+        (run_of file.now items.now runtime docs journal) (S.files store.old)) }
+    ensures counts { Counts result (S.faults store.old) (S.faults store.new) }
+    ensures firm { (docs : Option (List ℕ)) → IsFirm (meaning_in (arc_value library))
+        (run_of file.now items.now runtime docs journal) (S.files store.old)
+        (prepared_status result) }
+{
+    let loaded = load_files(alloc, &*library, store, file, items)?;
+    let printing = Printing::Journal(journal);
+    let wanted = Wanted { runtime, printing };
+    let text = run_items(alloc, library, loaded.checked, loaded.items, wanted, driver)?;
+    Ok(Prepared::Text(text))
+}
+
+/// The verdict that `audit` prints.
+fn prepare_audit<'a, L: Library, S: Store>(
+    alloc: Global,
+    library: Arc<L>,
+    store: &mut S,
+    file: &'a [u8],
+    items: &'a [u8],
+    journal: &'a [u8],
+) -> Result<Prepared, Refusal<'a>>
+    ensures kept { S.files store.new ≡ S.files store.old }
+    ensures later { S.faults store.old ≤ S.faults store.new }
+    ensures asked { (docs : Option (List ℕ)) → AsksFiles (L.meaning (arc_value library))
+        (audit file.now items.now journal.now docs) (S.files store.old)
+        (S.asked store.old) (S.asked store.new) }
+    ensures done { (docs : Option (List ℕ)) → IfOk result (IsPrepared (L.meaning (arc_value library))
+        (audit file.now items.now journal.now docs) (S.files store.old)) }
+    ensures refused { (docs : Option (List ℕ)) → IfErr result (IsRefused (L.meaning (arc_value library))
+        (audit file.now items.now journal.now docs) (S.files store.old)) }
+    ensures counts { Counts result (S.faults store.old) (S.faults store.new) }
+    ensures firm { (docs : Option (List ℕ)) → IsFirm (L.meaning (arc_value library))
+        (audit file.now items.now journal.now docs) (S.files store.old)
+        (prepared_status result) }
+{
+    let loaded = load_files(alloc, &*library, store, file, items)?;
+    let text = load(alloc, store, journal, JOURNAL_FILE_LIMIT)?;
+    let Loaded { checked, items } = loaded;
+    Ok(audit_text(alloc, library, checked, items, text.as_bytes())?)
+}
+
+/// The summary that `load` prints.
+fn prepare_load<'a, D: Fn(Core<All>, Runtime) -> Result<Core<All>, Memory>>(
+    alloc: Global,
+    library: Arc<All>,
+    driver: &D,
+    count: u32,
+    first: u32,
+    runtime: Runtime,
+) -> Result<Prepared, Refusal<'a>>
+    requires { CanDrive (D.pre driver.now) (D.post driver.now) }
+    ensures done { (told : Files) → IfOk result (IsPrepared (meaning_in (arc_value library))
+        (load count first runtime) told) }
+    ensures refused { (told : Files) → IfErr result (IsRefused (meaning_in (arc_value library))
+        (load count first runtime) told) }
+    ensures counts { (faults : ℕ) → Counts result faults faults }
+    ensures firm { (told : Files) → IsFirm (meaning_in (arc_value library))
+        (load count first runtime) told (prepared_status result) }
+{
+    let (program, items) = make(alloc, count, first)?;
+    let loaded = load_texts(alloc, &*library, program.as_bytes(), items.as_bytes())?;
+    let printing = Printing::Summary;
+    let wanted = Wanted { runtime, printing };
+    let summary = run_items(alloc, library, loaded.checked, loaded.items, wanted, driver)?;
+    Ok(Prepared::Text(summary))
+}
+
+/// The three lines that `simulate` prints.
+fn prepare_simulation<'a, L: Library, S: Store>(
+    alloc: Global,
+    library: Arc<L>,
+    store: &mut S,
+    file: &'a [u8],
+    items: &'a [u8],
+    processors: Processors,
+    costs: Costs,
+) -> Result<Prepared, Refusal<'a>>
+    ensures kept { S.files store.new ≡ S.files store.old }
+    ensures later { S.faults store.old ≤ S.faults store.new }
+    ensures asked { (docs : Option (List ℕ)) → AsksFiles (L.meaning (arc_value library))
+        (simulate_of file.now items.now processors.count costs.list docs) (S.files store.old)
+        (S.asked store.old) (S.asked store.new) }
+    ensures done { (docs : Option (List ℕ)) → IfOk result (IsPrepared (L.meaning (arc_value library))
+        (simulate_of file.now items.now processors.count costs.list docs) (S.files store.old)) }
+    ensures refused { (docs : Option (List ℕ)) → IfErr result (IsRefused (L.meaning (arc_value library))
+        (simulate_of file.now items.now processors.count costs.list docs) (S.files store.old)) }
+    ensures counts { Counts result (S.faults store.old) (S.faults store.new) }
+    ensures firm { (docs : Option (List ℕ)) → IsFirm (L.meaning (arc_value library))
+        (simulate_of file.now items.now processors.count costs.list docs) (S.files store.old)
+        (prepared_status result) }
+{
+    let loaded = load_files(alloc, &*library, store, file, items)?;
+    let text = simulate_items(
+        alloc,
+        library,
+        loaded.checked,
+        loaded.items,
+        processors,
+        &costs,
+    )?;
+    Ok(Prepared::Text(text))
+}
+
+/// The peers that `swarm` prints.
+fn prepare_swarm<'a, L: Library, S: Store>(
+    alloc: Global,
+    library: Arc<L>,
+    store: &mut S,
+    file: &'a [u8],
+    items: &'a [u8],
+    journal: &'a [u8],
+    hash: &[u8],
+) -> Result<Prepared, Refusal<'a>>
+    ensures kept { S.files store.new ≡ S.files store.old }
+    ensures later { S.faults store.old ≤ S.faults store.new }
+    ensures asked { (docs : Option (List ℕ)) → AsksFiles (L.meaning (arc_value library))
+        (swarm file.now items.now journal.now hash.now docs) (S.files store.old)
+        (S.asked store.old) (S.asked store.new) }
+    ensures done { (docs : Option (List ℕ)) → IfOk result (IsPrepared (L.meaning (arc_value library))
+        (swarm file.now items.now journal.now hash.now docs) (S.files store.old)) }
+    ensures refused { (docs : Option (List ℕ)) → IfErr result (IsRefused (L.meaning (arc_value library))
+        (swarm file.now items.now journal.now hash.now docs) (S.files store.old)) }
+    ensures counts { Counts result (S.faults store.old) (S.faults store.new) }
+    ensures firm { (docs : Option (List ℕ)) → IsFirm (L.meaning (arc_value library))
+        (swarm file.now items.now journal.now hash.now docs) (S.files store.old)
+        (prepared_status result) }
+{
+    let loaded = load_files(alloc, &*library, store, file, items)?;
+    let text = load(alloc, store, journal, JOURNAL_FILE_LIMIT)?;
+    let Loaded { checked, items } = loaded;
+    Ok(swarm_text(alloc, library, checked, items, text.as_bytes(), hash)?)
+}
+
+/// What `help` prints.
+fn prepare_help(alloc: Global) -> Result<Bytes, Memory>
+    ensures { IfOk result (λ text. text ≡ help_text) }
+{
+    Bytes::copy(alloc, HELP)
+}
+
+/// What a command prints, with a library.
+pub fn prepare<'a, S: Store, D: Fn(Core<All>, Runtime) -> Result<Core<All>, Memory>>(
+    alloc: Global,
+    library: Arc<All>,
+    store: &mut S,
+    driver: &D,
+    wanted: Asked<'a>,
+) -> Result<Prepared, Refusal<'a>>
+    requires driver { CanDrive (D.pre driver.now) (D.post driver.now) }
+    requires printed { IsServe (asked wanted) → ⊥ }
+    ensures kept { S.files store.new ≡ S.files store.old }
+    ensures later { S.faults store.old ≤ S.faults store.new }
+    ensures asked { AsksFiles (meaning_in (arc_value library)) (asked wanted.entry)
+        (S.files store.old) (S.asked store.old) (S.asked store.new) }
+    ensures done { IfOk result (IsPrepared (meaning_in (arc_value library)) (asked wanted.entry)
+        (S.files store.old)) }
+    ensures refused { IfErr result (IsRefused (meaning_in (arc_value library)) (asked wanted.entry)
+        (S.files store.old)) }
+    ensures counts { Counts result (S.faults store.old) (S.faults store.new) }
+    ensures firm { IsFirm (meaning_in (arc_value library)) (asked wanted.entry)
+        (S.files store.old) (prepared_status result) }
+{
+    match wanted {
+        Asked::Check { file } => prepare_check(alloc, &*library, store, file),
+        Asked::Plan { file } => prepare_plan(alloc, &*library, store, file),
+        Asked::Format { file } => prepare_format(alloc, &*library, store, file),
+        Asked::Run {
+            file,
+            items,
+            runtime,
+            docs: _,
+            journal,
+        } => prepare_run(alloc, library, store, driver, file, items, runtime, journal),
+        Asked::Audit {
+            file,
+            items,
+            journal,
+            docs: _,
+        } => prepare_audit(alloc, library, store, file, items, journal),
+        Asked::Load {
+            count,
+            first,
+            runtime,
+        } => prepare_load(alloc, library, driver, count, first, runtime),
+        // It is served, and prints nothing before.
+        Asked::Serve { .. } => unreachable!(),
+        Asked::Help => Ok(Prepared::Text(prepare_help(alloc)?)),
+        Asked::Simulate {
+            file,
+            items,
+            processors,
+            costs,
+            docs: _,
+        } => prepare_simulation(alloc, library, store, file, items, processors, costs),
+        Asked::Swarm {
+            file,
+            items,
+            journal,
+            hash,
+            docs: _,
+        } => prepare_swarm(alloc, library, store, file, items, journal, hash.as_bytes()),
+    }
+}

@@ -1,0 +1,28 @@
+//! What words come to, before anything is written.
+//!
+//! `prepare_words` reads the words, the documents and the files, and makes all of the text that a command prints, or the
+//! refusal of it; `ready_words` makes a program ready that is to be served. They promise what was asked for, that what is
+//! prepared is what the command prints, that each refusal has its cause, that counts rise where reading failed alone, and
+//! that what is due is answered. A run's flows are driven as the caller likes: alone, or by threads.
+#![tactic(auto)]
+
+mod asking;
+mod audited;
+mod commands;
+mod documents;
+mod files;
+mod loaded;
+mod prepared;
+mod refusals;
+mod rules;
+mod running;
+mod services;
+mod statuses;
+mod texts;
+
+pub use asking::prepare_words;
+pub use prepared::Prepared;
+pub use refusals::Refusal;
+pub use running::{drive_alone, drive_by_threads};
+pub use services::{Ready, Service, ready_words};
+pub use statuses::Status;
