@@ -8,6 +8,7 @@ use Rattle.flux_outside.specs.Streams.{Wrote, Broke, WroteOrBroke}
 use Rattle.flux_commands.specs.Told.{Told}
 use Rattle.flux_driver.specs.Seen.{Seen}
 use Rattle.flux_commands.specs.Documents.{TellsAll}
+use Rattle.flux_commands.specs.Asked.{HasAsked}
 use Rattle.flux_commands.specs.Answers.{Libraries, Decided, IsAnswer, OrMemory}
 use Rattle.flux_driver.specs.Serving.{HasServedWords}
 use Rattle.flux_words.specs.Behind.{Serving}

@@ -13,7 +13,7 @@
 -- its own in canonical order, each in its greatest mode. `OrMemory` allows one status more: 12, which
 -- stands for want of memory; that memory was short isn't said. The laws speak of a call that has come
 -- back, and hold for every library; that of `top` is `built_in`, of the file `BuiltIn` of
--- `flux_driver`.
+-- `flux_commands`.
 --
 -- That a journal is legal says that the locks are the program's, that each entry is of the flow of
 -- an item, and that
