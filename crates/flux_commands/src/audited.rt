@@ -1,6 +1,6 @@
 //! The verdict on the text of a journal, and the swarm of a hash after one that is right.
 
-ghost use Rattle.std.specs.Prelude.{IfOk};
+ghost use Rattle.std.specs.Prelude.{◌≡◌, IfOk};
 ghost use Rattle.std.specs.Arc.{arc_value};
 ghost use Rattle.flux_model.specs.Names.{IsNamed};
 ghost use Rattle.flux_laws.specs.Hoisted.{locks_of};
@@ -13,7 +13,7 @@ use crate::prepared::Prepared;
 use flux_audit::{Verdict, audit, print_verdict};
 use flux_hoist::Checked;
 use flux_library::Library;
-use flux_model::Item;
+use flux_model::{Item, Program};
 use flux_runs::set_up;
 use flux_swarms::print_swarm;
 use flux_values::{List, Memory};
@@ -21,20 +21,24 @@ use std::alloc::Global;
 use std::sync::Arc;
 use tracker_peers::legal_calls_are_right;
 
+/// The program that the items ran through, and the verdict on their journal.
 fn judge<L: Library>(
     alloc: Global,
     library: Arc<L>,
     checked: Checked,
     items: List<Item>,
     journal: &[u8],
-) -> Result<Verdict, Memory>
+) -> Result<(Arc<Program>, Verdict), Memory>
     requires can { CanRun (L.meaning (arc_value library)) checked.program items }
     requires named { IsNamed checked.program }
-    ensures { IfOk result (HasVerdict (setup_of checked.program (locks_of checked.program) items
-        (L.meaning (arc_value library))) journal.now) }
+    ensures same { IfOk result (λ judged. arc_value judged.0 ≡ checked.program) }
+    ensures has { IfOk result (λ judged. HasVerdict (setup_of checked.program (locks_of checked.program) items
+        (L.meaning (arc_value library))) journal.now judged.1) }
 {
     let setup = set_up(alloc, library, checked, items)?;
-    audit(alloc, setup, journal)
+    let program = Arc::try_clone(&setup.program)?;
+    let verdict = audit(alloc, setup, journal)?;
+    Ok((program, verdict))
 }
 
 /// The line of the verdict on a journal of the items.
@@ -50,7 +54,7 @@ pub fn audit_text<L: Library>(
     ensures { IfOk result (IsVerdictText (setup_of checked.program (locks_of checked.program) items
         (L.meaning (arc_value library))) journal.now) }
 {
-    let verdict = judge(alloc, library, checked, items, journal)?;
+    let (_, verdict) = judge(alloc, library, checked, items, journal)?;
     let text = print_verdict(alloc, verdict)?;
     match verdict {
         Verdict::Yes { .. } => Ok(Prepared::Text(text)),
@@ -75,9 +79,7 @@ pub fn swarm_text<L: Library>(
         (L.meaning (arc_value library))) journal.now hash.now) }
 {
     let own = Arc::try_clone(&library)?;
-    let setup = set_up(alloc, library, checked, items)?;
-    let program = Arc::try_clone(&setup.program)?;
-    let verdict = audit(alloc, setup, journal)?;
+    let (program, verdict) = judge(alloc, library, checked, items, journal)?;
     match verdict {
         Verdict::Yes { .. } => {
             legal_calls_are_right();

@@ -1,23 +1,23 @@
 //! The sources of a checked program, as the reader of items wants them.
 
-ghost use Rattle.std.specs.Prelude.{◌≡◌, IfOk, Some};
+ghost use Rattle.std.specs.Prelude.{◌≡◌, IfOk, slice_get};
 ghost use Rattle.flux_model.specs.Kinds.{kinds_at, kinds_of};
-ghost use Rattle.flux_model.specs.Texts.{source_name};
+ghost use Rattle.flux_model.specs.Texts.{name_in};
 ghost use Rattle.flux_hoist.specs.Sets.{held_by};
 ghost use Rattle.flux_commands.specs.Items.{rules_of};
 ghost use Rattle.flux_commands.specs.steps.Running.{HasSources, outs_at};
 
 use flux_hoist::Checked;
 use flux_items::ItemRules;
-use flux_model::{NodeNo, NodeSig, Program, SourceLine};
+use flux_model::{Node, NodeNo, NodeSig};
 use flux_values::{Kind, List, Memory, TextBytes};
 use std::alloc::Global;
 
 /// The name of a source.
-fn name_of(alloc: Global, program: &Program, line: &SourceLine) -> Result<TextBytes, Memory>
-    ensures { IfOk result (λ name. name ≡ source_name program.now (Some line.now)) }
+fn name_of(alloc: Global, nodes: &[Node], node: NodeNo) -> Result<TextBytes, Memory>
+    ensures { IfOk result (λ name. name ≡ name_in (slice_get nodes.now node.0)) }
 {
-    match program.nodes.as_slice().get(line.node.0 as usize) {
+    match nodes.get(node.0 as usize) {
         Some(node) => node.name.again(alloc),
         None => Ok(TextBytes::from_vec(Vec::new(alloc))),
     }
@@ -63,7 +63,7 @@ pub fn rules_for(alloc: Global, checked: &Checked) -> Result<ItemRules, Memory>
     let mut names = List::new(alloc);
     let mut kinds = List::new(alloc);
     for line in checked.program.sources.as_slice() {
-        names.add(name_of(alloc, &checked.program, line)?)?;
+        names.add(name_of(alloc, checked.program.nodes.as_slice(), line.node)?)?;
         kinds.add(kinds_of(alloc, checked.sigs.nodes.as_slice(), line.node)?)?;
     }
     let sizes = copy_sizes(alloc, checked.sizes.as_slice())?;

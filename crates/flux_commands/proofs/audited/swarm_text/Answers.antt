@@ -19,10 +19,8 @@ print_swarm-requires-clause-reads g c =
     let p : Program = c.args.checked.program in
     let text = c.args.journal.now in
     let own : Setup = setup_of p (locks_of p) c.args.items meaning in
-    let has = subst (λ (s : Setup). HasVerdict s text c.in_ok-verdict.verdict) c.in_ok-setup.ensures.is
-    c.in_ok-verdict.ensures.cause in
-    let yes = subst (λ (v : Verdict). HasVerdict own text v) c.in-Yes.is has in
-    let same : c.deref.result.now ≡ p = c.deref.ensures ∙ c.in_ok-program.ensures ∙ c.in_ok-setup.ensures.program_ in
+    let yes = subst (λ (v : Verdict). HasVerdict own text v) c.in-Yes.is c.in_ok-program.ensures.has in
+    let same : c.deref.result.now ≡ p = c.deref.ensures ∙ c.in_ok-program.ensures.same in
     subst (λ (q : Program). Reads q text) (sym same)
     (right_reads meaning p c.args.items c.requires.can text c.in-Yes.events yes)
 
@@ -36,10 +34,8 @@ returns-in-Yes g c =
     let printed : List _ = c.in_ok-text-in-Yes.text in
     let library = g.met.L.Library in
     let own : Setup = setup_of p (locks_of p) c.args.items meaning in
-    let has = subst (λ (s : Setup). HasVerdict s text c.in_ok-verdict.verdict) c.in_ok-setup.ensures.is
-    c.in_ok-verdict.ensures.cause in
-    let yes = subst (λ (v : Verdict). HasVerdict own text v) c.in-Yes.is has in
-    let same : c.deref.result.now ≡ p = c.deref.ensures ∙ c.in_ok-program.ensures ∙ c.in_ok-setup.ensures.program_ in
+    let yes = subst (λ (v : Verdict). HasVerdict own text v) c.in-Yes.is c.in_ok-program.ensures.has in
+    let same : c.deref.result.now ≡ p = c.deref.ensures ∙ c.in_ok-program.ensures.same in
     let means : other ≡ meaning = ap g.L.Meaning.meaning (c.deref-in-Yes.ensures ∙ c.in_ok-own.ensures) in
     let told = subst
     (λ (q : Program). (journal : Journal) → ReadsAs q text journal → IsSwarmText other q journal.entries hash printed)
