@@ -1,5 +1,6 @@
 -- Serving with replies behind each batch or at once.
-use Rattle.std.proofs.Common.{◌≡◌, ℕ, ◌<◌, inl}
+use Rattle.std.proofs.Common.{◌≡◌, ℕ, ◌<◌, inl, inr, map, Option, ap}
+use Rattle.std.specs.Option.{option_map}
 use Rattle.flux_outside.specs.Causes.{Rose}
 use Rattle.flux_batches.specs.Links.{Seen}
 use Rattle.flux_serve.specs.declared.batches.ServeEnd.{ServeEnd}
@@ -11,7 +12,7 @@ use Rattle.flux_serve.proofs.AsSeen.{served_as_seen}
 use Rattle.flux_serve.proofs.AtOnceSeen.{at_once_seen}
 use Rattle.flux_words.specs.declared.replies.Replying.{Replying}
 use Rattle.flux_words.specs.declared.replies.Replying.TheVariants.{AtEnd, AtOnce}
-use Rattle.flux_driver.specs.Serving.{HasServedBy}
+use Rattle.flux_driver.specs.Serving.{IsOpened, HasServedBy}
 use Rattle.flux_driver.proofs.Serves.{unplanned, unopened}
 
 module _ {L : Type 0} (replying : Replying) (see : L → Seen) (wanted : ℕ) where
@@ -52,3 +53,17 @@ by_as_seen (AtEnd runtime) see service wanted before after end served =
     served_as_seen see service wanted before after end served
 by_as_seen (AtOnce workers) see service wanted before after end served =
     at_once_seen see service wanted before after end served
+
+pub opened_as_seen : {L : Type 0} (see : L → Seen) (end : ServeEnd) (port : ℕ) (was is : Option ℕ) (before after : Sight L)
+    → IsOpened end port was is before after → IsOpened end port was is (as_seen see before) (as_seen see after)
+opened_as_seen see end port was is before after (inl open_) = inl open_
+opened_as_seen see end port was is before after (inr (shut, same, still)) = inr (
+  shut,
+  same,
+  record {
+    to_come = ap (option_map (map (map see))) still.to_come;
+    taken_back = ap (option_map (map see)) still.taken_back;
+    late = still.late;
+    log_ = still.log_;
+  },
+)

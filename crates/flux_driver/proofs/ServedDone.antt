@@ -130,7 +130,7 @@ module _ (library : Libraries) (words : List (List ℕ)) (before after : Seen) (
 
   served_file : (end : ServeEnd) → (let told = before.told in AreDocs told.folders (option_copied service.docs) docs)
       → HasServedBy service.replying (λ (link : Link). link) (record { program = checked.program; framing = framing; meaning = library docs }) service.batches (sight_of before) (sight_of after) end
-      → (let own = before.door in let later = after.door in IsOpened end service.port own.open_at later.open_at) → WroteOrBroke before.err after.err (end_line end)
+      → (let own = before.door in let later = after.door in IsOpened end service.port own.open_at later.open_at (sight_of before) (sight_of after)) → WroteOrBroke before.err after.err (end_line end)
       → HasServedFile library service.file.now (record { port = service.port; batches = service.batches; docs = option_copied service.docs; replying = service.replying }) before after
   unfolding has_servable
   served_file end are served opened said = record {
@@ -145,7 +145,7 @@ module _ (library : Libraries) (words : List (List ℕ)) (before after : Seen) (
 
   pub ready_done : (end : ServeEnd) (status : Status) → Spells words (command_of service) → (let told = before.told in AreDocs told.folders (option_copied service.docs) docs)
       → HasServedBy service.replying (λ (link : Link). link) (record { program = checked.program; framing = framing; meaning = library docs }) service.batches (sight_of before) (sight_of after) end
-      → (let own = before.door in let later = after.door in IsOpened end service.port own.open_at later.open_at)
+      → (let own = before.door in let later = after.door in IsOpened end service.port own.open_at later.open_at (sight_of before) (sight_of after))
       → WroteOrBroke before.err after.err (end_line end) → after.told ≡ before.told → AreLater before after
       → (let folder = before.folder in let folder_after = after.folder in let store = before.store in let store_after = after.store in HasAsked library words before.told statuses.Done folder.asked folder_after.asked store.asked store_after.asked)
       → (let folder = before.folder in let folder_after = after.folder in let store = before.store in let store_after = after.store in AreSteady store.faults store_after.faults folder.faults folder_after.faults)

@@ -46,9 +46,17 @@ MayBeShut Door = ⊤
 MayBeShut Log = ⊥
 MayBeShut Memory = ⊤
 
--- the door is open at the port, or stands as it was
-abbrev pub IsOpened : ServeEnd → ℕ → Option ℕ → Option ℕ → Type 0
-IsOpened end port before after = (after ≡ Some port) ⊎ (MayBeShut end × (after ≡ before))
+-- nothing came: but for the door's failures, what is seen of it stands as it was, and so does the log
+pub record IsUntouched {L : Type 0} (before after : Sight L) : Type 0 where
+  pub to_come : after.to_come ≡ before.to_come
+  pub taken_back : after.taken_back ≡ before.taken_back
+  pub late : after.late ≡ before.late
+  pub log_ : after.log ≡ before.log
+
+-- the door is open at the port; or it is open where it was, and nothing came
+abbrev pub IsOpened : {L : Type 0} → ServeEnd → ℕ → Option ℕ → Option ℕ → Sight L → Sight L → Type 0
+IsOpened end port was is before after =
+    (is ≡ Some port) ⊎ (MayBeShut end × (is ≡ was) × IsUntouched before after)
 
 -- what is seen of the door, and of `out`, where the log stands
 abbrev pub sight_of : Seen → Sight Link
@@ -72,7 +80,8 @@ HasServedBy (AtOnce workers) see service wanted before after end =
 -- a file's program was served:
 --   docs, are_docs   with the documents of the folder that the words name;
 --   there            the file has a sound program that can be served;
---   end, opened      serving ended so, and the door is open at the port that the words name, unless it never was;
+--   end, opened      serving ended so, and the door is open at the port that the words name; or it was never opened,
+--                    and nothing came;
 --   served           so many batches were served, or fewer; with `--at-once` the next one may have been broken off;
 --   said             the end's line is on `err`, or a front of it where `err` failed.
 pub record HasServedFile (library : Libraries) (file : List ℕ) (serving : Serving) (before after : Seen)
@@ -82,7 +91,7 @@ pub record HasServedFile (library : Libraries) (file : List ℕ) (serving : Serv
   pub there : let told = before.told in HasServable (library docs) told.files (named file)
   pub end : ServeEnd
   pub opened : let own = before.door in let later = after.door in
-      IsOpened end serving.port own.open_at later.open_at
+      IsOpened end serving.port own.open_at later.open_at (sight_of before) (sight_of after)
   pub served : let own = there in HasServedBy serving.replying (λ link. link)
       (record { program = program_of own.decls; framing = own.framing; meaning = library docs })
       serving.batches (sight_of before) (sight_of after) end

@@ -154,7 +154,21 @@ pub fn serve_ready<
     requires out { D.out door.old ≡ 0 }
     // Each accepted link has gone back to the door.
     ensures out { D.out door.new ≡ 0 }
-    ensures opened { IsOpened result service.entry.port (D.open_at door.old) (D.open_at door.new) }
+    ensures opened { IsOpened result service.entry.port (D.open_at door.old) (D.open_at door.new)
+        (record {
+          to_come = D.to_come door.old;
+          taken_back = D.taken_back door.old;
+          faults = D.faults door.old;
+          late = D.late door.old;
+          log = record { written = O.written log.old; faults = O.faults log.old };
+        })
+        (record {
+          to_come = D.to_come door.new;
+          taken_back = D.taken_back door.new;
+          faults = D.faults door.new;
+          late = D.late door.new;
+          log = record { written = O.written log.new; faults = O.faults log.new };
+        }) }
     ensures later { (D.faults door.old ≤ D.faults door.new) × (D.late door.old ≤ D.late door.new) }
     ensures later_log { O.faults log.old ≤ O.faults log.new }
     ensures served { let own : batches.Service = (record { program = ready.checked.program; framing = ready.framing; meaning = L.meaning (arc_value ready.library) }) in

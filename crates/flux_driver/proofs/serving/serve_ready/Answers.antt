@@ -16,10 +16,10 @@ returns-in-Err-open-clause-served g c = unopened_by c.args.service.replying _ _ 
     c.open.ensures.kept.0 c.open.ensures.late
 
 pub returns-in-Err-clause-opened : goal.returns-in-Err-clause-opened
-returns-in-Err-clause-opened g c = inr (tt, refl)
+returns-in-Err-clause-opened g c = inr (tt, refl, record { to_come = refl; taken_back = refl; late = refl; log_ = refl })
 
 pub returns-in-Err-open-clause-opened : goal.returns-in-Err-open-clause-opened
-returns-in-Err-open-clause-opened g c = inr (tt, c.in-Err-open.ensures.opened)
+returns-in-Err-open-clause-opened g c = inr (tt, c.in-Err-open.ensures.opened, record { to_come = c.open.ensures.kept.0; taken_back = c.open.ensures.kept.1; late = c.open.ensures.late; log_ = refl })
 
 pub returns-clause-opened : goal.returns-clause-opened
 returns-clause-opened g c = inl (c.serve_batches.ensures.open ∙ c.in-Ok-open.ensures.opened)
