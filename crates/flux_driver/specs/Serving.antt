@@ -53,7 +53,7 @@ pub record IsUntouched {L : Type 0} (before after : Sight L) : Type 0 where
   pub late : after.late ≡ before.late
   pub log_ : after.log ≡ before.log
 
--- the door is open at the port; or it is open where it was, and nothing came
+-- the door is open at the port; or it stands as it was, and nothing came
 abbrev pub IsOpened : {L : Type 0} → ServeEnd → ℕ → Option ℕ → Option ℕ → Sight L → Sight L → Type 0
 IsOpened end port was is before after =
     (is ≡ Some port) ⊎ (MayBeShut end × (is ≡ was) × IsUntouched before after)
