@@ -1,5 +1,5 @@
 -- What the steps of a command give, behind its documents, is what it and its files decide.
-use Rattle.std.proofs.Common.{◌≡◌, ◌<◌, ℕ, zero, suc, inl, inr, List, [], ◌∷◌, ◌++◌, length, Option, Some, refl, sym, ap, subst, ◌∙◌, append_assoc, arith}
+use Rattle.std.proofs.Common.{◌≡◌, ◌<◌, ℕ, zero, suc, inl, inr, List, [], ◌∷◌, ◌++◌, length, Option, Some, Result, Ok, Err, IfErr, refl, sym, ap, subst, ◌∙◌, append_assoc, arith}
 use Rattle.std.specs.List.{AllByRecursion, slice_get}
 use Rattle.std.proofs.lemmas.List.{append-nil}
 use Rattle.flux_values.specs.Identifiers.{IsIdentifier}
@@ -66,9 +66,9 @@ use Rattle.flux_commands.specs.Printed.{IsPrinted}
 use Rattle.flux_commands.specs.Causes.{item_fault_line, IsStaticOf, IsItemsText, IsItems, AreItemsLost}
 use Rattle.flux_commands.specs.steps.Running.{HasSources, IsRun, AreRefused}
 use Rattle.flux_commands.specs.Refusals.{status_of}
-use Rattle.flux_commands.specs.steps.Refusals.{IsUnread, CountsRefusal, SaysOrMemory, IsFaultLine, IsTextRefused, IsCheckRefused, IsRefused}
+use Rattle.flux_commands.specs.steps.Refusals.{IsUnread, CountsRefusal, Counts, SaysOrMemory, IsFaultLine, IsTextRefused, IsCheckRefused, IsRefused}
 use Rattle.flux_commands.specs.steps.Preparing.{AsksFiles, IsPrepared, AreRead, StandsOnItems}
-use Rattle.flux_commands.specs.steps.Loading.{IsLoaded, AreItemsMissed, ReadsWell, IsUnloaded, AsksTwo}
+use Rattle.flux_commands.specs.steps.Loading.{IsLoaded, IsFaulted, IsUnchecked, AreItemsMissed, ReadsWell, IsUnloaded, AsksTwo}
 use Rattle.flux_commands.specs.steps.Auditing.{IsVerdictText, IsPreparedSwarm}
 use Rattle.flux_commands.proofs.Named.{sources_apart}
 use Rattle.flux_commands.proofs.RuleLists.{rules_are}
@@ -86,6 +86,10 @@ counts_says Says refusals.NotServed before after says same = absurd says
 counts_says Says (refusals.Items fault) before after says same = absurd says
 counts_says Says refusals.Read before after says same = absurd says
 counts_says Says (refusals.Missing name) before after says same = absurd says
+
+pub counts_text : {T : Type 0} (Says : List ℕ → Type 0) (result : Result T Refusal) (before after : ℕ) → IfErr result (SaysOrMemory Says) → after ≡ before → Counts result before after
+counts_text Says (Ok x) before after says same = same
+counts_text Says (Err refusal) before after says same = counts_says Says refusal before after says same
 
 -- nor is that of items
 pub counts_items : (rules : ItemRules) (text : List ℕ) (refusal : Refusal) (before after : ℕ) → AreRefused rules text refusal → after ≡ before → CountsRefusal refusal before after
@@ -126,14 +130,40 @@ module _ (meaning : LibraryMeaning) (told : Files) where
   says_refused command program text Stands reads gives of refusals.Read says = absurd says
   says_refused command program text Stands reads gives of (refusals.Missing name) says = absurd says
 
-  pub check_refused : (file text : List ℕ) (refusal : Refusal) → Gives told file PROGRAM_FILE_LIMIT (Found text) → IsCheckRefused meaning text refusal → IsRefused meaning (check file) told refusal
-  check_refused file text refusal gives says = says_refused (check file) (named file) text (IsTextFault meaning text) refl gives (λ fault stands. stands) refusal says
-
-  pub plan_refused : (file text : List ℕ) (refusal : Refusal) → Gives told file PROGRAM_FILE_LIMIT (Found text) → IsCheckRefused meaning text refusal → IsRefused meaning (plan file) told refusal
-  plan_refused file text refusal gives says = says_refused (plan file) (named file) text (IsTextFault meaning text) refl gives (λ fault stands. stands) refusal says
-
   pub format_refused : (file text : List ℕ) (refusal : Refusal) → Gives told file PROGRAM_FILE_LIMIT (Found text) → IsTextRefused text refusal → IsRefused meaning (format file) told refusal
   format_refused file text refusal gives says = says_refused (format file) (named file) text (λ fault. IsFaulty fault.kind fault.at text × (fault.path ≡ [])) refl gives (λ fault stands. stands) refusal says
+
+-- ---- a file without a checked program
+
+module _ (meaning : LibraryMeaning) (told : Files) (file : List ℕ) where
+  pub unread_file : (refusal : Refusal) → IsUnread told file PROGRAM_FILE_LIMIT refusal → IsUnchecked meaning told file refusal
+  unread_file (refusals.Missing lost) u = u
+  unread_file refusals.Read u = tt
+  unread_file refusals.Memory u = tt
+  unread_file refusals.Usage u = u
+  unread_file refusals.NotServed u = u
+  unread_file (refusals.Static line) u = absurd u
+  unread_file (refusals.Items fault) u = u
+
+  pub faulty_file : (text : List ℕ) → Gives told file PROGRAM_FILE_LIMIT (Found text) → (refusal : Refusal) → IsCheckRefused meaning text refusal → IsUnchecked meaning told file refusal
+  faulty_file text gives (refusals.Static line) says = record { text = text; gives = gives; fault = says }
+  faulty_file text gives refusals.Memory says = tt
+  faulty_file text gives refusals.Usage says = says
+  faulty_file text gives refusals.NotServed says = says
+  faulty_file text gives (refusals.Items fault) says = says
+  faulty_file text gives refusals.Read says = absurd says
+  faulty_file text gives (refusals.Missing name) says = absurd says
+
+  pub file_refused : (command : Command) → ReadsProgram command (named file) → ((text : List ℕ) (fault : StaticFault) → IsTextFault meaning text fault → IsStaticOf meaning command text fault)
+      → (refusal : Refusal) → IsUnchecked meaning told file refusal → IsRefused meaning command told refusal
+  file_refused command reads static (refusals.Static line) u = let fault = u.fault in
+      inl (record { program = named file; reads = reads; text = u.text; gives = u.gives; fault = fault.fault; stands = static u.text fault.fault fault.stands; said = fault.said })
+  file_refused command reads static (refusals.Missing lost) u = unread_program meaning told command file reads (refusals.Missing lost) u
+  file_refused command reads static refusals.Read u = unread_program meaning told command file reads refusals.Read tt
+  file_refused command reads static refusals.Memory u = inr (inr refl)
+  file_refused command reads static refusals.Usage u = absurd u
+  file_refused command reads static refusals.NotServed u = absurd u
+  file_refused command reads static (refusals.Items fault) u = absurd u
 
 -- ---- programs and items that weren't loaded
 
@@ -148,17 +178,17 @@ module _ (meaning : LibraryMeaning) (told : Files) (program items : Origin) wher
       never : (decls : List Decl) → HasProgram meaning told program decls → ⊥
       never decls own = program_there meaning told program tells decls own.has name is (subst (TellsText told) is tells) lost
 
-  pub program_unread : (file : List ℕ) → program ≡ named file → (refusal : Refusal) → IsUnread told file PROGRAM_FILE_LIMIT refusal → IsUnloaded meaning told program items refusal
-  program_unread file is (refusals.Missing lost) (name, gone) =
+  pub program_unchecked : (file : List ℕ) → program ≡ named file → (refusal : Refusal) → IsUnchecked meaning told file refusal → IsUnloaded meaning told program items refusal
+  program_unchecked file is (refusals.Missing lost) (name, gone) =
       let own : program ≡ named lost.now = is ∙ ap named (sym name) in
       let away : IsLost told lost.now PROGRAM_FILE_LIMIT = subst (λ (n : List ℕ). IsLost told n PROGRAM_FILE_LIMIT) (sym name) gone in
       (inl (record { is = own; lost = away }), lost_well lost.now own away)
-  program_unread file is refusals.Read u = (file, is)
-  program_unread file is refusals.Memory u = tt
-  program_unread file is refusals.Usage u = u
-  program_unread file is refusals.NotServed u = u
-  program_unread file is (refusals.Static line) u = absurd u
-  program_unread file is (refusals.Items fault) u = absurd u
+  program_unchecked file is (refusals.Static line) u = subst (λ (p : Origin). IsFaulted meaning told p line) (sym is) u
+  program_unchecked file is refusals.Read u = (file, is)
+  program_unchecked file is refusals.Memory u = tt
+  program_unchecked file is refusals.Usage u = u
+  program_unchecked file is refusals.NotServed u = u
+  program_unchecked file is (refusals.Items fault) u = absurd u
 
   pub program_faulty : (text : List ℕ) (refusal : Refusal) → GivesText told program PROGRAM_FILE_LIMIT text → IsCheckRefused meaning text refusal → IsUnloaded meaning told program items refusal
   program_faulty text (refusals.Static line) gives says = record { text = text; gives = gives; fault = says }

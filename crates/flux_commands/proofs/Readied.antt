@@ -10,7 +10,7 @@ use Rattle.flux_model.specs.declared.programs.Hold.{Hold}
 use Rattle.flux_model.specs.declared.signatures.NodeSig.{NodeSig}
 use Rattle.flux_syntax.specs.ProgramOfText.{program_of}
 use Rattle.flux_hoist.specs.declared.checked.Checked.{Checked}
-use Rattle.flux_check.specs.Judgement.{IsTextFault, IsChecked}
+use Rattle.flux_check.specs.Judgement.{IsChecked}
 use Rattle.flux_batches.specs.declared.framing.Framing.{Framing}
 use Rattle.flux_sources.specs.Sources.{IsServed, IsNotServed}
 use Rattle.flux_words.specs.Behind.{Serving}
@@ -27,13 +27,13 @@ use Rattle.flux_commands.specs.Documents.{AreDocs}
 use Rattle.flux_commands.specs.Inputs.{HasProgram, HasServable}
 use Rattle.flux_commands.specs.Answers.{Libraries, IsAnswer}
 use Rattle.flux_commands.specs.Refusals.{status_of, line_of}
-use Rattle.flux_commands.specs.steps.Refusals.{IsCheckRefused, IsRefused}
+use Rattle.flux_commands.specs.steps.Refusals.{IsRefused}
 use Rattle.flux_commands.specs.steps.Preparing.{IsPrepared}
 use Rattle.flux_commands.specs.Counts.{CountsBoth, CountsBothRefusal}
 use Rattle.flux_commands.specs.Due.{AnswersDue, AnswersWords}
 use Rattle.flux_commands.specs.Prepared.{prepared_status}
 use Rattle.flux_commands.specs.Ready.{IsReady, as_text}
-use Rattle.flux_commands.proofs.Loading.{says_refused, has_program, for_library}
+use Rattle.flux_commands.proofs.Loading.{has_program, for_library}
 use Rattle.flux_commands.proofs.Documented.{due_prepared}
 
 -- ---- errors that `?` passes on
@@ -54,9 +54,6 @@ if_ok_both P Q R (Ok x) both p q = both x p q
 if_ok_both P Q R (Err e) both p q = tt
 
 -- ---- a program that is ready
-
-pub serve_refused : (meaning : LibraryMeaning) (told : Files) (file : List ℕ) (serving : Serving) (text : List ℕ) (refusal : Refusal) → Gives told file PROGRAM_FILE_LIMIT (Found text) → IsCheckRefused meaning text refusal → IsRefused meaning (serve file serving) told refusal
-serve_refused meaning told file serving text refusal gives says = says_refused meaning told (serve file serving) (named file) text (IsTextFault meaning text) refl gives (λ fault stands. stands) refusal says
 
 module _ (meaning : LibraryMeaning) (text : List ℕ) (program : Program) (sigs : List NodeSig) (order : List NodeNo) (sets : List (List Hold)) (sizes : List ℕ) (c : IsChecked meaning text program sigs order sets sizes) (told : Files) (file : List ℕ) (gives : Gives told file PROGRAM_FILE_LIMIT (Found text)) where
   pub not_served : (serving : Serving) → IsNotServed meaning program → IsRefused meaning (serve file serving) told refusals.NotServed

@@ -14,11 +14,11 @@ ghost use Rattle.flux_commands.specs.Prepared.{prepared_status};
 
 use crate::audited::{audit_text, swarm_text};
 use crate::files::{JOURNAL_FILE_LIMIT, PROGRAM_FILE_LIMIT, load};
-use crate::loaded::{Loaded, load_files, load_texts};
+use crate::loaded::{Loaded, load_files, load_program, load_texts};
 use crate::prepared::Prepared;
 use crate::refusals::Refusal;
 use crate::running::{Wanted, run_items};
-use crate::texts::{check_text, read_text};
+use crate::texts::read_text;
 use flow_core::Core;
 use flux_hoist::{print_plan, report};
 use flux_library::Library;
@@ -55,8 +55,7 @@ fn prepare_check<'a, L: Library, S: Store>(
     ensures firm { IsFirm (L.meaning library.now) (check file.now) (S.files store.old)
         (prepared_status result) }
 {
-    let text = load(alloc, store, file, PROGRAM_FILE_LIMIT)?;
-    let checked = check_text(alloc, library, text.as_bytes())?;
+    let checked = load_program(alloc, library, store, file)?;
     let text = report(alloc, &checked.program, &checked.order, &checked.sets)?;
     Ok(Prepared::Text(text))
 }
@@ -80,8 +79,7 @@ fn prepare_plan<'a, L: Library, S: Store>(
     ensures firm { IsFirm (L.meaning library.now) (plan file.now) (S.files store.old)
         (prepared_status result) }
 {
-    let text = load(alloc, store, file, PROGRAM_FILE_LIMIT)?;
-    let checked = check_text(alloc, library, text.as_bytes())?;
+    let checked = load_program(alloc, library, store, file)?;
     Ok(Prepared::Text(print_plan(alloc, &checked, library)?))
 }
 

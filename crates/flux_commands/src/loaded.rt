@@ -9,7 +9,7 @@ ghost use Rattle.flux_commands.specs.Origins.{named, made};
 ghost use Rattle.flux_commands.specs.Items.{rules_of};
 ghost use Rattle.flux_commands.specs.steps.Refusals.{Counts};
 ghost use Rattle.flux_commands.specs.steps.Running.{HasSources, AreRefused};
-ghost use Rattle.flux_commands.specs.steps.Loading.{IsLoaded, IsUnloaded, AsksTwo};
+ghost use Rattle.flux_commands.specs.steps.Loading.{IsCheckedFile, IsUnchecked, IsLoaded, IsUnloaded, AsksTwo};
 
 use crate::files::{ITEMS_FILE_LIMIT, PROGRAM_FILE_LIMIT, load};
 use crate::refusals::Refusal;
@@ -42,6 +42,24 @@ fn items_of<'a>(alloc: Global, checked: &Checked, text: &[u8]) -> Result<List<It
     Ok(read_items(alloc, text, &rules)?)
 }
 
+/// The checked program of a file.
+pub fn load_program<'a, L: Library, S: Store>(
+    alloc: Global,
+    library: &L,
+    store: &mut S,
+    file: &'a [u8],
+) -> Result<Checked, Refusal<'a>>
+    ensures kept { S.files store.new ≡ S.files store.old }
+    ensures later { S.faults store.old ≤ S.faults store.new }
+    ensures asked { S.asked store.new ≡ S.asked store.old ++ file.now ∷ [] }
+    ensures checked { IfOk result (IsCheckedFile (L.meaning library.now) (S.files store.old) file.now) }
+    ensures refused { IfErr result (IsUnchecked (L.meaning library.now) (S.files store.old) file.now) }
+    ensures counts { Counts result (S.faults store.old) (S.faults store.new) }
+{
+    let text = load(alloc, store, file, PROGRAM_FILE_LIMIT)?;
+    check_text(alloc, library, text.as_bytes())
+}
+
 /// The program and the items of two files.
 pub fn load_files<'a, L: Library, S: Store>(
     alloc: Global,
@@ -62,8 +80,7 @@ pub fn load_files<'a, L: Library, S: Store>(
         (named file.now) (named items.now)) }
     ensures counts { Counts result (S.faults store.old) (S.faults store.new) }
 {
-    let text = load(alloc, store, file, PROGRAM_FILE_LIMIT)?;
-    let checked = check_text(alloc, library, text.as_bytes())?;
+    let checked = load_program(alloc, library, store, file)?;
     let items_text = load(alloc, store, items, ITEMS_FILE_LIMIT)?;
     let items = items_of(alloc, &checked, items_text.as_bytes())?;
     Ok(Loaded { checked, items })

@@ -20,9 +20,8 @@ ghost use Rattle.flux_commands.specs.Prepared.{prepared_status};
 ghost use Rattle.flux_commands.specs.Ready.{command_of, as_text, IsReady};
 
 use crate::documents::{load_docs, share};
-use crate::files::{PROGRAM_FILE_LIMIT, load};
+use crate::loaded::load_program;
 use crate::refusals::Refusal;
-use crate::texts::check_text;
 use flux_batches::Framing;
 use flux_hoist::Checked;
 use flux_library::Library;
@@ -109,9 +108,8 @@ fn prepare<'a, L: Library, S: Store>(
         (command_of service.now) (S.files store.old)) }
     ensures counts { Counts result (S.faults store.old) (S.faults store.new) }
 {
-    let text = load(alloc, store, service.file, PROGRAM_FILE_LIMIT)?;
     let nodes = &*library;
-    let checked = check_text(alloc, nodes, text.as_bytes())?;
+    let checked = load_program(alloc, nodes, store, service.file)?;
     match framing_of(alloc, nodes, &checked.program)? {
         Some(framing) => Ok(Ready {
             library,

@@ -2,7 +2,9 @@
 use Rattle.std.specs.Prelude.{◌≡◌, ◌⊎◌, ℕ, List, ◌++◌, ⊤}
 use Rattle.flux_values.specs.Meanings.{LibraryMeaning}
 use Rattle.flux_model.specs.Kinds.{kinds_at}
+use Rattle.flux_hoist.specs.declared.checked.Checked.{Checked}
 use Rattle.flux_hoist.specs.Sets.{held_by}
+use Rattle.flux_outside.specs.declared.stores.File.TheVariants.{Found}
 use Rattle.flux_items.specs.Items.{AreItemsOf}
 use Rattle.flux_syntax.specs.declared.declarations.Decl.{Decl}
 use Rattle.flux_check.specs.Judgement.{IsTextFault, IsChecked}
@@ -10,7 +12,7 @@ use Rattle.flux_commands.specs.declared.files.TheConstants.{PROGRAM_FILE_LIMIT, 
 use Rattle.flux_commands.specs.declared.loaded.Loaded.{Loaded}
 use Rattle.flux_commands.specs.declared.refusals.Refusal.{Refusal}
 use Rattle.flux_commands.specs.declared.refusals.Refusal.TheVariants.{Usage, Static, Items, Read, Missing, NotServed, Memory}
-use Rattle.flux_commands.specs.Told.{Files, IsLost}
+use Rattle.flux_commands.specs.Told.{Files, Gives, IsLost}
 use Rattle.flux_commands.specs.Origins.{Origin, named, GivesText, TellsText}
 use Rattle.flux_commands.specs.Items.{rules_of}
 use Rattle.flux_commands.specs.Inputs.{HasProgram}
@@ -32,12 +34,29 @@ pub record IsLoaded (meaning : LibraryMeaning) (told : Files) (program items : O
       AreItemsOf (rules_of own.program (kinds_at own.sigs.nodes) (held_by own.sets.nodes))
       loaded.items items_text
 
+-- a checked program is that of a file
+pub record IsCheckedFile (meaning : LibraryMeaning) (told : Files) (file : List ℕ) (checked : Checked) : Type 0 where
+  pub text : List ℕ
+  pub gives : Gives told file PROGRAM_FILE_LIMIT (Found text)
+  pub is : IsChecked meaning text
+      checked.program checked.sigs.nodes checked.order.nodes checked.sets.nodes checked.sizes
+
 -- the line of a fault of the program's text
 pub record IsFaulted (meaning : LibraryMeaning) (told : Files) (program : Origin) (line : List ℕ)
     : Type 0 where
   pub text : List ℕ
   pub gives : GivesText told program PROGRAM_FILE_LIMIT text
   pub fault : IsFaultLine (IsTextFault meaning text) text line
+
+-- why a file gave no checked program
+abbrev pub IsUnchecked : LibraryMeaning → Files → List ℕ → Refusal → Type 0
+IsUnchecked meaning told file (Static line) = IsFaulted meaning told (named file) line
+IsUnchecked meaning told file (Missing lost) = (lost.now ≡ file) × IsLost told file PROGRAM_FILE_LIMIT
+IsUnchecked meaning told file Read = ⊤
+IsUnchecked meaning told file Memory = ⊤
+IsUnchecked meaning told file Usage = ⊥
+IsUnchecked meaning told file (Items fault) = ⊥
+IsUnchecked meaning told file NotServed = ⊥
 
 -- a file is lost: the program's, or that of the items behind a sound program
 pub record IsProgramLost (told : Files) (program : Origin) (name : List ℕ) : Type 0 where
