@@ -20,7 +20,7 @@ use flux_values::{Bytes, Memory};
 use std::alloc::Global;
 
 /// What the words ask for, with the names of files.
-#[derive(Debug, Drop)]
+#[derive(Drop)]
 pub enum Asked<'a> {
     Check {
         file: &'a [u8],

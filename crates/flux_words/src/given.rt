@@ -1,7 +1,7 @@
 //! All that is given behind the command's word.
 
 ghost use Rattle.std.specs.Prelude.{◌≡◌, ◌∷◌, ◌++◌, [], List, IfSome, IfNone, IsTrue, IsFalse, length};
-ghost use Rattle.flux_words.specs.Parts.{Part as AnyPart, BeginWith};
+ghost use Rattle.flux_words.specs.Parts.{Part as AnyPart, BeginWith, option};
 ghost use Rattle.flux_words.specs.steps.Found.{part_of};
 ghost use Rattle.flux_words.specs.steps.Given.{files_of, listed, HoldsAll, Adds, IsFull, IsGiven, IsTooMuch};
 
@@ -10,7 +10,7 @@ use crate::parts::{Part, take_part};
 use flux_values::Bytes;
 
 /// The positional words, of which no command takes more than four.
-#[derive(Clone, Copy, Debug)]
+#[derive(Clone, Copy)]
 pub enum Files<'a> {
     None,
     One(&'a [u8]),
@@ -20,7 +20,7 @@ pub enum Files<'a> {
 }
 
 /// The positional words, and the value of each option.
-#[derive(Debug, Drop)]
+#[derive(Clone, Copy)]
 pub struct Given<'a> {
     pub files: Files<'a>,
     pub runtime: Option<&'a [u8]>,
@@ -49,15 +49,25 @@ impl<'a> Files<'a> {
     }
 }
 
-/// The value of an option that wasn't given before.
-fn once<'a>(before: Option<&'a [u8]>, value: &'a [u8]) -> Option<Option<&'a [u8]>>
-    ensures added { IfSome result (λ now. listed now ≡ listed before.entry ++ value.now ∷ []) }
-    ensures full { IfNone result (length (listed before.entry) ≡ 1) }
+/// Adds a positional word, where there is room.
+fn put_word<'a>(files: &mut Files<'a>, word: &'a [u8]) -> Option<()>
+    ensures added { IfSome result (λ _. files_of files.new ≡ files_of files.old ++ word.now ∷ []) }
+    ensures full { IfNone result (length (files_of files.old) ≡ 4) }
 {
-    match before {
-        None => Some(Some(value)),
-        Some(_) => None,
+    *files = files.with(word)?;
+    Some(())
+}
+
+/// Puts the value of an option that wasn't given before.
+fn put_value<'a>(slot: &mut Option<&'a [u8]>, value: &'a [u8]) -> Option<()>
+    ensures added { IfSome result (λ _. listed slot.new ≡ listed slot.old ++ value.now ∷ []) }
+    ensures full { IfNone result (length (listed slot.old) ≡ 1) }
+{
+    if slot.is_some() {
+        return None;
     }
+    *slot = Some(value);
+    Some(())
 }
 
 impl<'a> Given<'a> {
@@ -95,25 +105,32 @@ impl<'a> Given<'a> {
         self.processors.is_some() || self.costs.is_some()
     }
 
+    /// Adds an option's value; None where no command has it once more.
+    fn add_option(&mut self, name: OptionName, value: &'a [u8]) -> Option<()>
+        ensures added { IfSome result (λ _. Adds self.old self.new (option name value.now)) }
+        ensures full { IfNone result (IsFull self.old (option name value.now)) }
+    {
+        match name {
+            OptionName::Runtime => put_value(&mut self.runtime, value),
+            OptionName::Docs => put_value(&mut self.docs, value),
+            OptionName::Journal => put_value(&mut self.journal, value),
+            OptionName::Port => put_value(&mut self.port, value),
+            OptionName::Batches => put_value(&mut self.batches, value),
+            OptionName::AtOnce => put_value(&mut self.at_once, value),
+            OptionName::Processors => put_value(&mut self.processors, value),
+            OptionName::Costs => put_value(&mut self.costs, value),
+        }
+    }
+
     /// Adds a part; None where no command has it once more.
     fn add(&mut self, part: Part<'a>) -> Option<()>
         ensures added { IfSome result (λ _. Adds self.old self.new (part_of part.entry)) }
         ensures full { IfNone result (IsFull self.old (part_of part.entry)) }
     {
         match part {
-            Part::Word(word) => self.files = self.files.with(word)?,
-            Part::Option(OptionName::Runtime, value) => self.runtime = once(self.runtime, value)?,
-            Part::Option(OptionName::Docs, value) => self.docs = once(self.docs, value)?,
-            Part::Option(OptionName::Journal, value) => self.journal = once(self.journal, value)?,
-            Part::Option(OptionName::Port, value) => self.port = once(self.port, value)?,
-            Part::Option(OptionName::Batches, value) => self.batches = once(self.batches, value)?,
-            Part::Option(OptionName::AtOnce, value) => self.at_once = once(self.at_once, value)?,
-            Part::Option(OptionName::Processors, value) => {
-                self.processors = once(self.processors, value)?
-            }
-            Part::Option(OptionName::Costs, value) => self.costs = once(self.costs, value)?,
+            Part::Word(word) => put_word(&mut self.files, word),
+            Part::Option(name, value) => self.add_option(name, value),
         }
-        Some(())
     }
 }
 

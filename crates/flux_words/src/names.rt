@@ -1,13 +1,13 @@
 //! The names of commands and of options.
 
-ghost use Rattle.std.specs.Prelude.{◌≡◌, ◌++◌, ℕ, List, IfSome, IfNone};
+ghost use Rattle.std.specs.Prelude.{◌≡◌, ◌↔◌, ◌++◌, ℕ, List, IsTrue, IfSome, IfNone};
 ghost use Rattle.flux_words.specs.declared.names.CommandName.{CommandName};
 ghost use Rattle.flux_words.specs.declared.names.OptionName.{OptionName};
 ghost use Rattle.flux_words.specs.Names.{IsNamed};
 ghost use Rattle.flux_words.specs.Parts.{spelled};
 
 /// A command, by the first word.
-#[derive(Clone, Copy, Debug, PartialEq, Eq)]
+#[derive(Clone, Copy)]
 pub enum CommandName {
     Check,
     Plan,
@@ -22,7 +22,7 @@ pub enum CommandName {
 }
 
 /// An option of the command line.
-#[derive(Clone, Copy, Debug, PartialEq, Eq)]
+#[derive(Clone, Copy)]
 pub enum OptionName {
     Runtime,
     Docs,
@@ -34,24 +34,49 @@ pub enum OptionName {
     Costs,
 }
 
+/// Whether a word is this name.
+fn is_name(word: &[u8], name: &[u8]) -> bool
+    ensures { IsTrue result ↔ word.now ≡ name.now }
+{
+    word == name
+}
+
 /// The command that a first word names.
 pub fn read_name(word: &[u8]) -> Option<CommandName>
     ensures found { IfSome result (λ name. IsNamed name word.now) }
     ensures none { IfNone result ((name : CommandName) → IsNamed name word.now → ⊥) }
 {
-    match word {
-        b"check" => Some(CommandName::Check),
-        b"plan" => Some(CommandName::Plan),
-        b"format" => Some(CommandName::Format),
-        b"run" => Some(CommandName::Run),
-        b"audit" => Some(CommandName::Audit),
-        b"load" => Some(CommandName::Load),
-        b"serve" => Some(CommandName::Serve),
-        b"help" | b"--help" => Some(CommandName::Help),
-        b"simulate" => Some(CommandName::Simulate),
-        b"swarm" => Some(CommandName::Swarm),
-        _ => None,
+    if is_name(word, b"check") {
+        return Some(CommandName::Check);
     }
+    if is_name(word, b"plan") {
+        return Some(CommandName::Plan);
+    }
+    if is_name(word, b"format") {
+        return Some(CommandName::Format);
+    }
+    if is_name(word, b"run") {
+        return Some(CommandName::Run);
+    }
+    if is_name(word, b"audit") {
+        return Some(CommandName::Audit);
+    }
+    if is_name(word, b"load") {
+        return Some(CommandName::Load);
+    }
+    if is_name(word, b"serve") {
+        return Some(CommandName::Serve);
+    }
+    if is_name(word, b"help") || is_name(word, b"--help") {
+        return Some(CommandName::Help);
+    }
+    if is_name(word, b"simulate") {
+        return Some(CommandName::Simulate);
+    }
+    if is_name(word, b"swarm") {
+        return Some(CommandName::Swarm);
+    }
+    None
 }
 
 /// What stands behind a mark at the front.

@@ -10,7 +10,7 @@ use crate::names::{OptionName, split_name};
 use flux_values::Bytes;
 
 /// A positional word, or an option with its value.
-#[derive(Clone, Copy, Debug)]
+#[derive(Clone, Copy)]
 pub enum Part<'a> {
     Word(&'a [u8]),
     Option(OptionName, &'a [u8]),

@@ -13,7 +13,7 @@ use flux_values::{Bytes, Memory};
 use std::alloc::Global;
 
 /// What they ask for, with both options that say when replies are written as they are spelled.
-#[derive(Clone, Copy, Debug)]
+#[derive(Clone, Copy)]
 pub struct Service<'a> {
     file: &'a [u8],
     port: u16,
