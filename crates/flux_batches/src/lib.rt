@@ -17,4 +17,4 @@ pub use framing::Framing;
 pub use gathering::{LINK_LIMIT, NoBatch, gather, give_back, give_back_held};
 pub use items::items_of;
 pub use reading::{Held, Sent, read_links};
-pub use replying::answer_links;
+pub use replying::{answer_links, copy_of_reply, reply, send};

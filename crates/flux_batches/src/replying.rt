@@ -1,6 +1,6 @@
-//! Replies, which are written to the links.
+//! Replies: written to the links, or copied out of a journal.
 
-ghost use Rattle.std.specs.Prelude.{◌≡◌, ℕ, ◌<◌, ◌≤◌, All, length, slice_index_or, OnOk, OnErr};
+ghost use Rattle.std.specs.Prelude.{◌≡◌, ℕ, ◌<◌, ◌≤◌, All, length, slice_index_or, IfOk, OnOk, OnErr};
 ghost use Rattle.flux_batches.specs.steps.Answering.{WasAnswered};
 ghost use Rattle.flux_batches.specs.steps.Spans.{AreSpans};
 ghost use Rattle.std.specs.VecDeque.{deque_len};
@@ -16,13 +16,15 @@ use flow_model::Entry;
 use flux_doors::{Door, Link};
 use flux_model::FlowNo;
 use flux_outside::Failed;
+use flux_values::Memory;
+use std::alloc::Global;
 use std::collections::VecDeque;
 use std::marker::{Send, Sync};
 use std::thread;
 use std::thread::Threads;
 
 /// Writes all of the bytes to a link, in as many calls as it needs.
-fn send<K: Link>(link: &mut K, bytes: &[u8]) -> Result<(), Failed>
+pub fn send<K: Link>(link: &mut K, bytes: &[u8]) -> Result<(), Failed>
     ensures same { K.had link.new ≡ K.had link.old }
     ensures wrote { OnOk result (Wrote
         (record { written = K.written link.old; faults = K.faults link.old })
@@ -40,7 +42,7 @@ fn send<K: Link>(link: &mut K, bytes: &[u8]) -> Result<(), Failed>
 }
 
 /// Writes a flow's reply to its link: what its calls emit, in order, until that fails.
-fn reply<K: Link>(link: &mut K, entries: &[Entry], flow: FlowNo)
+pub fn reply<K: Link>(link: &mut K, entries: &[Entry], flow: FlowNo)
     ensures same { K.had link.new ≡ K.had link.old }
     ensures wrote { WroteOrBroke
         (record { written = K.written link.old; faults = K.faults link.old })
@@ -53,6 +55,17 @@ fn reply<K: Link>(link: &mut K, entries: &[Entry], flow: FlowNo)
             Err(_) => return,
         }
     }
+}
+
+/// A flow's reply, copied out of a journal.
+pub fn copy_of_reply(alloc: Global, entries: &[Entry], flow: FlowNo) -> Result<Vec<u8>, Memory>
+    ensures { IfOk result (λ reply. reply.items ≡ reply_of flow.0 entries.now) }
+{
+    let mut reply = Vec::new(alloc);
+    for entry in entries {
+        reply.extend_from_slice(emission_of(entry, flow))?;
+    }
+    Ok(reply)
 }
 
 /// Answers a link, if it has an item, by the flow of its place.
