@@ -3,7 +3,7 @@
 use flux_values::Bytes;
 
 /// What a command prints.
-#[derive(Debug, Drop)]
+#[derive(Drop)]
 pub enum Prepared {
     /// What it was asked for.
     Text(Bytes),

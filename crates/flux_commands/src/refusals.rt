@@ -13,7 +13,7 @@ use flux_values::{Bytes, Memory};
 use std::alloc::Global;
 
 /// Why a command was not carried out.
-#[derive(Debug, Drop)]
+#[derive(Drop)]
 pub enum Refusal<'a> {
     Usage,
     /// The line about a fault of the program's text.

@@ -27,7 +27,7 @@ use std::sync::{Arc, Wait};
 use std::thread::Threads;
 
 /// How items are run, and what is printed of the run.
-#[derive(Debug, Drop)]
+#[derive(Drop)]
 pub struct Wanted {
     pub runtime: Runtime,
     pub printing: Printing,

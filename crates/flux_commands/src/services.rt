@@ -34,7 +34,7 @@ use std::alloc::Global;
 use std::sync::Arc;
 
 /// What is to be served: the file of a program, and how.
-#[derive(Debug, Drop)]
+#[derive(Drop)]
 pub struct Service<'a> {
     pub file: &'a [u8],
     pub port: u16,
