@@ -1,2 +1,3 @@
 -- Mirrors of what the code does step by step. No public clause cites them.
+pub mod Sights
 pub mod Telling

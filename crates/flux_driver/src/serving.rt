@@ -9,6 +9,7 @@ ghost use Rattle.flux_serve.specs.Served.{CanServe};
 ghost use Rattle.flux_sources.specs.Sources.{IsServed};
 ghost use Rattle.flux_serve.specs.Batches as batches;
 ghost use Rattle.flux_driver.specs.Serving.{IsOpened, HasServedBy};
+ghost use Rattle.flux_driver.specs.steps.Sights.{sight_by};
 
 use flow_core::Gate;
 use flux_batches::Framing;
@@ -99,20 +100,10 @@ fn serve_batches<
         HasServedBy replying
         (seen_by D.Link.had D.Link.left D.Link.written D.Link.faults)
         own wanted
-        (record {
-          to_come = D.to_come door.old;
-          taken_back = D.taken_back door.old;
-          faults = D.faults door.old;
-          late = D.late door.old;
-          log = record { written = O.written log.old; faults = O.faults log.old };
-        })
-        (record {
-          to_come = D.to_come door.new;
-          taken_back = D.taken_back door.new;
-          faults = D.faults door.new;
-          late = D.late door.new;
-          log = record { written = O.written log.new; faults = O.faults log.new };
-        }) result }
+        (sight_by D.to_come D.taken_back D.faults D.late door.old
+        (record { written = O.written log.old; faults = O.faults log.old }))
+        (sight_by D.to_come D.taken_back D.faults D.late door.new
+        (record { written = O.written log.new; faults = O.faults log.new })) result }
 {
     match replying {
         Replying::AtEnd(runtime) => {
@@ -155,40 +146,20 @@ pub fn serve_ready<
     // Each accepted link has gone back to the door.
     ensures out { D.out door.new ≡ 0 }
     ensures opened { IsOpened result service.entry.port (D.open_at door.old) (D.open_at door.new)
-        (record {
-          to_come = D.to_come door.old;
-          taken_back = D.taken_back door.old;
-          faults = D.faults door.old;
-          late = D.late door.old;
-          log = record { written = O.written log.old; faults = O.faults log.old };
-        })
-        (record {
-          to_come = D.to_come door.new;
-          taken_back = D.taken_back door.new;
-          faults = D.faults door.new;
-          late = D.late door.new;
-          log = record { written = O.written log.new; faults = O.faults log.new };
-        }) }
+        (sight_by D.to_come D.taken_back D.faults D.late door.old
+        (record { written = O.written log.old; faults = O.faults log.old }))
+        (sight_by D.to_come D.taken_back D.faults D.late door.new
+        (record { written = O.written log.new; faults = O.faults log.new })) }
     ensures later { (D.faults door.old ≤ D.faults door.new) × (D.late door.old ≤ D.late door.new) }
     ensures later_log { O.faults log.old ≤ O.faults log.new }
     ensures served { let own : batches.Service = (record { program = ready.checked.program; framing = ready.framing; meaning = L.meaning (arc_value ready.library) }) in
         HasServedBy service.entry.replying
         (seen_by D.Link.had D.Link.left D.Link.written D.Link.faults)
         own service.entry.batches
-        (record {
-          to_come = D.to_come door.old;
-          taken_back = D.taken_back door.old;
-          faults = D.faults door.old;
-          late = D.late door.old;
-          log = record { written = O.written log.old; faults = O.faults log.old };
-        })
-        (record {
-          to_come = D.to_come door.new;
-          taken_back = D.taken_back door.new;
-          faults = D.faults door.new;
-          late = D.late door.new;
-          log = record { written = O.written log.new; faults = O.faults log.new };
-        }) result }
+        (sight_by D.to_come D.taken_back D.faults D.late door.old
+        (record { written = O.written log.old; faults = O.faults log.old }))
+        (sight_by D.to_come D.taken_back D.faults D.late door.new
+        (record { written = O.written log.new; faults = O.faults log.new })) result }
 {
     let Ready {
         library,
