@@ -152,18 +152,42 @@ fn cell_key(plain: Plain, flow: FlowNo, node: &Node, name: &[u8]) -> Option<Key>
     None
 }
 
-/// `Show` emits its number on a line, and no other node emits.
-fn check_emission(
-    alloc: Global,
-    name: &[u8],
-    args: &[Value],
-    answer: &Answer,
-) -> Result<(), Wrong> {
-    let line = match args {
-        [Value::Int(given)] if name == b"Show".as_slice() => format!(in alloc; "{given}\n")?,
-        _ => String::new(alloc),
+/// Whether a text is the digits of a number, without a leading zero, and a line's end.
+fn is_line_of(digits: &[u8], number: u64) -> bool {
+    let [first, rest @ .., b'\n'] = digits else {
+        return false;
     };
-    check_that(answer.emits.as_bytes() == line.as_bytes(), Rule::Emission)
+    let mut value = digit_of(*first);
+    for byte in rest {
+        value = value.saturating_mul(10).saturating_add(digit_of(*byte));
+    }
+    value == number && (*first != b'0' || rest.is_empty())
+}
+
+/// What a digit stands for; of another byte more than all numbers have.
+fn digit_of(byte: u8) -> u64 {
+    match byte {
+        b'0'..=b'9' => u64::from(byte - b'0'),
+        _ => u64::MAX,
+    }
+}
+
+/// Whether a text is a number on a line.
+fn is_line(text: &[u8], number: i64) -> bool {
+    match text {
+        [b'-', digits @ ..] if number < 0 => is_line_of(digits, number.unsigned_abs()),
+        _ => number >= 0 && is_line_of(text, number.unsigned_abs()),
+    }
+}
+
+/// `Show` emits its number on a line, and no other node emits.
+fn check_emission(name: &[u8], args: &[Value], answer: &Answer) -> Result<(), Wrong> {
+    let emitted = answer.emits.as_bytes();
+    let is_right = match args {
+        [Value::Int(given)] if name == b"Show".as_slice() => is_line(emitted, *given),
+        _ => emitted.is_empty(),
+    };
+    check_that(is_right, Rule::Emission)
 }
 
 /// Each call of the entries has its node's answer, on what the calls before it put.
@@ -179,7 +203,7 @@ pub fn check_answers(alloc: Global, plain: Plain, entries: &[Entry]) -> Result<(
             let name = name.as_bytes();
             let key = cell_key(plain, entry.flow, node, name);
             kept.see(key, name, call)?;
-            check_emission(alloc, name, call.args.as_slice(), &call.answer)?;
+            check_emission(name, call.args.as_slice(), &call.answer)?;
         }
     }
     Ok(())

@@ -17,15 +17,17 @@ struct Claim {
 
 impl Claim {
     /// Whether two flows can't have both.
-    fn bars(&self, other: &Claim) -> bool {
-        self.flow != other.flow
-            && self.key == other.key
-            && (self.mode == Mode::Writer || other.mode == Mode::Writer)
+    fn bars(self, other: Claim) -> bool {
+        self.flow.0 != other.flow.0 && self.key == other.key && (self.writes() || other.writes())
+    }
+
+    fn writes(self) -> bool {
+        matches!(self.mode, Mode::Writer)
     }
 }
 
 /// Whether one of some claims keeps another from being had.
-fn are_barring(claims: &[Claim], claim: &Claim) -> bool {
+fn are_barring(claims: &[Claim], claim: Claim) -> bool {
     for other in claims {
         if other.bars(claim) {
             return true;
@@ -37,7 +39,7 @@ fn are_barring(claims: &[Claim], claim: &Claim) -> bool {
 /// Whether one of some claims is a flow's.
 fn have_flow(claims: &[Claim], flow: FlowNo) -> bool {
     for claim in claims {
-        if claim.flow == flow {
+        if claim.flow.0 == flow.0 {
             return true;
         }
     }
@@ -62,7 +64,7 @@ pub fn key_of(plain: Plain, flow: FlowNo, class: ClassNo) -> Key {
         None => false,
     };
     let id = match plain.given.get(flow.0 as usize) {
-        Some(given) if is_session => Some(u64::from_ne_bytes(given.number.to_ne_bytes())),
+        Some(given) if is_session => Some(given.number.cast_unsigned()),
         _ => None,
     };
     Key { class, id }
@@ -79,7 +81,7 @@ impl Seen {
         }
     }
 
-    fn holds(&self, claim: &Claim) -> bool {
+    fn holds(&self, claim: Claim) -> bool {
         self.place_held(claim.flow, claim.key).is_some()
     }
 
@@ -87,7 +89,7 @@ impl Seen {
     fn place_held(&self, flow: FlowNo, key: Key) -> Option<usize> {
         let mut last = None;
         for (place, held) in self.held.iter().enumerate() {
-            if held.flow == flow && held.key == key {
+            if held.flow.0 == flow.0 && held.key == key {
                 last = Some(place);
             }
         }
@@ -95,14 +97,14 @@ impl Seen {
     }
 
     /// Whether another flow's hold keeps a claim from being taken.
-    fn is_held_against(&self, claim: &Claim) -> bool {
+    fn is_held_against(&self, claim: Claim) -> bool {
         are_barring(&self.held, claim)
     }
 
     /// Whether another flow waits for the key and came first; whoever holds the key needn't care.
-    fn is_late(&self, claim: &Claim) -> bool {
+    fn is_late(&self, claim: Claim) -> bool {
         for waiting in &self.waiting {
-            if waiting.flow == claim.flow {
+            if waiting.flow.0 == claim.flow.0 {
                 return false;
             }
             if waiting.bars(claim) {
@@ -112,13 +114,13 @@ impl Seen {
         false
     }
 
-    fn is_blocked(&self, claim: &Claim) -> bool {
+    fn is_blocked(&self, claim: Claim) -> bool {
         !self.holds(claim) && (self.is_held_against(claim) || self.is_late(claim))
     }
 
     fn place_in_line(&self, flow: FlowNo) -> Option<usize> {
         for (place, waiting) in self.waiting.iter().enumerate() {
-            if waiting.flow == flow {
+            if waiting.flow.0 == flow.0 {
                 return Some(place);
             }
         }
@@ -126,7 +128,7 @@ impl Seen {
     }
 
     fn take(&mut self, claim: Claim) -> Result<(), Wrong> {
-        let is_free = !self.is_held_against(&claim) && !self.is_late(&claim);
+        let is_free = !self.is_held_against(claim) && !self.is_late(claim);
         check_that(is_free, Rule::Take)?;
         if let Some(place) = self.place_in_line(claim.flow)
             && place < self.waiting.len()
@@ -139,7 +141,7 @@ impl Seen {
     }
 
     fn wait(&mut self, claim: Claim) -> Result<(), Wrong> {
-        let may = self.is_blocked(&claim) && self.place_in_line(claim.flow).is_none();
+        let may = self.is_blocked(claim) && self.place_in_line(claim.flow).is_none();
         check_that(may, Rule::Wait)?;
         Ok(self.waiting.push(claim)?)
     }
@@ -155,7 +157,7 @@ impl Seen {
     }
 
     fn open(&mut self, node: NodeNo, claim: Claim) -> Result<(), Wrong> {
-        check_that(!are_barring(&self.open, &claim), Rule::Section)?;
+        check_that(!are_barring(&self.open, claim), Rule::Section)?;
         self.inside.push(node)?;
         Ok(self.open.push(claim)?)
     }

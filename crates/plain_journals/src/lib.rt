@@ -60,5 +60,5 @@ pub fn check_journal(
     check_that(is_rising(program.classes.as_slice()), Rule::ClassOrder)?;
     keys::check_keys(alloc, plain, entries)?;
     answers::check_answers(alloc, plain, entries)?;
-    walks::check_walks(alloc, plain, entries)
+    walks::check_walks(plain, entries)
 }

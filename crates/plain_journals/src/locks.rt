@@ -60,10 +60,10 @@ fn below(alloc: Global, nodes: &[Node], node: &Node) -> Result<Vec<bool>, Memory
 }
 
 fn greater(a: Option<Mode>, b: Option<Mode>) -> Option<Mode> {
-    match (a, b) {
-        (Some(Mode::Writer), _) | (_, Some(Mode::Writer)) => Some(Mode::Writer),
-        (None, other) | (other, None) => other,
-        _ => Some(Mode::Reader),
+    match a {
+        None => b,
+        Some(Mode::Writer) => a,
+        Some(Mode::Reader) => b.or(a),
     }
 }
 

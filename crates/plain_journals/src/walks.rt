@@ -5,10 +5,9 @@ ghost use Rattle.std.specs.Prelude.{◌<◌, IfOk};
 use crate::Plain;
 use crate::keys::key_of;
 use crate::rules::{Rule, Wrong, check_that};
-use flow_model::{Entry, Event, Outcome};
-use flux_model::{Body, Case, FlowNo, HandleArm, Hold, NodeNo};
+use flow_model::{Entry, Event, Key, Outcome};
+use flux_model::{Body, Case, FlowNo, HandleArm, Hold, Mode, NodeNo};
 use flux_values::{CallResult, Value};
-use std::alloc::Global;
 
 /// How deep calls of `Walker` may stand within each other here.
 const DEPTH: u32 = 64;
@@ -20,23 +19,54 @@ struct Way {
     number: i64,
 }
 
+/// An event that has to come next, but for calls.
+#[derive(Clone, Copy)]
+enum Wanted {
+    Take(Key, Mode),
+    Drop(Key),
+    Enter(NodeNo),
+    /// The chosen case, from 1.
+    Choose(usize),
+    Exit(NodeNo, Outcome),
+    End(Outcome),
+}
+
+fn is_wanted(event: &Event, wanted: Wanted) -> bool {
+    match (event, wanted) {
+        (Event::Take(key, mode), Wanted::Take(other, how)) => *key == other && *mode == how,
+        (Event::Drop(key), Wanted::Drop(other)) => *key == other,
+        (Event::Enter(node), Wanted::Enter(other)) => *node == other,
+        (Event::Choose(chosen), Wanted::Choose(other)) => *chosen as usize == other,
+        (Event::Exit(node, outcome), Wanted::Exit(other, how)) => {
+            *node == other && *outcome == how
+        }
+        (Event::End(outcome), Wanted::End(how)) => *outcome == how,
+        _ => false,
+    }
+}
+
 /// Goes through a flow's own events as its nodes ask for them.
-#[derive(Drop)]
+#[derive(Clone, Copy)]
 struct Walker<'a> {
     plain: Plain<'a>,
     flow: FlowNo,
-    own: Vec<&'a Event>,
-    at: usize,
+    /// The entries behind the flow's last event that was asked for.
+    left: &'a [Entry],
 }
 
-fn own_events(alloc: Global, entries: &[Entry], flow: FlowNo) -> Result<Vec<&Event>, Wrong> {
-    let mut own = Vec::new(alloc);
-    for entry in entries {
-        if entry.flow == flow && !matches!(entry.event, Event::Wait(..)) {
-            own.push(&entry.event)?;
+/// Whether an entry is an event of a flow's own, and no wait.
+fn is_own(entry: &Entry, flow: FlowNo) -> bool {
+    entry.flow == flow && !matches!(entry.event, Event::Wait(..))
+}
+
+/// Where a flow's first own event stands.
+fn place_of_own(entries: &[Entry], flow: FlowNo) -> Option<usize> {
+    for (place, entry) in entries.iter().enumerate() {
+        if is_own(entry, flow) {
+            return Some(place);
         }
     }
-    Ok(own)
+    None
 }
 
 /// Whether a case matches a number.
@@ -85,9 +115,10 @@ fn below(depth: u32) -> Result<u32, Wrong>
 
 impl<'a> Walker<'a> {
     fn next(&mut self) -> Option<&'a Event> {
-        let event = self.own.get(self.at).copied();
-        self.at = self.at.saturating_add(1);
-        event
+        let place = place_of_own(self.left, self.flow)?;
+        let (entry, rest) = self.left.get(place..)?.split_first()?;
+        self.left = rest;
+        Some(&entry.event)
     }
 
     fn locks(&self, node: NodeNo) -> &'a [Hold] {
@@ -104,23 +135,30 @@ impl<'a> Walker<'a> {
         }
     }
 
+    /// The next event has to be this one.
+    fn expect(&mut self, wanted: Wanted) -> Result<(), Wrong> {
+        match self.next() {
+            Some(event) if is_wanted(event, wanted) => Ok(()),
+            _ => Err(Wrong::Breaks(Rule::Walk)),
+        }
+    }
+
+    fn key(&self, hold: &Hold) -> Key {
+        key_of(self.plain, self.flow, hold.class)
+    }
+
     fn takes(&mut self, locks: &[Hold]) -> Result<(), Wrong> {
         for hold in locks {
-            let wanted = key_of(self.plain, self.flow, hold.class);
-            let event = self.next();
-            let is_next =
-                matches!(event, Some(Event::Take(key, mode)) if *key == wanted && *mode == hold.mode);
-            check_that(is_next, Rule::Walk)?;
+            let key = self.key(hold);
+            self.expect(Wanted::Take(key, hold.mode))?;
         }
         Ok(())
     }
 
     fn drops(&mut self, locks: &[Hold]) -> Result<(), Wrong> {
         for hold in locks.iter().rev() {
-            let wanted = key_of(self.plain, self.flow, hold.class);
-            let event = self.next();
-            let is_next = matches!(event, Some(Event::Drop(key)) if *key == wanted);
-            check_that(is_next, Rule::Walk)?;
+            let key = self.key(hold);
+            self.expect(Wanted::Drop(key))?;
         }
         Ok(())
     }
@@ -137,23 +175,9 @@ impl<'a> Walker<'a> {
         }
     }
 
-    fn enter(&mut self, node: NodeNo) -> Result<(), Wrong> {
-        let event = self.next();
-        let is_next = matches!(event, Some(Event::Enter(entered)) if *entered == node);
-        check_that(is_next, Rule::Walk)
-    }
-
-    fn exit(&mut self, node: NodeNo, way: Way) -> Result<(), Wrong> {
-        let event = self.next();
-        let is_next =
-            matches!(event, Some(Event::Exit(left, outcome)) if *left == node && *outcome == way.outcome);
-        check_that(is_next, Rule::Walk)
-    }
-
     fn end(&mut self, way: Way) -> Result<(), Wrong> {
-        let event = self.next();
-        let is_next = matches!(event, Some(Event::End(outcome)) if *outcome == way.outcome);
-        check_that(is_next && self.next().is_none(), Rule::Walk)
+        self.expect(Wanted::End(way.outcome))?;
+        check_that(self.next().is_none(), Rule::Walk)
     }
 
     /// A case's members, each on what the one before gave, until one doesn't come out well.
@@ -180,10 +204,7 @@ impl<'a> Walker<'a> {
         let plain = self.plain;
         for (place, case) in cases.iter().enumerate() {
             if is_match(plain, case, given) {
-                let event = self.next();
-                let is_next =
-                    matches!(event, Some(Event::Choose(chosen)) if *chosen as usize == place.saturating_add(1));
-                check_that(is_next, Rule::Walk)?;
+                self.expect(Wanted::Choose(place.saturating_add(1)))?;
                 return self.members(depth, case.members.as_slice(), given);
             }
         }
@@ -230,16 +251,16 @@ impl<'a> Walker<'a> {
         let depth = below(depth)?;
         let locks = self.locks(node);
         self.takes(locks)?;
-        self.enter(node)?;
+        self.expect(Wanted::Enter(node))?;
         let way = self.body(depth, node, given)?;
-        self.exit(node, way)?;
+        self.expect(Wanted::Exit(node, way.outcome))?;
         self.drops(locks)?;
         self.handle(depth, node, given, way)
     }
 }
 
 /// The flow's own events are its target's walk, and its end.
-fn check_walk(alloc: Global, plain: Plain, entries: &[Entry], flow: FlowNo) -> Result<(), Wrong> {
+fn check_walk(plain: Plain, entries: &[Entry], flow: FlowNo) -> Result<(), Wrong> {
     let Some(given) = plain.given.get(flow.0 as usize) else {
         return Err(Wrong::Breaks(Rule::Flow));
     };
@@ -249,15 +270,14 @@ fn check_walk(alloc: Global, plain: Plain, entries: &[Entry], flow: FlowNo) -> R
     let mut walker = Walker {
         plain,
         flow,
-        own: own_events(alloc, entries, flow)?,
-        at: 0,
+        left: entries,
     };
     let way = walker.walk(DEPTH, line.target, given.number)?;
     walker.end(way)
 }
 
 /// Each flow's own events are one whole walk, and there are no other flows.
-pub fn check_walks(alloc: Global, plain: Plain, entries: &[Entry]) -> Result<(), Wrong> {
+pub fn check_walks(plain: Plain, entries: &[Entry]) -> Result<(), Wrong> {
     let Ok(flows) = u32::try_from(plain.given.len()) else {
         return Err(Wrong::Breaks(Rule::Flow));
     };
@@ -265,7 +285,7 @@ pub fn check_walks(alloc: Global, plain: Plain, entries: &[Entry]) -> Result<(),
         check_that(entry.flow.0 < flows, Rule::Flow)?;
     }
     for flow in 0..flows {
-        check_walk(alloc, plain, entries, FlowNo(flow))?;
+        check_walk(plain, entries, FlowNo(flow))?;
     }
     Ok(())
 }
