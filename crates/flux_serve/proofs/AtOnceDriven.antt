@@ -1,20 +1,26 @@
 -- A batch that was served at once: driven whole, or only begun.
-use Rattle.std.proofs.Common.{◌≡◌, ℕ, Bool, true, false, List, [], Option, sym, subst}
+use Rattle.std.proofs.Common.{◌≡◌, ℕ, zero, suc, ◌+◌, ◌<◌, Bool, true, false, cond, List, [], length, Option, sym, ap, subst, ◌∙◌, refl, inl, inr, arith}
+use Rattle.std.specs.Prelude.{Result, Ok, Err, IfErr}
 use Rattle.flux_model.specs.declared.items.Item.{Item}
 use Rattle.flow_model.specs.declared.journals.Entry.{Entry}
 use Rattle.flow_model.specs.declared.journals.Journal.{Journal}
 use Rattle.flow_model.specs.Keys.{Cells}
 use Rattle.flow_model.specs.Setup.{Setup}
-use Rattle.flow_model.specs.Legal.{IsLegal}
+use Rattle.flow_model.specs.Legal.{IsLegal, IsWhole}
+use Rattle.flux_laws.specs.Growth.{has_ended}
+use Rattle.flow_state.proofs.Ended.{one_live, live_in, whole-has_ended}
+use Rattle.flux_cells.specs.Kept.{Kept}
 use Rattle.flux_batches.specs.declared.reading.Held.{Held}
 use Rattle.flux_batches.specs.Links.{Seen, AreRead, items_from}
 use Rattle.flux_batches.specs.Replies.{TakesBack, AreAllAnswered}
 use Rattle.flux_batches.specs.Gathered.{AreGathered}
+use Rattle.flux_serve.specs.declared.batches.ServeEnd.{ServeEnd}
 use Rattle.flux_serve.specs.Batches.{Service, Batch, batch_setup}
-use Rattle.flux_serve.specs.Ends.{Sight}
+use Rattle.flux_serve.specs.Ends.{Sight, HasStopped}
 use Rattle.flux_serve.specs.AtOnce.{IsBegun}
-use Rattle.flux_serve.specs.steps.Batches.{IsTaken}
+use Rattle.flux_serve.specs.steps.Batches.{IsTaken, IsNoneAtOnce, StopsAtOnce}
 use Rattle.flux_serve.specs.steps.Dues.{AreBack}
+use Rattle.flux_serve.proofs.Driven.{stopped_none}
 use Rattle.flux_serve.proofs.Backs.{back-answered, back-so-far}
 
 -- links that were taken back
@@ -43,6 +49,7 @@ pub record Begun {L : Type 0} (see : L → Seen) (service : Service) (opening : 
   pub each : AreRead held
   pub is : items ≡ items_from number held
   pub legal : IsLegal (batch_setup service opening items) journal.entries
+  pub unfinished : IsWhole (batch_setup service opening items) journal.entries → ⊥
   pub returned : TakenBack see false journal.entries held taken_back after.taken_back
   pub come : after.to_come ≡ to_come
   pub late_ : after.late ≡ late
@@ -55,6 +62,7 @@ pub begun-of : {L : Type 0} → (see : L → Seen) (service : Service) (opening 
 begun-of {L} see service opening number before after held items journal b =
     let t = b.taken in
     let Q : List Item → Type 0 = λ i. IsLegal (batch_setup service opening i) journal.entries in
+    let U : List Item → Type 0 = λ i. IsWhole (batch_setup service opening i) journal.entries → ⊥ in
     let T : Option (List L) → Type 0 = λ o. TakesBack o after.taken_back b.returned.0 in
     let C : Option (List (List L)) → Type 0 = λ c. AreGathered before.to_come c before.late after.late t.came in
     let D : ℕ → Type 0 = λ n. AreGathered before.to_come b.to_come before.late n t.came in (
@@ -65,9 +73,36 @@ begun-of {L} see service opening number before after held items journal b =
         read = t.read;
         each = b.each;
         legal = subst Q b.is b.legal;
+        unfinished = subst U b.is b.unfinished;
         replies = back-so-far see (batch_setup service opening items) journal.entries b.legal 0 held b.returned.0 b.returned.1 b.returned.3;
         back = subst T b.back b.returned.2;
         steady = b.steady;
         log_ = b.log_;
       },
     )
+
+-- ---- a journal that isn't whole
+
+-- where each flow has its `end`, none is live
+none-live : (entries : List Entry) (count : ℕ) → ((flow : ℕ) → flow < count → has_ended entries flow ≡ true) → live_in entries count ≡ 0
+none-live entries zero ended = refl
+none-live entries (suc count) ended =
+    let before = none-live entries count (λ flow below. ended flow (omega (arith, below))) in
+    let last : one_live entries count ≡ 0 = ap (λ (b : Bool). cond b 0 1) (ended count (omega arith)) in
+    omega (arith, before, last)
+
+-- in a whole journal no flow is live
+pub whole-none-live : (setup : Setup) (entries : List Entry) → IsWhole setup entries → live_in entries (length setup.items) ≡ 0
+whole-none-live setup entries whole = none-live entries (length setup.items) (λ flow below. whole-has_ended setup entries flow (whole flow below))
+
+-- ---- how it ended
+
+module _ {L : Type 0} (see : L → Seen) (service : Service) (opening : Cells) (count number : ℕ) (before after : Sight L) where
+  pub none_stops : (end : ServeEnd) → IsNoneAtOnce see service opening number before after end → StopsAtOnce see service opening count number before after end
+  none_stops end (inl none) = inl (stopped_none see service opening count number before after end none)
+  none_stops end (inr begun) = inr begun
+
+  pub stops_if : (result : Result (Kept × ℕ) ServeEnd) → IfErr result (HasStopped see service opening count number before after)
+      → IfErr result (StopsAtOnce see service opening count number before after)
+  stops_if (Ok next) stopped = tt
+  stops_if (Err end) stopped = inl stopped

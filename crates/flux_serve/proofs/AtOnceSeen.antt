@@ -4,7 +4,7 @@ use Rattle.std.proofs.lemmas.List.{length-map}
 use Rattle.flux_model.specs.declared.items.Item.{Item}
 use Rattle.flow_model.specs.declared.journals.Entry.{Entry}
 use Rattle.flow_model.specs.Keys.{Cells}
-use Rattle.flow_model.specs.Legal.{IsLegal}
+use Rattle.flow_model.specs.Legal.{IsLegal, IsWhole}
 use Rattle.flux_outside.specs.Causes.{Rose}
 use Rattle.flux_outside.specs.Streams.{Stream}
 use Rattle.flux_batches.specs.declared.reading.Held.{Held}
@@ -32,12 +32,14 @@ module _ {L : Type 0} (see : L → Seen) where
   begun_seen service opening number batch before after b =
       let journal = batch.journal in
       let Q : List Item → Type 0 = λ its. IsLegal (batch_setup service opening its) journal.entries in
+      let U : List Item → Type 0 = λ its. IsWhole (batch_setup service opening its) journal.entries → ⊥ in
       record {
         formed = gathered_seen see before.to_come after.to_come before.late after.late batch.came b.formed;
         size = (rw (length-map batch.came see) b.size.0, rw (length-map batch.came see) b.size.1);
         read = read_seen see service.framing batch.came batch.held b.read;
         each = each_seen see batch.held b.each;
         legal = subst Q (sym (items_seen see number batch.held)) b.legal;
+        unfinished = subst U (sym (items_seen see number batch.held)) b.unfinished;
         replies = so_far_seen journal.entries 0 batch.held batch.back b.replies;
         back = taken_seen see before.taken_back after.taken_back batch.back b.back;
         steady = b.steady;

@@ -4,7 +4,6 @@ mod AtOnceDriven
 mod OneByOne
 mod AtOnceByOne
 mod OneSource
-mod Pieces
 mod EndedReplies
 mod Backs
 mod Shares

@@ -2,7 +2,7 @@
 use Rattle.std.specs.Prelude.{◌≡◌, ℕ, ◌<◌, ◌≤◌, ◌⊎◌, true, List, [], ◌∷◌, length}
 use Rattle.flow_model.specs.declared.journals.Entry.{Entry}
 use Rattle.flow_model.specs.Keys.{Cells}
-use Rattle.flow_model.specs.Legal.{IsLegal}
+use Rattle.flow_model.specs.Legal.{IsLegal, IsWhole}
 use Rattle.flux_laws.specs.Growth.{has_ended}
 use Rattle.flux_outside.specs.Streams.{WroteOrBroke}
 use Rattle.flux_batches.specs.declared.reading.Sent.{Sent}
@@ -41,8 +41,8 @@ AreAnsweredSoFar see entries flow (held ∷ rest) (back ∷ backs) =
     × AreAnsweredSoFar see entries (flow_behind flow held.sent) rest backs
 
 -- a batch that was broken off: its links are the first of the door's next batch, one to 64; they were
--- read, answered so far by one legal journal of its items, and given back; the log and the door's count
--- stand
+-- read, answered so far by one legal journal of its items, which isn't whole, and given back; the log and
+-- the door's count stand
 pub record IsBegun {L : Type 0} (see : L → Seen) (service : Service) (opening : Cells) (number : ℕ)
     (batch : Batch L) (before after : Sight L) : Type 0 where
   pub formed : AreGathered before.to_come after.to_come before.late after.late batch.came
@@ -51,6 +51,8 @@ pub record IsBegun {L : Type 0} (see : L → Seen) (service : Service) (opening 
   pub each : AreRead batch.held
   pub legal : let journal = batch.journal in
       IsLegal (batch_setup service opening (batch_items number batch)) journal.entries
+  pub unfinished : let journal = batch.journal in
+      IsWhole (batch_setup service opening (batch_items number batch)) journal.entries → ⊥
   pub replies : let journal = batch.journal in
       AreAnsweredSoFar see journal.entries 0 batch.held batch.back
   pub back : TakesBack before.taken_back after.taken_back batch.back

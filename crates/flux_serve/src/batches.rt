@@ -1,18 +1,16 @@
 //! One batch: taken, driven, answered and logged.
 
-ghost use Rattle.std.specs.Prelude.{◌≡◌, ◌+◌, ◌^◌, ◌<◌, ◌≤◌, Err, length, IfOk, IfErr, OnOk, OnErr};
-ghost use Rattle.std.specs.Arc.{arc_value};
+ghost use Rattle.std.specs.Prelude.{◌≡◌, ◌+◌, ◌^◌, ◌<◌, ◌≤◌, IfOk, IfErr, OnOk, OnErr};
 ghost use Rattle.std.specs.VecDeque.{deque_len};
 ghost use Rattle.flow_model.specs.CellsAfter.{cells_after};
 ghost use Rattle.flow_model.specs.Legal.{IsLegal, IsWhole};
 ghost use Rattle.flux_cells.specs.Kept.{cells_of};
-ghost use Rattle.flux_outside.specs.Streams.{Stream, Wrote, Broke};
+ghost use Rattle.flux_outside.specs.Streams.{Stream, Wrote};
 ghost use Rattle.flux_journal.specs.Logs.{printed_batch};
 ghost use Rattle.flux_batches.specs.Links.{seen_by, AreRead, items_from};
-ghost use Rattle.flux_serve.specs.Served.{CanServe};
-ghost use Rattle.flux_serve.specs.Batches.{Service, batch_setup};
-ghost use Rattle.flux_serve.specs.steps.Batches.{IsTaken, IsNone, HasFinished, HasPassed};
+ghost use Rattle.flux_serve.specs.Batches.{batch_setup};
 ghost use Rattle.flux_serve.specs.Ends.{HasStopped};
+ghost use Rattle.flux_serve.specs.steps.Batches.{sight_in, service_in, MayServe, IsTaken, IsNone, HasFinished, HasRun, HasPassed};
 
 use crate::runs::{Served, run};
 use flow_core::{Gate, Runtime};
@@ -47,12 +45,13 @@ pub enum ServeEnd {
     Memory,
 }
 
-/// What a batch came to: its items, its journal, and the cells at its end.
+/// What a batch came to: its items, its journal, the cells at its end, and the number of the link behind its links.
 #[derive(Drop)]
 pub struct Run {
     pub items: List<Item>,
     pub journal: Journal,
     pub cells: Cells,
+    pub next: u64,
 }
 
 /// Takes the links of the next batch, and reads them side by side.
@@ -72,22 +71,10 @@ pub fn take<D: Door, Rt: Threads + Sync>(
     ensures steady { OnOk result (D.faults door.new ≡ D.faults door.old) }
     ensures none_out { OnErr result (D.out door.new ≡ 0) }
     ensures later { (D.faults door.old ≤ D.faults door.new) × (D.late door.old ≤ D.late door.new) }
-    ensures none { (log : Stream) → IfErr result (λ end. IsNone
+    ensures none { (log : Stream) → IfErr result (IsNone
         (seen_by D.Link.had D.Link.left D.Link.written D.Link.faults)
-        (record {
-          to_come = D.to_come door.old;
-          taken_back = D.taken_back door.old;
-          faults = D.faults door.old;
-          late = D.late door.old;
-          log = log;
-        })
-        (record {
-          to_come = D.to_come door.new;
-          taken_back = D.taken_back door.new;
-          faults = D.faults door.new;
-          late = D.late door.new;
-          log = log;
-        }) end) }
+        (sight_in D.to_come D.taken_back D.faults D.late door.old log)
+        (sight_in D.to_come D.taken_back D.faults D.late door.new log)) }
 {
     let links = match gather(alloc, door) {
         Ok(links) => links,
@@ -115,33 +102,81 @@ fn run_links<K, L: Library, R: Runtime, G: Gate, Rt: Threads + Wait + Sync>(
     number: u64,
     opening: Cells,
 ) -> Result<Run, Memory>
-    requires can { CanServe (L.meaning (arc_value served.now.library)) (arc_value served.now.program)
-        (arc_value served.now.plans) served.now.framing }
+    requires can { MayServe L.meaning served.now }
     requires ready { R.ready runtime.old }
     requires few { deque_len links.now ≤ 64 }
     requires numbers { number + 64 < 2 ^ 63 }
     ensures again { R.ready runtime.new }
     ensures items { IfOk result (λ run. run.items ≡ items_from number links.now.items) }
+    ensures next { IfOk result (λ run. run.next ≡ number + deque_len links.now) }
     ensures read { OnOk result (AreRead links.now.items) }
-    ensures legal { let service : Service = (record { program = arc_value served.now.program; framing = served.now.framing; meaning = L.meaning (arc_value served.now.library) }) in
-        IfOk result (λ run. let journal = run.journal in IsLegal (batch_setup service (cells_of opening) run.items) journal.entries) }
-    ensures whole { let service : Service = (record { program = arc_value served.now.program; framing = served.now.framing; meaning = L.meaning (arc_value served.now.library) }) in
-        IfOk result (λ run. let journal = run.journal in IsWhole (batch_setup service (cells_of opening) run.items) journal.entries) }
-    ensures cells { let service : Service = (record { program = arc_value served.now.program; framing = served.now.framing; meaning = L.meaning (arc_value served.now.library) }) in
-        IfOk result (λ run. let journal = run.journal in cells_of run.cells ≡ cells_after (batch_setup service (cells_of opening) run.items) journal.entries) }
+    ensures legal { IfOk result (λ run. let journal = run.journal in
+        IsLegal (batch_setup (service_in L.meaning served.now) (cells_of opening) run.items) journal.entries) }
+    ensures whole { IfOk result (λ run. let journal = run.journal in
+        IsWhole (batch_setup (service_in L.meaning served.now) (cells_of opening) run.items) journal.entries) }
+    ensures cells { IfOk result (λ run. let journal = run.journal in cells_of run.cells
+        ≡ cells_after (batch_setup (service_in L.meaning served.now) (cells_of opening) run.items) journal.entries) }
 {
     let items = items_of(alloc, links, number)?;
     let kept = items_of(alloc, links, number)?;
+    let next = number + links.len() as u64;
     let (journal, cells) = run(rt, alloc, served, runtime, gate, items, opening)?;
     Ok(Run {
         items: kept,
         journal,
         cells,
+        next,
     })
 }
 
+/// Drives the next batch to its end, and answers its links.
+fn drive_batch<L: Library, D: Door, R: Runtime, G: Gate, Rt: Threads + Wait + Sync>(
+    rt: &Rt,
+    alloc: Global,
+    served: &Served<L>,
+    door: &mut D,
+    runtime: &mut R,
+    gate: &G,
+    opening: Cells,
+    number: u64,
+) -> Result<Run, ServeEnd>
+    requires can { MayServe L.meaning served.now }
+    requires ready { R.ready runtime.old }
+    requires out { D.out door.old ≡ 0 }
+    requires numbers { number + 64 < 2 ^ 63 }
+    ensures again { R.ready runtime.new }
+    ensures out { D.out door.new ≡ 0 }
+    ensures open { D.open_at door.new ≡ D.open_at door.old }
+    ensures later { (D.faults door.old ≤ D.faults door.new) × (D.late door.old ≤ D.late door.new) }
+    ensures bound { IfOk result (λ run. run.next ≤ number + 64) }
+    ensures ran { (log : Stream) → IfOk result (HasRun
+        (seen_by D.Link.had D.Link.left D.Link.written D.Link.faults)
+        (service_in L.meaning served.now) (cells_of opening) number
+        (sight_in D.to_come D.taken_back D.faults D.late door.old log)
+        (sight_in D.to_come D.taken_back D.faults D.late door.new log)) }
+    ensures none { (log : Stream) → IfErr result (IsNone
+        (seen_by D.Link.had D.Link.left D.Link.written D.Link.faults)
+        (sight_in D.to_come D.taken_back D.faults D.late door.old log)
+        (sight_in D.to_come D.taken_back D.faults D.late door.new log)) }
+{
+    let links = match take(rt, alloc, door, served.framing) {
+        Ok(links) => links,
+        Err(end) => return Err(end),
+    };
+    match run_links(rt, alloc, served, runtime, gate, &links, number, opening) {
+        Ok(run) => {
+            answer_links(rt, door, links, run.journal.entries.as_slice());
+            Ok(run)
+        }
+        Err(_) => {
+            give_back_held(door, links);
+            Err(ServeEnd::Memory)
+        }
+    }
+}
+
 /// Writes the text of a batch.
-pub fn write_batch<O: Sink>(
+fn write_batch<O: Sink>(
     alloc: Global,
     program: &Program,
     log: &mut O,
@@ -167,6 +202,31 @@ pub fn write_batch<O: Sink>(
     }
 }
 
+/// The same: gives what the next batch begins with, the cells at its end and the number of the link behind its links.
+pub fn log_batch<O: Sink>(
+    alloc: Global,
+    program: &Program,
+    log: &mut O,
+    count: u32,
+    run: Run,
+) -> Result<(Cells, u64), ServeEnd>
+    ensures later { O.faults log.old ≤ O.faults log.new }
+    ensures left { IfOk result (λ next. (next.0 ≡ run.cells) × (next.1 ≡ run.next)) }
+    ensures wrote { OnOk result (Wrote
+        (record { written = O.written log.old; faults = O.faults log.old })
+        (record { written = O.written log.new; faults = O.faults log.new })
+        (printed_batch program.now count run.items run.journal)) }
+    ensures ends { IfErr result (λ end. HasFinished end
+        (record { written = O.written log.old; faults = O.faults log.old })
+        (record { written = O.written log.new; faults = O.faults log.new })
+        (printed_batch program.now count run.items run.journal)) }
+{
+    match write_batch(alloc, program, log, count, &run) {
+        Ok(()) => Ok((run.cells, run.next)),
+        Err(end) => Err(end),
+    }
+}
+
 /// Serves the next batch: gives the cells at its end, and the number of the link behind its links.
 pub fn serve_batch<L: Library, D: Door, O: Sink, R: Runtime, G: Gate, Rt: Threads + Wait + Sync>(
     rt: &Rt,
@@ -180,8 +240,7 @@ pub fn serve_batch<L: Library, D: Door, O: Sink, R: Runtime, G: Gate, Rt: Thread
     count: u32,
     number: u64,
 ) -> Result<(Cells, u64), ServeEnd>
-    requires can { CanServe (L.meaning (arc_value served.now.library)) (arc_value served.now.program)
-        (arc_value served.now.plans) served.now.framing }
+    requires can { MayServe L.meaning served.now }
     requires ready { R.ready runtime.old }
     requires out { D.out door.old ≡ 0 }
     requires numbers { number + 64 < 2 ^ 63 }
@@ -191,59 +250,20 @@ pub fn serve_batch<L: Library, D: Door, O: Sink, R: Runtime, G: Gate, Rt: Thread
     ensures later { (D.faults door.old ≤ D.faults door.new) × (D.late door.old ≤ D.late door.new) }
     ensures later_log { O.faults log.old ≤ O.faults log.new }
     ensures bound { IfOk result (λ next. next.1 ≤ number + 64) }
-    ensures passed { let service : Service = (record { program = arc_value served.now.program; framing = served.now.framing; meaning = L.meaning (arc_value served.now.library) }) in
-        IfOk result (λ next. HasPassed
+    ensures passed { IfOk result (λ next. HasPassed
         (seen_by D.Link.had D.Link.left D.Link.written D.Link.faults)
-        service (cells_of opening) count number
-        (record {
-          to_come = D.to_come door.old;
-          taken_back = D.taken_back door.old;
-          faults = D.faults door.old;
-          late = D.late door.old;
-          log = record { written = O.written log.old; faults = O.faults log.old };
-        })
-        (record {
-          to_come = D.to_come door.new;
-          taken_back = D.taken_back door.new;
-          faults = D.faults door.new;
-          late = D.late door.new;
-          log = record { written = O.written log.new; faults = O.faults log.new };
-        })
+        (service_in L.meaning served.now) (cells_of opening) count number
+        (sight_in D.to_come D.taken_back D.faults D.late door.old (record { written = O.written log.old; faults = O.faults log.old }))
+        (sight_in D.to_come D.taken_back D.faults D.late door.new (record { written = O.written log.new; faults = O.faults log.new }))
         (cells_of next.0) next.1) }
-    ensures stopped { let service : Service = (record { program = arc_value served.now.program; framing = served.now.framing; meaning = L.meaning (arc_value served.now.library) }) in
-        IfErr result (HasStopped
+    ensures stopped { IfErr result (HasStopped
         (seen_by D.Link.had D.Link.left D.Link.written D.Link.faults)
-        service (cells_of opening) count number
-        (record {
-          to_come = D.to_come door.old;
-          taken_back = D.taken_back door.old;
-          faults = D.faults door.old;
-          late = D.late door.old;
-          log = record { written = O.written log.old; faults = O.faults log.old };
-        })
-        (record {
-          to_come = D.to_come door.new;
-          taken_back = D.taken_back door.new;
-          faults = D.faults door.new;
-          late = D.late door.new;
-          log = record { written = O.written log.new; faults = O.faults log.new };
-        })) }
+        (service_in L.meaning served.now) (cells_of opening) count number
+        (sight_in D.to_come D.taken_back D.faults D.late door.old (record { written = O.written log.old; faults = O.faults log.old }))
+        (sight_in D.to_come D.taken_back D.faults D.late door.new (record { written = O.written log.new; faults = O.faults log.new }))) }
 {
-    let links = match take(rt, alloc, door, served.framing) {
-        Ok(links) => links,
-        Err(end) => return Err(end),
-    };
-    let run = match run_links(rt, alloc, served, runtime, gate, &links, number, opening) {
-        Ok(run) => run,
-        Err(_) => {
-            give_back_held(door, links);
-            return Err(ServeEnd::Memory);
-        }
-    };
-    let next = number + links.len() as u64;
-    answer_links(rt, door, links, run.journal.entries.as_slice());
-    match write_batch(alloc, &served.program, log, count, &run) {
-        Ok(()) => Ok((run.cells, next)),
+    match drive_batch(rt, alloc, served, door, runtime, gate, opening, number) {
+        Ok(run) => log_batch(alloc, &served.program, log, count, run),
         Err(end) => Err(end),
     }
 }

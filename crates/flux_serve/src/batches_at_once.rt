@@ -1,20 +1,19 @@
 //! One batch, whose links are answered while its flows run.
 
-ghost use Rattle.std.specs.Prelude.{◌≡◌, ℕ, ◌+◌, ◌^◌, ◌<◌, ◌≤◌, true, All, List, [], length, vec_len, IfOk, IfErr, OnOk};
+ghost use Rattle.std.specs.Prelude.{◌≡◌, ℕ, ◌+◌, ◌^◌, ◌<◌, ◌≤◌, true, false, All, List, [], length, vec_len, IfOk, IfErr, OnOk};
 ghost use Rattle.std.specs.Arc.{arc_value};
 ghost use Rattle.std.specs.VecDeque.{deque_len};
 ghost use Rattle.flow_model.specs.CellsAfter.{cells_after};
 ghost use Rattle.flow_model.specs.Legal.{IsLegal, IsWhole};
 ghost use Rattle.flux_cells.specs.Kept.{cells_of};
+ghost use Rattle.flux_outside.specs.Streams.{Stream};
 ghost use Rattle.flow_core.specs.States.{opened, setup_in};
 ghost use Rattle.flux_batches.specs.Links.{seen_by, AreRead, items_from};
 ghost use Rattle.flux_batches.specs.Replies.{TakesBack};
-ghost use Rattle.flux_serve.specs.Served.{CanServe};
-ghost use Rattle.flux_serve.specs.Batches.{Service};
-ghost use Rattle.flux_serve.specs.steps.Batches.{HasPassed, StopsAtOnce};
+ghost use Rattle.flux_serve.specs.steps.Batches.{sight_in, service_in, MayServe, HasRun, HasPassed, IsNoneAtOnce, StopsAtOnce};
 ghost use Rattle.flux_serve.specs.steps.Dues.{IsEmptyLane, AreBack};
 
-use crate::batches::{Run, ServeEnd, take, write_batch};
+use crate::batches::{Run, ServeEnd, log_batch, take};
 use crate::lanes::{Lane, deal, empty_lanes, give_back_dues};
 use crate::runs::{Served, open};
 use crate::workers::drive;
@@ -43,8 +42,7 @@ fn begin<K, L: Library>(
     number: u64,
     opening: Cells,
 ) -> Result<(Core<L>, List<Item>), Memory>
-    requires can { CanServe (L.meaning (arc_value served.now.library)) (arc_value served.now.program)
-        (arc_value served.now.plans) served.now.framing }
+    requires can { MayServe L.meaning served.now }
     requires few { deque_len links.now ≤ 64 }
     requires numbers { number + 64 < 2 ^ 63 }
     ensures core { IfOk result (λ begun. begun.0 ≡ opened (arc_value served.now.program)
@@ -67,8 +65,7 @@ fn prepare<K: Drop, L: Library>(
     opening: Cells,
     workers: u8,
 ) -> Result<(Core<L>, List<Item>, Vec<Lane<SharedSeat<L>, K>>), Memory>
-    requires can { CanServe (L.meaning (arc_value served.now.library)) (arc_value served.now.program)
-        (arc_value served.now.plans) served.now.framing }
+    requires can { MayServe L.meaning served.now }
     requires few { deque_len links.now ≤ 64 }
     requires numbers { number + 64 < 2 ^ 63 }
     ensures core { IfOk result (λ all. all.0 ≡ opened (arc_value served.now.program)
@@ -100,6 +97,7 @@ fn run_lanes<L: Library + Send + Sync, D: Door, G: Gate + Sync, Rt: Threads + Wa
     ensures out { D.out door.new ≡ 0 }
     ensures legal { IsLegal (setup_in L.meaning core) result.0.entries }
     ensures whole { result.2 ≡ true → IsWhole (setup_in L.meaning core) result.0.entries }
+    ensures broken { result.2 ≡ false → IsWhole (setup_in L.meaning core) result.0.entries → ⊥ }
     ensures cells { cells_of result.1 ≡ cells_after (setup_in L.meaning core) result.0.entries }
     ensures back { (backs : List D.Link) × (next : ℕ) × TakesBack (D.taken_back door.old) (D.taken_back door.new) backs
         × AreBack (seen_by D.Link.had D.Link.left D.Link.written D.Link.faults) result.2 result.0.entries 0
@@ -119,12 +117,10 @@ fn run_lanes<L: Library + Send + Sync, D: Door, G: Gate + Sync, Rt: Threads + Wa
     (journal, cells, whole)
 }
 
-/// Serves the next batch, each link as soon as its flow has its `end`: gives the cells at its end, and the number of the link
-/// behind its links.
-pub fn serve_batch_at_once<
+/// Drives the next batch by its workers, and answers each link as soon as its flow has its `end`.
+fn drive_batch_at_once<
     L: Library + Send + Sync,
     D: Door,
-    O: Sink,
     G: Gate + Sync,
     Rt: Threads + Wait + Sync,
 >(
@@ -132,60 +128,29 @@ pub fn serve_batch_at_once<
     alloc: Global,
     served: &Served<L>,
     door: &mut D,
-    log: &mut O,
     workers: u8,
     gate: &G,
     opening: Cells,
-    count: u32,
     number: u64,
-) -> Result<(Cells, u64), ServeEnd>
-    requires can { CanServe (L.meaning (arc_value served.now.library)) (arc_value served.now.program)
-        (arc_value served.now.plans) served.now.framing }
+) -> Result<Run, ServeEnd>
+    requires can { MayServe L.meaning served.now }
     requires some { 0 < workers }
     requires out { D.out door.old ≡ 0 }
     requires numbers { number + 64 < 2 ^ 63 }
     ensures out { D.out door.new ≡ 0 }
     ensures open { D.open_at door.new ≡ D.open_at door.old }
     ensures later { (D.faults door.old ≤ D.faults door.new) × (D.late door.old ≤ D.late door.new) }
-    ensures later_log { O.faults log.old ≤ O.faults log.new }
-    ensures bound { IfOk result (λ next. next.1 ≤ number + 64) }
-    ensures passed { let service : Service = (record { program = arc_value served.now.program; framing = served.now.framing; meaning = L.meaning (arc_value served.now.library) }) in
-        IfOk result (λ next. HasPassed
+    ensures bound { IfOk result (λ run. run.next ≤ number + 64) }
+    ensures ran { (log : Stream) → IfOk result (HasRun
         (seen_by D.Link.had D.Link.left D.Link.written D.Link.faults)
-        service (cells_of opening) count number
-        (record {
-          to_come = D.to_come door.old;
-          taken_back = D.taken_back door.old;
-          faults = D.faults door.old;
-          late = D.late door.old;
-          log = record { written = O.written log.old; faults = O.faults log.old };
-        })
-        (record {
-          to_come = D.to_come door.new;
-          taken_back = D.taken_back door.new;
-          faults = D.faults door.new;
-          late = D.late door.new;
-          log = record { written = O.written log.new; faults = O.faults log.new };
-        })
-        (cells_of next.0) next.1) }
-    ensures stopped { let service : Service = (record { program = arc_value served.now.program; framing = served.now.framing; meaning = L.meaning (arc_value served.now.library) }) in
-        IfErr result (StopsAtOnce
+        (service_in L.meaning served.now) (cells_of opening) number
+        (sight_in D.to_come D.taken_back D.faults D.late door.old log)
+        (sight_in D.to_come D.taken_back D.faults D.late door.new log)) }
+    ensures none { (log : Stream) → IfErr result (IsNoneAtOnce
         (seen_by D.Link.had D.Link.left D.Link.written D.Link.faults)
-        service (cells_of opening) count number
-        (record {
-          to_come = D.to_come door.old;
-          taken_back = D.taken_back door.old;
-          faults = D.faults door.old;
-          late = D.late door.old;
-          log = record { written = O.written log.old; faults = O.faults log.old };
-        })
-        (record {
-          to_come = D.to_come door.new;
-          taken_back = D.taken_back door.new;
-          faults = D.faults door.new;
-          late = D.late door.new;
-          log = record { written = O.written log.new; faults = O.faults log.new };
-        })) }
+        (service_in L.meaning served.now) (cells_of opening) number
+        (sight_in D.to_come D.taken_back D.faults D.late door.old log)
+        (sight_in D.to_come D.taken_back D.faults D.late door.new log)) }
 {
     let links = match take(rt, alloc, door, served.framing) {
         Ok(links) => links,
@@ -209,16 +174,62 @@ pub fn serve_batch_at_once<
         door,
         gate,
     );
-    if !whole {
-        return Err(ServeEnd::Memory);
-    }
     let run = Run {
         items,
         journal,
         cells,
+        next,
     };
-    match write_batch(alloc, &served.program, log, count, &run) {
-        Ok(()) => Ok((run.cells, next)),
+    if whole {
+        Ok(run)
+    } else {
+        Err(ServeEnd::Memory)
+    }
+}
+
+/// Serves the next batch, each link as soon as its flow has its `end`: gives the cells at its end, and the number of the link
+/// behind its links.
+pub fn serve_batch_at_once<
+    L: Library + Send + Sync,
+    D: Door,
+    O: Sink,
+    G: Gate + Sync,
+    Rt: Threads + Wait + Sync,
+>(
+    rt: &Rt,
+    alloc: Global,
+    served: &Served<L>,
+    door: &mut D,
+    log: &mut O,
+    workers: u8,
+    gate: &G,
+    opening: Cells,
+    count: u32,
+    number: u64,
+) -> Result<(Cells, u64), ServeEnd>
+    requires can { MayServe L.meaning served.now }
+    requires some { 0 < workers }
+    requires out { D.out door.old ≡ 0 }
+    requires numbers { number + 64 < 2 ^ 63 }
+    ensures out { D.out door.new ≡ 0 }
+    ensures open { D.open_at door.new ≡ D.open_at door.old }
+    ensures later { (D.faults door.old ≤ D.faults door.new) × (D.late door.old ≤ D.late door.new) }
+    ensures later_log { O.faults log.old ≤ O.faults log.new }
+    ensures bound { IfOk result (λ next. next.1 ≤ number + 64) }
+    ensures passed { IfOk result (λ next. HasPassed
+        (seen_by D.Link.had D.Link.left D.Link.written D.Link.faults)
+        (service_in L.meaning served.now) (cells_of opening) count number
+        (sight_in D.to_come D.taken_back D.faults D.late door.old (record { written = O.written log.old; faults = O.faults log.old }))
+        (sight_in D.to_come D.taken_back D.faults D.late door.new (record { written = O.written log.new; faults = O.faults log.new }))
+        (cells_of next.0) next.1) }
+    ensures stopped { IfErr result (StopsAtOnce
+        (seen_by D.Link.had D.Link.left D.Link.written D.Link.faults)
+        (service_in L.meaning served.now) (cells_of opening) count number
+        (sight_in D.to_come D.taken_back D.faults D.late door.old (record { written = O.written log.old; faults = O.faults log.old }))
+        (sight_in D.to_come D.taken_back D.faults D.late door.new (record { written = O.written log.new; faults = O.faults log.new }))) }
+{
+    match drive_batch_at_once(rt, alloc, served, door, workers, gate, opening, number) {
+        Ok(run) => log_batch(alloc, &served.program, log, count, run),
         Err(end) => Err(end),
     }
 }

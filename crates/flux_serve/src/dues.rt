@@ -6,9 +6,8 @@ ghost use Rattle.flux_batches.specs.Links.{seen_by, IsSame};
 ghost use Rattle.flux_batches.specs.Replies.{flow_behind};
 ghost use Rattle.flux_serve.specs.steps.Dues.{HasText, IsDueSo, IsBackOf};
 
-use crate::replies::{reply, send};
 use flow_model::Entry;
-use flux_batches::{Held, Sent};
+use flux_batches::{Held, Sent, reply, send};
 use flux_doors::Link;
 use flux_model::FlowNo;
 
@@ -29,6 +28,15 @@ pub fn flow_behind(flow: u32, sent: &Sent) -> u32
     match sent {
         Sent::Text(_) => flow + 1,
         Sent::Failed | Sent::Memory => flow,
+    }
+}
+
+impl<K: Drop> Due<K> {
+    /// The link alone.
+    pub fn into_link(self) -> K
+        ensures { result ≡ self.held.link }
+    {
+        self.held.link
     }
 }
 

@@ -100,6 +100,6 @@ pub fn give_back_dues<S: Drop, D: Door>(
         due.answer(entries, whole);
         flow = flow_behind(flow, &due.held.sent);
         left -= 1;
-        door.done(due.held.link);
+        door.done(due.into_link());
     }
 }

@@ -4,9 +4,9 @@ ghost use Rattle.std.specs.Prelude.{◌≡◌, ◌<◌, length};
 ghost use Rattle.flow_core.specs.Runs.{GoesOn};
 ghost use Rattle.flux_serve.specs.steps.Turns.{LeadsTo};
 
-use crate::replies::copy_of_reply;
 use flow_core::{Core, Job};
 use flow_workers::{Outing, Stage, go_on};
+use flux_batches::copy_of_reply;
 use flux_library::Library;
 use flux_model::FlowNo;
 use flux_values::Memory;

@@ -1,4 +1,5 @@
-use Rattle.std.proofs.Common.{◌≡◌, ◌%◌, ◌<◌, [], length, slice_index_or, refl, ap, ◌∙◌, arith}
+use Rattle.std.proofs.Common.{◌≡◌, ◌%◌, ◌<◌, [], ◌∷◌, ◌++◌, length, slice_index_or, refl, ap, subst, ◌∙◌, arith}
+use Rattle.std.specs.Option.{option_map}
 use Rattle.std.proofs.Math.Nat.{mod-lt}
 use Rattle.std.proofs.lemmas.List.{length-set}
 use Rattle.flux_batches.specs.Links.{Seen, seen_by}
@@ -45,36 +46,11 @@ links-preserved g c =
       seat = (let old = slice_index_or lanes worker or in old.seat);
       dues = c.pop_front.new.self;
     } in
+    let B : g.row.D-Link.Denot → Type 0 = λ k. g.D.Door.taken_back c.done.new.self ≡ option_map (λ links. links ++ k ∷ []) (g.D.Door.taken_back c.links.door) in
     let next = c.flow_behind-flow.ensures.flow ∙ ap (flow_behind c.links.flow) c.answer.ensures.sent in (
       given-more see c.args.whole c.args.entries.now c.args.came.now.value.items (g.D.Door.taken_back c.args.door.now) (g.D.Door.taken_back c.links.door)
           lanes c.links.flow c.links.left worker refl (mod-lt c.links.flow some) c.in-Some.due c.pop_front.new.self.items or lane
-          c.in-Some.ensures.items refl (g.D.Door.taken_back c.done.new.self) _ c.done.ensures.back c.answer.ensures.back
-          before.0 c.links-test.true c.flow_behind-flow.result next,
-      omega (arith, c.flow_behind-flow.ensures.bound, before.1, c.links-test.true),
-      omega (arith, c.done.ensures.out, before.2),
-      length-set lanes worker lane ∙ before.3,
-      c.done.ensures.kept ∙ before.4,
-      c.done.ensures.counts.0 ∙ before.5,
-      c.done.ensures.counts.1 ∙ before.6,
-      c.done.ensures.stays ∙ before.7,
-    )
-
-pub links-preserved-in-Some : goal.links-preserved-in-Some
-links-preserved-in-Some g c =
-    let see : g.row.D-Link.Denot → Seen = seen_by g.D.Link.Link.had g.D.Link.Link.left g.D.Link.Link.written g.D.Link.Link.faults in
-    let before = c.links.invariant in
-    let lanes = c.links.lanes in
-    let worker = c.links.flow % length lanes in
-    let some : 0 < length lanes = omega (arith, before.3, c.requires.some) in
-    let or = c.index-lanes-worker.result in
-    let lane : Lane g.row.S.Denot g.row.D-Link.Denot = record {
-      seat = (let old = slice_index_or lanes worker or in old.seat);
-      dues = c.pop_front.new.self;
-    } in
-    let next = c.flow_behind-flow.ensures.flow ∙ ap (flow_behind c.links.flow) c.answer.ensures.sent in (
-      given-more see c.args.whole c.args.entries.now c.args.came.now.value.items (g.D.Door.taken_back c.args.door.now) (g.D.Door.taken_back c.links.door)
-          lanes c.links.flow c.links.left worker refl (mod-lt c.links.flow some) c.in-Some.due c.pop_front.new.self.items or lane
-          c.in-Some.ensures.items refl (g.D.Door.taken_back c.done.new.self) _ c.done.ensures.back c.answer.ensures.back
+          c.in-Some.ensures.items refl (g.D.Door.taken_back c.done.new.self) _ (subst B c.into_link.ensures c.done.ensures.back) c.answer.ensures.back
           before.0 c.links-test.true c.flow_behind-flow.result next,
       omega (arith, c.flow_behind-flow.ensures.bound, before.1, c.links-test.true),
       omega (arith, c.done.ensures.out, before.2),

@@ -1,7 +1,7 @@
 use Rattle.std.proofs.Common.{◌≡◌, ◌*◌, ◌≤◌}
-use Rattle.std.specs.Arc.{arc_value}
 use Rattle.flux_cells.specs.Kept.{cells_of}
 use Rattle.flux_batches.specs.Links.{seen_by}
+use Rattle.flux_serve.specs.steps.Batches.{sight_in, service_in}
 use Rattle.flux_serve.proofs.OneByOne.{SoFar}
 use Rattle.flux_serve.proofs.serving_at_once.serve_at_once.Given as goal
 
@@ -9,21 +9,9 @@ use Rattle.flux_serve.proofs.serving_at_once.serve_at_once.Given as goal
 abbrev pub invariant-batches : goal.invariant-batches
 invariant-batches g l =
     SoFar (seen_by g.D.Link.Link.had g.D.Link.Link.left g.D.Link.Link.written g.D.Link.Link.faults)
-    (record { program = arc_value l.served.program; framing = l.served.framing; meaning = g.L.Meaning.meaning (arc_value l.served.library) })
-    (record {
-      to_come = g.D.Door.to_come l.fn.door;
-      taken_back = g.D.Door.taken_back l.fn.door;
-      faults = g.D.Door.faults l.fn.door;
-      late = g.D.Door.late l.fn.door;
-      log = record { written = g.O.Sink.written l.fn.log; faults = g.O.Sink.faults l.fn.log };
-    })
-    (record {
-      to_come = g.D.Door.to_come l.door;
-      taken_back = g.D.Door.taken_back l.door;
-      faults = g.D.Door.faults l.door;
-      late = g.D.Door.late l.door;
-      log = record { written = g.O.Sink.written l.log; faults = g.O.Sink.faults l.log };
-    })
+    (service_in g.L.Meaning.meaning l.served)
+    (sight_in g.D.Door.to_come g.D.Door.taken_back g.D.Door.faults g.D.Door.late l.fn.door (record { written = g.O.Sink.written l.fn.log; faults = g.O.Sink.faults l.fn.log }))
+    (sight_in g.D.Door.to_come g.D.Door.taken_back g.D.Door.faults g.D.Door.late l.door (record { written = g.O.Sink.written l.log; faults = g.O.Sink.faults l.log }))
     l.count l.number (cells_of l.opening)
     × (g.D.Door.out l.door ≡ 0) × (l.number ≤ 64 * l.count)
     × (g.D.Door.faults l.fn.door ≤ g.D.Door.faults l.door) × (g.D.Door.late l.fn.door ≤ g.D.Door.late l.door)

@@ -1,0 +1,45 @@
+use Rattle.std.proofs.Common.{◌+◌, List, refl, ◌∙◌, subst, ap}
+use Rattle.flow_model.specs.declared.journals.Entry.{Entry}
+use Rattle.flux_cells.specs.Kept.{cells_of}
+use Rattle.flux_outside.specs.Streams.{Stream}
+use Rattle.flux_batches.specs.Links.{Seen, seen_by}
+use Rattle.flux_batches.specs.Replies.{AreAllAnswered}
+use Rattle.flux_serve.specs.Ends.{Sight}
+use Rattle.flux_serve.specs.steps.Batches.{sight_in, service_in}
+use Rattle.flux_serve.proofs.Driven.{ran_of, undriven_of}
+use Rattle.flux_serve.proofs.batches.drive_batch.Goals as goal
+
+pub returns-in-Ok-run_links-clause-ran : goal.returns-in-Ok-run_links-clause-ran
+returns-in-Ok-run_links-clause-ran g c log =
+    let see : g.row.D-Link.Denot → Seen = seen_by g.D.Link.Link.had g.D.Link.Link.left g.D.Link.Link.written g.D.Link.Link.faults in
+    let sight : g.row.D.Denot → Stream → Sight g.row.D-Link.Denot = sight_in g.D.Door.to_come g.D.Door.taken_back g.D.Door.faults g.D.Door.late in
+    let run' = c.in-Ok-run_links.run' in
+    let helds = c.in-Ok.links.items in
+    let A : List Entry → Type 0 = λ e. AreAllAnswered see e helds (g.D.Door.taken_back c.take.new.door) (g.D.Door.taken_back c.answer_links.new.door) in
+    ran_of see (service_in g.L.Meaning.meaning c.args.served.now) (cells_of c.args.opening) c.args.number (sight c.args.door.now log) (sight c.answer_links.new.door log) helds run' (record {
+      to_come = g.D.Door.to_come c.take.new.door;
+      taken_back = g.D.Door.taken_back c.take.new.door;
+      late = g.D.Door.late c.take.new.door;
+      taken = c.in-Ok.ensures.taken;
+      back = c.in-Ok.ensures.back;
+      each = c.in-Ok-run_links.ensures.read;
+      is = c.in-Ok-run_links.ensures.items;
+      legal = c.in-Ok-run_links.ensures.legal;
+      whole = c.in-Ok-run_links.ensures.whole;
+      cells_ = c.in-Ok-run_links.ensures.cells;
+      next_ = c.in-Ok-run_links.ensures.next ∙ ap (λ n. c.args.number + n) c.in-Ok.links.ok.0;
+      answered = subst A c.as_slice.ensures c.answer_links.ensures.answered;
+      come = c.answer_links.ensures.kept;
+      late_ = c.answer_links.ensures.counts.1;
+      steady = c.answer_links.ensures.counts.0 ∙ c.in-Ok.ensures.steady;
+      log_ = refl;
+    })
+
+pub returns-in-Err-run_links-clause-none : goal.returns-in-Err-run_links-clause-none
+returns-in-Err-run_links-clause-none g c log =
+    let see : g.row.D-Link.Denot → Seen = seen_by g.D.Link.Link.had g.D.Link.Link.left g.D.Link.Link.written g.D.Link.Link.faults in
+    let sight : g.row.D.Denot → Stream → Sight g.row.D-Link.Denot = sight_in g.D.Door.to_come g.D.Door.taken_back g.D.Door.faults g.D.Door.late in
+    undriven_of see c.args.served.now.framing (sight c.args.door.now log) (sight c.give_back_held.new.door log)
+    (g.D.Door.to_come c.take.new.door) (g.D.Door.taken_back c.take.new.door) (g.D.Door.late c.take.new.door) c.in-Ok.links.items
+    c.in-Ok.ensures.taken c.in-Ok.ensures.back c.give_back_held.ensures.back c.give_back_held.ensures.kept c.give_back_held.ensures.counts.1
+    (c.give_back_held.ensures.counts.0 ∙ c.in-Ok.ensures.steady) refl

@@ -1,0 +1,92 @@
+use Rattle.std.proofs.Common.{◌≡◌, ◌+◌, Bool, true, Option, refl, ap, ◌∙◌, subst, inl, inr}
+use Rattle.flow_model.specs.Legal.{IsLegal, IsWhole}
+use Rattle.flow_model.specs.CellsAfter.{cells_after}
+use Rattle.flow_core.specs.States.{CoreState, setup_in}
+use Rattle.flux_cells.specs.Kept.{cells_of}
+use Rattle.flux_outside.specs.Streams.{Stream}
+use Rattle.flux_batches.specs.Links.{Seen, seen_by}
+use Rattle.flux_serve.specs.declared.batches.Run.{Run}
+use Rattle.flux_serve.specs.Batches.{Service, batch_setup}
+use Rattle.flux_serve.specs.Ends.{Sight}
+use Rattle.flux_serve.specs.steps.Batches.{sight_in, service_in}
+use Rattle.flux_serve.proofs.Driven.{ran_of, undriven_of}
+use Rattle.flux_serve.proofs.AtOnceDriven.{TakenBack, all-answered, begun-of}
+use Rattle.flux_serve.proofs.batches_at_once.drive_batch_at_once.Goals as goal
+
+pub returns-in-Err-clause-none : goal.returns-in-Err-clause-none
+returns-in-Err-clause-none g c log = inl (c.in-Err.ensures.none log)
+
+pub returns-in-Err-prepare-clause-none : goal.returns-in-Err-prepare-clause-none
+returns-in-Err-prepare-clause-none g c log =
+    let see : g.row.D-Link.Denot → Seen = seen_by g.D.Link.Link.had g.D.Link.Link.left g.D.Link.Link.written g.D.Link.Link.faults in
+    let sight : g.row.D.Denot → Stream → Sight g.row.D-Link.Denot = sight_in g.D.Door.to_come g.D.Door.taken_back g.D.Door.faults g.D.Door.late in
+    inl (undriven_of see c.args.served.now.framing (sight c.args.door.now log) (sight c.give_back_held.new.door log)
+    (g.D.Door.to_come c.take.new.door) (g.D.Door.taken_back c.take.new.door) (g.D.Door.late c.take.new.door) c.in-Ok.links.items
+    c.in-Ok.ensures.taken c.in-Ok.ensures.back c.give_back_held.ensures.back c.give_back_held.ensures.kept c.give_back_held.ensures.counts.1
+    (c.give_back_held.ensures.counts.0 ∙ c.in-Ok.ensures.steady) refl)
+
+pub returns-then-whole-clause-ran : goal.returns-then-whole-clause-ran
+returns-then-whole-clause-ran g c log =
+    let see : g.row.D-Link.Denot → Seen = seen_by g.D.Link.Link.had g.D.Link.Link.left g.D.Link.Link.written g.D.Link.Link.faults in
+    let sight : g.row.D.Denot → Stream → Sight g.row.D-Link.Denot = sight_in g.D.Door.to_come g.D.Door.taken_back g.D.Door.faults g.D.Door.late in
+    let service = service_in g.L.Meaning.meaning c.args.served.now in
+    let items = c.in-Ok-prepare.prepared.1 in
+    let helds = c.in-Ok.links.items in
+    let ran = c.run_lanes-journal.result in
+    let journal = ran.0 in
+    let L : CoreState g.row.L.Denot → Type 0 = λ k. IsLegal (setup_in g.L.Meaning.meaning k) journal.entries in
+    let W : CoreState g.row.L.Denot → Type 0 = λ k. IsWhole (setup_in g.L.Meaning.meaning k) journal.entries in
+    let K : CoreState g.row.L.Denot → Type 0 = λ k. cells_of ran.1 ≡ cells_after (setup_in g.L.Meaning.meaning k) journal.entries in
+    let legal : IsLegal (batch_setup service (cells_of c.args.opening) items) journal.entries = subst L c.in-Ok-prepare.ensures.core c.run_lanes-journal.ensures.legal in
+    let run' : Run = record { items = items; journal = journal; cells = ran.1; next = c.args.number + c.len.result } in
+    ran_of see service (cells_of c.args.opening) c.args.number (sight c.args.door.now log) (sight c.run_lanes-journal.new.door log) helds run' (record {
+      to_come = g.D.Door.to_come c.take.new.door;
+      taken_back = g.D.Door.taken_back c.take.new.door;
+      late = g.D.Door.late c.take.new.door;
+      taken = c.in-Ok.ensures.taken;
+      back = c.in-Ok.ensures.back;
+      each = c.in-Ok-prepare.ensures.read;
+      is = c.in-Ok-prepare.ensures.items;
+      legal = legal;
+      whole = subst W c.in-Ok-prepare.ensures.core (c.run_lanes-journal.ensures.whole c.if-whole.true);
+      cells_ = subst K c.in-Ok-prepare.ensures.core c.run_lanes-journal.ensures.cells;
+      next_ = ap (λ n. c.args.number + n) (c.len.ensures ∙ c.in-Ok.links.ok.0);
+      answered = all-answered see (batch_setup service (cells_of c.args.opening) items) journal.entries legal helds
+          (g.D.Door.taken_back c.take.new.door) (g.D.Door.taken_back c.run_lanes-journal.new.door) ran.2 c.if-whole.true c.run_lanes-journal.ensures.back;
+      come = c.run_lanes-journal.ensures.kept;
+      late_ = c.run_lanes-journal.ensures.counts.1;
+      steady = c.run_lanes-journal.ensures.counts.0 ∙ c.in-Ok.ensures.steady;
+      log_ = refl;
+    })
+
+pub returns-clause-none : goal.returns-clause-none
+returns-clause-none g c log =
+    let see : g.row.D-Link.Denot → Seen = seen_by g.D.Link.Link.had g.D.Link.Link.left g.D.Link.Link.written g.D.Link.Link.faults in
+    let sight : g.row.D.Denot → Stream → Sight g.row.D-Link.Denot = sight_in g.D.Door.to_come g.D.Door.taken_back g.D.Door.faults g.D.Door.late in
+    let service = service_in g.L.Meaning.meaning c.args.served.now in
+    let items = c.in-Ok-prepare.prepared.1 in
+    let helds = c.in-Ok.links.items in
+    let ran = c.run_lanes-journal.result in
+    let journal = ran.0 in
+    let L : CoreState g.row.L.Denot → Type 0 = λ k. IsLegal (setup_in g.L.Meaning.meaning k) journal.entries in
+    let U : CoreState g.row.L.Denot → Type 0 = λ k. IsWhole (setup_in g.L.Meaning.meaning k) journal.entries → ⊥ in
+    let B : Bool → Type 0 = λ b. TakenBack see b journal.entries helds (g.D.Door.taken_back c.take.new.door) (g.D.Door.taken_back c.run_lanes-journal.new.door) in
+    inr (
+      refl,
+      begun-of see service (cells_of c.args.opening) c.args.number (sight c.args.door.now log) (sight c.run_lanes-journal.new.door log) helds items journal (record {
+        to_come = g.D.Door.to_come c.take.new.door;
+        taken_back = g.D.Door.taken_back c.take.new.door;
+        late = g.D.Door.late c.take.new.door;
+        taken = c.in-Ok.ensures.taken;
+        back = c.in-Ok.ensures.back;
+        each = c.in-Ok-prepare.ensures.read;
+        is = c.in-Ok-prepare.ensures.items;
+        legal = subst L c.in-Ok-prepare.ensures.core c.run_lanes-journal.ensures.legal;
+        unfinished = subst U c.in-Ok-prepare.ensures.core (c.run_lanes-journal.ensures.broken c.if-whole.false);
+        returned = subst B c.if-whole.false c.run_lanes-journal.ensures.back;
+        come = c.run_lanes-journal.ensures.kept;
+        late_ = c.run_lanes-journal.ensures.counts.1;
+        steady = c.run_lanes-journal.ensures.counts.0 ∙ c.in-Ok.ensures.steady;
+        log_ = refl;
+      }),
+    )
