@@ -4,9 +4,10 @@ use crate::building::{checked_of, set_up};
 use flow_model::{Entry, Event, Journal};
 use flux_audit::{Verdict, audit};
 use flux_journal::{print_journal, print_journal_2};
+use flux_model::Program;
 use flux_values::Memory;
 use nodes_counter::Counter;
-use plain_journals::Given;
+use plain_journals::{Given, check_journal};
 use std::alloc::Global;
 use trial_ends::Trouble;
 
@@ -74,6 +75,59 @@ impl<'a> Flows<'a> {
         self.take(alloc, text)
     }
 
+    /// Whether it takes a journal in the first format.
+    fn uphold_first(
+        &self,
+        alloc: Global,
+        program: &Program,
+        journal: &Journal,
+        left_out: usize,
+    ) -> Result<bool, Trouble> {
+        let text = print_journal(alloc, program, journal)?;
+        self.uphold_text(
+            alloc,
+            journal.entries.as_slice(),
+            text.as_bytes(),
+            0,
+            left_out,
+        )
+    }
+
+    /// Whether it takes a journal in the second format.
+    fn uphold_second(
+        &self,
+        alloc: Global,
+        program: &Program,
+        journal: &Journal,
+        left_out: usize,
+    ) -> Result<bool, Trouble> {
+        let Ok(flows) = u32::try_from(self.given.len()) else {
+            return Err(Trouble::Wrong);
+        };
+        let text = print_journal_2(alloc, program, journal, flows)?;
+        self.uphold_text(
+            alloc,
+            journal.entries.as_slice(),
+            text.as_bytes(),
+            1,
+            left_out,
+        )
+    }
+
+    /// Whether it takes a journal in both formats.
+    fn uphold_both(
+        &self,
+        alloc: Global,
+        program: &Program,
+        journal: &Journal,
+        left_out: usize,
+    ) -> Result<bool, Trouble> {
+        Ok(
+            self.uphold_first(alloc, program, journal, left_out)?
+                && self.uphold_second(alloc, program, journal, left_out)?,
+        )
+    }
+
     /// Whether the auditor takes a journal for that of a true run of these flows, in both formats, and in neither without one of so
     /// many of its lines.
     pub fn uphold(
@@ -82,16 +136,20 @@ impl<'a> Flows<'a> {
         journal: &Journal,
         left_out: usize,
     ) -> Result<bool, Trouble> {
-        let Ok(flows) = u32::try_from(self.given.len()) else {
-            return Err(Trouble::Wrong);
-        };
         let checked = checked_of(alloc, self.text, &Counter)?;
-        let entries = journal.entries.as_slice();
-        let one = print_journal(alloc, &checked.program, journal)?;
-        let two = print_journal_2(alloc, &checked.program, journal, flows)?;
-        Ok(
-            self.uphold_text(alloc, entries, one.as_bytes(), 0, left_out)?
-                && self.uphold_text(alloc, entries, two.as_bytes(), 1, left_out)?,
-        )
+        self.uphold_both(alloc, &checked.program, journal, left_out)
+    }
+
+    /// Whether a journal is what plain lists say that one of these flows must be, and the auditor upholds it.
+    pub fn keep_rules(
+        &self,
+        alloc: Global,
+        journal: &Journal,
+        left_out: usize,
+    ) -> Result<bool, Trouble> {
+        let checked = checked_of(alloc, self.text, &Counter)?;
+        let program = &checked.program;
+        let kept = check_journal(alloc, program, self.given, journal.entries.as_slice());
+        Ok(kept.is_ok() && self.uphold_both(alloc, program, journal, left_out)?)
     }
 }

@@ -12,6 +12,7 @@ ghost use Rattle.flow_state.specs.States.{MayRun};
 ghost use Rattle.trial_programs.specs.Made.{IsMadeOf};
 
 use flow_core::{Core, Setup};
+use flow_model::Journal;
 use flux_cells::Cells;
 use flux_check::check;
 use flux_compile::compile;
@@ -29,13 +30,6 @@ use trial_ends::Trouble;
 /// The most flows of a core.
 const FLOW_LIMIT: usize = 4_096;
 
-/// A core, and its program once more.
-#[derive(Drop)]
-pub struct Opened<L: Library> {
-    pub core: Core<L>,
-    pub program: Arc<Program>,
-}
-
 /// The text's program with what is found of it.
 pub fn checked_of<L: Library>(alloc: Global, text: &[u8], library: &L) -> Result<Checked, Trouble>
     ensures sound { IfOk result (λ checked. IsSound (L.meaning library.now) checked.program
@@ -48,6 +42,19 @@ pub fn checked_of<L: Library>(alloc: Global, text: &[u8], library: &L) -> Result
         Err(CheckFault::Memory) => Err(Trouble::Memory),
         Err(CheckFault::Static(_)) => Err(Trouble::Wrong),
     }
+}
+
+/// The program alone. What is found of it is let go in one place.
+pub fn program_of(checked: Checked) -> Program
+    ensures { result ≡ checked.program }
+{
+    checked.program
+}
+
+/// What a core's flows did. All else of it is let go in one place.
+pub fn journal_of<L: Library>(core: Core<L>) -> Journal {
+    let (journal, _cells) = core.into_parts();
+    journal
 }
 
 /// The item of a source that gives one number.
@@ -126,7 +133,7 @@ pub fn set_up<L: Library>(
     let checked = checked_of(alloc, text, &library)?;
     let plans = compile(alloc, &checked)?;
     let items = items_of(alloc, &checked, given)?;
-    let setup = setup_of(alloc, checked.program, plans, items, library)?;
+    let setup = setup_of(alloc, program_of(checked), plans, items, library)?;
     Ok(setup)
 }
 
@@ -136,9 +143,8 @@ pub fn open<L: Library>(
     text: &[u8],
     given: &[Given],
     library: L,
-) -> Result<Opened<L>, Trouble> {
+) -> Result<Core<L>, Trouble> {
     let setup = set_up(alloc, text, given, library)?;
-    let program = Arc::try_clone(&setup.program)?;
     let core = Core::new(alloc, setup)?;
-    Ok(Opened { core, program })
+    Ok(core)
 }

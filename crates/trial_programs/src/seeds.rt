@@ -11,8 +11,11 @@ use trial_ends::Trouble;
 const HEAD: &str =
     "Tick () => (int n);\nPass (int n) => (int n);\nAdd (int n) => (int n);\nRead (int n) => (int n);\nBump (int n) => (int n);\nsource Tick => Level0;\nsession Tick => ByNumber;\natomic Add:{counter};\natomic Read:{counter?};\natomic Bump:{visits(session)};\n";
 
-/// So many nodes lead to each other, one below the other.
-const LEVELS: u32 = 4;
+/// The nodes that lead to each other, one below the other.
+const LEVELS: [&str; 5] = ["Level0", "Level1", "Level2", "Level3", "Level4"];
+
+/// The last of them.
+const LAST: usize = 4;
 
 /// Numbers that a seed leads to.
 #[derive(Drop)]
@@ -62,23 +65,44 @@ fn locks_of(roll: u64) -> &'static str {
     }
 }
 
-/// The text of a seed: each level goes through the next one, between two nodes, with locks of its own.
-pub fn text_of(alloc: Global, seed: u32) -> Result<String, AllocError> {
-    let mut dice = Dice::of(seed);
-    let mut text = String::from_str(alloc, HEAD)?;
-    for level in 0..LEVELS {
-        let front = node_of(dice.roll(4));
-        let back = node_of(dice.roll(4));
-        let locks = locks_of(dice.roll(8));
-        let next = level + 1;
-        let flow = format!(in alloc; "Level{level} = {front} -> Level{next} -> {back};\n")?;
-        text.push_str(flow.as_str())?;
-        let own = format!(in alloc; "atomic Level{level}:{{{locks}}};\n")?;
-        text.push_str(own.as_str())?;
+/// Adds texts to a text.
+fn push_all(text: &mut String, parts: &[&str]) -> Result<(), AllocError> {
+    for part in parts {
+        text.push_str(part)?;
     }
-    let last = format!(in alloc; "Level{LEVELS} = {};\n", node_of(dice.roll(4)))?;
-    text.push_str(last.as_str())?;
+    Ok(())
+}
+
+/// Adds a level, which goes through the next one, between two nodes, with locks of its own.
+fn push_level(
+    text: &mut String,
+    dice: &mut Dice,
+    level: &'static str,
+    next: &'static str,
+) -> Result<(), AllocError> {
+    let front = node_of(dice.roll(4));
+    let back = node_of(dice.roll(4));
+    let locks = locks_of(dice.roll(8));
+    push_all(
+        text,
+        &[level, " = ", front, " -> ", next, " -> ", back, ";\n"],
+    )?;
+    push_all(text, &["atomic ", level, ":{", locks, "};\n"])
+}
+
+/// The text of a seed.
+pub fn text_of(alloc: Global, seed: u32) -> Result<String, AllocError> {
+    let mut text = String::from_str(alloc, HEAD)?;
+    push_levels(&mut text, &mut Dice::of(seed))?;
     Ok(text)
+}
+
+/// Adds the levels, and the last node.
+fn push_levels(text: &mut String, dice: &mut Dice) -> Result<(), AllocError> {
+    for level in 0..LAST {
+        push_level(text, dice, LEVELS[level], LEVELS[level + 1])?;
+    }
+    push_all(text, &[LEVELS[LAST], " = ", node_of(dice.roll(4)), ";\n"])
 }
 
 /// The numbers of a seed's flows: up to eight, of four sessions.
