@@ -3,24 +3,12 @@
 ghost use Rattle.flux_model.specs.Names.{IsNamed};
 ghost use Rattle.flux_model.specs.Numbered.{IsNumbered};
 
-use flow_core::Core;
 use flow_model::Journal;
 use flux_hoist::Checked;
 use flux_journal::{JournalFault, print_journal, read_journal};
-use flux_library::Library;
 use flux_values::{Bytes, Memory};
 use std::alloc::Global;
 use trial_ends::Trouble;
-
-/// A core's journal, of which nothing else is told here: what a core keeps would only burden the proofs of its callers.
-pub fn journal_of<L: Library>(core: &Core<L>) -> &Journal {
-    core.journal()
-}
-
-/// How many entries a core's journal has.
-pub fn entry_count<L: Library>(core: &Core<L>) -> usize {
-    core.journal().entries.len()
-}
 
 /// The journal's text, printed so many times, and at least once.
 pub fn print_again(
@@ -29,11 +17,10 @@ pub fn print_again(
     journal: &Journal,
     times: u32,
 ) -> Result<Bytes, Memory> {
-    let mut text = print_journal(alloc, &checked.program, journal)?;
     for _ in 1..times {
-        text = print_journal(alloc, &checked.program, journal)?;
+        drop(print_journal(alloc, &checked.program, journal)?);
     }
-    Ok(text)
+    print_journal(alloc, &checked.program, journal)
 }
 
 fn read(alloc: Global, checked: &Checked, text: &[u8]) -> Result<Journal, Trouble>

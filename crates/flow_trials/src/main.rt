@@ -16,9 +16,9 @@ mod watching;
 mod words;
 
 use flow_core::Core;
-use flux_library::Library;
+use flow_model::Journal;
 use flux_values::Bytes;
-use journals::{entry_count, journal_of, print_again, read_again};
+use journals::{print_again, read_again};
 use nodes_counter::Counter;
 use simulations::answer_rows;
 use std::alloc::Global;
@@ -26,62 +26,70 @@ use std::env;
 use std::io::Write;
 use std::process::ExitCode;
 use trial_ends::Trouble;
-use trial_programs::{Flows, LEFT_OUT, NESTED, Watched, checked_of, numbers, open};
+use trial_programs::{Flows, LEFT_OUT, NESTED, Watched, checked_of, journal_of, numbers, open};
 use turns::drive;
-use watching::{Calls, Refusing, drain_told};
+use watching::{Calls, Refusing, drain_twice};
 use words::{Words, read_words};
 
-/// The core of so many flows that have ended.
-fn driven(alloc: Global, flows: u32) -> Result<Core<Counter>, Trouble> {
-    let numbers = numbers(alloc, flows)?;
-    let mut core = open(alloc, NESTED, numbers.as_slice(), Counter)?.core;
-    drive(alloc, &mut core)?;
+/// Drives each flow of a core to its end.
+fn drive_all(alloc: Global, core: &mut Core<Counter>) -> Result<(), Trouble> {
+    drive(alloc, core)?;
     if core.live() == 0 {
-        Ok(core)
+        Ok(())
     } else {
         Err(Trouble::Wrong)
     }
 }
 
+/// What so many flows did that have ended.
+fn driven(alloc: Global, flows: u32) -> Result<Journal, Trouble> {
+    let numbers = numbers(alloc, flows)?;
+    let mut core = open(alloc, NESTED, numbers.as_slice(), Counter)?;
+    let went = drive_all(alloc, &mut core);
+    let journal = journal_of(core);
+    went?;
+    Ok(journal)
+}
+
 fn answer_core(rt: &HostRuntime, flows: u32) -> Result<(), Trouble> {
-    let core = driven(rt.alloc(), flows)?;
-    println!(rt; "flows {flows} events {}", entry_count(&core))?;
+    let events = driven(rt.alloc(), flows)?.entries.len();
+    println!(rt; "flows {flows} events {events}")?;
     Ok(())
 }
 
-/// Prints and reads a core's journal so many times, and gives how many bytes its text has.
+/// Prints and reads a journal so many times, and gives how many bytes its text has.
 fn print_and_read(
     alloc: Global,
-    core: &Core<Counter>,
+    journal: &Journal,
     prints: u32,
     reads: u32,
 ) -> Result<usize, Trouble> {
     let checked = checked_of(alloc, NESTED, &Counter)?;
-    let text = print_again(alloc, &checked, journal_of(core), prints)?;
+    let text = print_again(alloc, &checked, journal, prints)?;
     read_again(alloc, &checked, text.as_bytes(), reads)?;
     Ok(text.as_bytes().len())
 }
 
 fn answer_journal(rt: &HostRuntime, flows: u32, prints: u32, reads: u32) -> Result<(), Trouble> {
-    let core = driven(rt.alloc(), flows)?;
-    let bytes = print_and_read(rt.alloc(), &core, prints, reads)?;
-    println!(rt; "events {} bytes {bytes}", entry_count(&core))?;
+    let journal = driven(rt.alloc(), flows)?;
+    let bytes = print_and_read(rt.alloc(), &journal, prints, reads)?;
+    println!(rt; "events {} bytes {bytes}", journal.entries.len())?;
     Ok(())
 }
 
-fn print_once(alloc: Global, core: &Core<Counter>) -> Result<Bytes, Trouble> {
+fn print_once(alloc: Global, journal: &Journal) -> Result<Bytes, Trouble> {
     let checked = checked_of(alloc, NESTED, &Counter)?;
-    Ok(print_again(alloc, &checked, journal_of(core), 1)?)
+    Ok(print_again(alloc, &checked, journal, 1)?)
 }
 
 fn answer_text(rt: &HostRuntime, flows: u32) -> Result<(), Trouble> {
-    let core = driven(rt.alloc(), flows)?;
-    let text = print_once(rt.alloc(), &core)?;
-    rt.stdout().write_all(text.as_bytes())?;
-    Ok(())
+    let journal = driven(rt.alloc(), flows)?;
+    let text = print_once(rt.alloc(), &journal)?;
+    Ok(rt.stdout().write_all(text.as_bytes())?)
 }
 
 /// What came of flows whose calls are watched.
+#[derive(Clone, Copy)]
 struct Watch {
     calls: u32,
     /// How many journals the auditor upholds.
@@ -89,61 +97,52 @@ struct Watch {
 }
 
 /// 1 where the auditor upholds the journal of so many flows, without one of so many lines too, and else 0.
-fn upheld<L: Library>(
-    alloc: Global,
-    flows: u32,
-    core: &Core<L>,
-    left_out: usize,
-) -> Result<u32, Trouble> {
+fn upheld(alloc: Global, flows: u32, journal: &Journal, left_out: usize) -> Result<u32, Trouble> {
     let given = numbers(alloc, flows)?;
     let flows = Flows {
         text: NESTED,
         given: given.as_slice(),
     };
-    Ok(u32::from(flows.uphold(alloc, journal_of(core), left_out)?))
+    Ok(u32::from(flows.uphold(alloc, journal, left_out)?))
 }
 
 /// The same of flows that are driven by turns.
 fn upheld_by_turns(alloc: Global, flows: u32) -> Result<u32, Trouble> {
-    let core = driven(alloc, flows)?;
-    upheld(alloc, flows, &core, LEFT_OUT)
+    let journal = driven(alloc, flows)?;
+    upheld(alloc, flows, &journal, LEFT_OUT)
+}
+
+/// What so many flows did, of whose calls one is refused and made again.
+fn drained(alloc: Global, flows: u32, refused: u32, calls: &Calls) -> Result<Journal, Trouble> {
+    let numbers = numbers(alloc, flows)?;
+    let watcher = Refusing { calls, refused };
+    let mut core = open(alloc, NESTED, numbers.as_slice(), Watched { watcher })?;
+    let went = drain_twice(&mut core, calls);
+    let journal = journal_of(core);
+    went?;
+    Ok(journal)
 }
 
 /// How many calls flows make, of which one is refused and made again. Behind the refusal each call was told of, too.
 fn watched(alloc: Global, flows: u32, refused: u32) -> Result<Watch, Trouble> {
-    let calls = Calls::new();
-    let numbers = numbers(alloc, flows)?;
-    let watcher = Refusing {
-        calls: &calls,
-        refused,
-    };
-    let mut core = open(alloc, NESTED, numbers.as_slice(), Watched { watcher })?.core;
-    if !drain_told(&mut core, &calls) {
-        let _ = calls.count()?;
-        if !drain_told(&mut core, &calls) {
-            return Err(Trouble::Memory);
-        }
-    }
-    Ok(Watch {
-        calls: calls.count()?,
-        upheld: upheld(alloc, flows, &core, 0)?,
-    })
+    let told = Calls::new();
+    let journal = drained(alloc, flows, refused, &told)?;
+    let calls = told.count()?;
+    let upheld = upheld(alloc, flows, &journal, 0)?;
+    Ok(Watch { calls, upheld })
 }
 
 /// The same, without a refusal and with each call refused in turn.
 fn watched_all(alloc: Global, flows: u32) -> Result<Watch, Trouble> {
-    let Watch { calls, mut upheld } = watched(alloc, flows, u32::MAX)?;
-    for refused in 0..calls {
-        let Watch {
-            calls: made,
-            upheld: more,
-        } = watched(alloc, flows, refused)?;
-        if made != calls.saturating_add(1) {
+    let mut all = watched(alloc, flows, u32::MAX)?;
+    for refused in 0..all.calls {
+        let more = watched(alloc, flows, refused)?;
+        if more.calls != all.calls.saturating_add(1) {
             return Err(Trouble::Wrong);
         }
-        upheld = upheld.saturating_add(more);
+        all.upheld = all.upheld.saturating_add(more.upheld);
     }
-    Ok(Watch { calls, upheld })
+    Ok(all)
 }
 
 fn answer_watch(rt: &HostRuntime, flows: u32) -> Result<(), Trouble> {
@@ -155,9 +154,8 @@ fn answer_watch(rt: &HostRuntime, flows: u32) -> Result<(), Trouble> {
     Ok(())
 }
 
-fn answer(rt: &HostRuntime) -> Result<(), Trouble> {
-    let words: Vec<String> = env::args(rt)?.collect(rt.alloc())?;
-    match read_words(rt.alloc(), words.as_slice())? {
+fn answer_to(rt: &HostRuntime, words: Words) -> Result<(), Trouble> {
+    match words {
         Words::Core { flows } => answer_core(rt, flows),
         Words::Journal {
             flows,
@@ -173,8 +171,17 @@ fn answer(rt: &HostRuntime) -> Result<(), Trouble> {
     }
 }
 
+fn words_of(rt: &HostRuntime) -> Result<Words, Trouble> {
+    let words: Vec<String> = env::args(rt)?.collect(rt.alloc())?;
+    read_words(words.as_slice())
+}
+
 fn main(rt: HostRuntime) -> ExitCode {
-    match answer(&rt) {
+    let answered = match words_of(&rt) {
+        Ok(words) => answer_to(&rt, words),
+        Err(trouble) => Err(trouble),
+    };
+    match answered {
         Ok(()) => ExitCode::SUCCESS,
         Err(trouble) => ExitCode::from(trouble.code()),
     }

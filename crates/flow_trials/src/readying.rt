@@ -15,7 +15,7 @@ use flux_values::{List, Memory};
 use plain_journals::Given;
 use std::alloc::Global;
 use trial_ends::Trouble;
-use trial_programs::{checked_of, items_of, setup_of};
+use trial_programs::{checked_of, items_of, program_of, setup_of};
 
 /// The most that the sizes of the items' sources sum to.
 const SIZE_LIMIT: u64 = 4_194_304;
@@ -116,6 +116,6 @@ pub fn ready_of<L: Library>(
         return Err(Trouble::Wrong);
     }
     let plans = compile(alloc, &checked)?;
-    let core = open(alloc, checked.program, plans, items, library)?;
+    let core = open(alloc, program_of(checked), plans, items, library)?;
     Ok(Ready { core, costs })
 }

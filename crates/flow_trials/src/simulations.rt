@@ -1,14 +1,18 @@
 //! What only calls show of flows on simulated processors: how long they take, what each call takes, and that the auditor upholds their
 //! journals.
 
-use crate::journals::journal_of;
-use crate::readying::ready_of;
-use flux_simulate::{Run, Simulated, simulate};
+ghost use Rattle.std.specs.Prelude.{◌≤◌};
+ghost use Rattle.flow_trials.specs.Ready.{CanSimulate};
+
+use crate::readying::{Ready, ready_of};
+use flow_model::Journal;
+use flux_library::Library;
+use flux_simulate::{Run, simulate};
 use flux_values::List;
 use nodes_counter::Counter;
 use std::alloc::Global;
 use trial_ends::Trouble;
-use trial_programs::{COUNTING, FREE, Flows, LEFT_OUT, NESTED, numbers};
+use trial_programs::{COUNTING, FREE, Flows, LEFT_OUT, NESTED, journal_of, numbers};
 
 /// So many flows of a program's text, what its first nodes cost, and so many processors.
 #[derive(Clone, Copy)]
@@ -49,45 +53,70 @@ const ROWS: &[Row] = &[
 ];
 
 /// What came of a row: the last tick, the number of calls, and whether the auditor upholds the journal.
+#[derive(Clone, Copy)]
 struct Sums {
     ticks: u64,
     calls: usize,
     is_upheld: bool,
 }
 
+/// What simulated flows did, the runs of their calls, and the last tick.
+#[derive(Drop)]
+struct Done {
+    journal: Journal,
+    runs: List<Run>,
+    ticks: u64,
+}
+
+/// Lets the flows of a core run on so many processors.
+fn run_on<L: Library>(ready: Ready<L>, processors: u32) -> Result<Done, Trouble>
+    requires ready { CanSimulate L.meaning ready.core ready.costs }
+    requires some { 1 ≤ processors }
+    requires most { processors ≤ 64 }
+{
+    let Ready { core, costs } = ready;
+    match simulate(core, &costs, processors) {
+        Ok(done) => Ok(Done {
+            journal: journal_of(done.core),
+            runs: done.runs,
+            ticks: done.ticks,
+        }),
+        Err(stopped) => {
+            drop(journal_of(stopped.core));
+            Err(Trouble::Memory)
+        }
+    }
+}
+
 /// Simulates a row.
-fn simulated(alloc: Global, row: &Row) -> Result<Simulated<Counter>, Trouble> {
+fn simulated(alloc: Global, row: &Row) -> Result<Done, Trouble> {
     if row.processors < 1 || row.processors > 64 {
         return Err(Trouble::Words);
     }
     let given = numbers(alloc, row.flows)?;
     let ready = ready_of(alloc, row.text, given.as_slice(), row.costs, Counter)?;
-    match simulate(ready.core, &ready.costs, row.processors) {
-        Ok(done) => Ok(done),
-        Err(_) => Err(Trouble::Memory),
-    }
+    run_on(ready, row.processors)
 }
 
-/// Simulates a row, and audits its journal.
-fn sums_of(alloc: Global, row: &Row) -> Result<Sums, Trouble> {
-    let done = simulated(alloc, row)?;
+/// Whether the auditor upholds the journal of a row's flows.
+fn is_upheld(alloc: Global, row: &Row, journal: &Journal) -> Result<bool, Trouble> {
     let given = numbers(alloc, row.flows)?;
     let flows = Flows {
         text: row.text,
         given: given.as_slice(),
     };
-    let is_upheld = flows.uphold(alloc, journal_of(&done.core), LEFT_OUT)?;
+    flows.uphold(alloc, journal, LEFT_OUT)
+}
+
+/// Simulates a row, and audits its journal.
+fn sums_of(alloc: Global, row: &Row) -> Result<Sums, Trouble> {
+    let done = simulated(alloc, row)?;
+    let is_upheld = is_upheld(alloc, row, &done.journal)?;
     Ok(Sums {
         ticks: done.ticks,
         calls: done.runs.len(),
         is_upheld,
     })
-}
-
-/// The runs of a row.
-fn runs_of(alloc: Global, row: &Row) -> Result<List<Run>, Trouble> {
-    let done = simulated(alloc, row)?;
-    Ok(done.runs)
 }
 
 fn tell(rt: &HostRuntime, row: &Row) -> Result<(), Trouble> {
@@ -104,8 +133,8 @@ fn tell(rt: &HostRuntime, row: &Row) -> Result<(), Trouble> {
 }
 
 fn tell_runs(rt: &HostRuntime, row: &Row) -> Result<(), Trouble> {
-    let runs = runs_of(rt.alloc(), row)?;
-    for run in &runs {
+    let done = simulated(rt.alloc(), row)?;
+    for run in &done.runs {
         println!(rt;
             "{}: flow {} from {} to {}",
             row.name, run.flow.0, run.start, run.stop

@@ -79,7 +79,11 @@ impl<'a> Watcher for Refusing<'a> {
     }
 }
 
-/// Drives a core by the loop of the runtimes, with its gate told. It says whether no call was refused.
-pub fn drain_told<L: Library>(core: &mut Core<L>, calls: &Calls) -> bool {
-    drain_by(core, calls).is_ok()
+/// Drives a core by the loop of the runtimes, with its gate told, and once more where a call was refused.
+pub fn drain_twice<L: Library>(core: &mut Core<L>, calls: &Calls) -> Result<(), Trouble> {
+    if drain_by(core, calls).is_ok() {
+        return Ok(());
+    }
+    let _ = calls.count()?;
+    Ok(drain_by(core, calls)?)
 }

@@ -1,6 +1,5 @@
 //! What the words behind the program's own name ask for.
 
-use std::alloc::Global;
 use trial_ends::Trouble;
 
 #[derive(Clone, Copy)]
@@ -12,36 +11,33 @@ pub enum Words {
     Trials,
 }
 
-/// The numbers that words spell.
-fn numbers_of(alloc: Global, words: &[String]) -> Result<Vec<u32>, Trouble> {
-    let mut numbers = Vec::new(alloc);
-    for word in words {
-        let number = word.as_str().parse::<u32>().map_err(|_| Trouble::Words)?;
-        numbers.push(number)?;
+/// The number that a word spells.
+fn number_of(word: &String) -> Result<u32, Trouble> {
+    match word.as_str().parse::<u32>() {
+        Ok(number) => Ok(number),
+        Err(_) => Err(Trouble::Words),
     }
-    Ok(numbers)
 }
 
-/// What a command asks for with these numbers.
-fn command_of(command: &str, numbers: &[u32]) -> Result<Words, Trouble> {
-    match (command, numbers) {
-        ("core", [flows]) => Ok(Words::Core { flows: *flows }),
-        ("journal", [flows, prints, reads]) => Ok(Words::Journal {
-            flows: *flows,
-            prints: *prints,
-            reads: *reads,
-        }),
-        ("text", [flows]) => Ok(Words::Text { flows: *flows }),
-        ("watch", [flows]) => Ok(Words::Watch { flows: *flows }),
-        ("trials", []) => Ok(Words::Trials),
+/// What a command asks for with the number of flows.
+fn command_of(command: &str, flows: u32) -> Result<Words, Trouble> {
+    match command {
+        "core" => Ok(Words::Core { flows }),
+        "text" => Ok(Words::Text { flows }),
+        "watch" => Ok(Words::Watch { flows }),
         _ => Err(Trouble::Words),
     }
 }
 
-pub fn read_words(alloc: Global, words: &[String]) -> Result<Words, Trouble> {
-    let [_, command, numbers @ ..] = words else {
-        return Err(Trouble::Words);
-    };
-    let numbers = numbers_of(alloc, numbers)?;
-    command_of(command.as_str(), numbers.as_slice())
+pub fn read_words(words: &[String]) -> Result<Words, Trouble> {
+    match words {
+        [_, trials] if trials.as_str() == "trials" => Ok(Words::Trials),
+        [_, command, flows] => command_of(command.as_str(), number_of(flows)?),
+        [_, journal, flows, prints, reads] if journal.as_str() == "journal" => Ok(Words::Journal {
+            flows: number_of(flows)?,
+            prints: number_of(prints)?,
+            reads: number_of(reads)?,
+        }),
+        _ => Err(Trouble::Words),
+    }
 }

@@ -1,6 +1,7 @@
-use Rattle.std.proofs.Common.{length, sym, ap, ◌∙◌}
+use Rattle.std.proofs.Common.{length, sym, subst, ap, ◌∙◌}
 use Rattle.flux_model.specs.declared.programs.Program.{Program}
 use Rattle.flux_compile.proofs.Apart.{sound_apart}
+use Rattle.flow_trials.specs.Ready.{IsOpened}
 use Rattle.flow_trials.proofs.Sizes.{small}
 use Rattle.flow_trials.proofs.readying.ready_of.Goals as goal
 
@@ -10,7 +11,8 @@ compile-requires g c = record { apart = sound_apart _ _ _ c.in_ok-checked.ensure
 pub returns : goal.returns
 returns g c =
     let checked = c.in_ok-checked.checked in
-    let opened = c.in_ok-core.ensures in
+    let opened = subst (λ (p : Program). IsOpened p c.in_ok-items.items c.in_ok-core.core) c.program_of.ensures
+    c.in_ok-core.ensures in
     record {
       none = opened.none;
       idle = opened.idle;
