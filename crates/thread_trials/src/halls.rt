@@ -108,7 +108,7 @@ pub fn two_tries<R: Wait>(rt: &R, alloc: Global) -> Result<Tries, Trouble> {
         source: 0,
         number: 5,
     }];
-    let core = open(alloc, FREE, &given, Counter)?.core;
+    let core = open(alloc, FREE, &given, Counter)?;
     tries_of(rt, alloc, core)
 }
 

@@ -1,7 +1,7 @@
 //! Flows whose calls take long.
 
 use crate::burdens::Burden;
-use crate::runs::{Driver, drive, ended_in};
+use crate::runs::{Driver, run_core};
 use flow_core::OpenGate;
 use std::alloc::Global;
 use std::marker::Sync;
@@ -20,9 +20,7 @@ pub fn heavy_ended<R: Threads + Wait + Sync>(
 ) -> Result<u32, Trouble> {
     let given = numbers(alloc, flows)?;
     let watcher = Burden::slow(rounds);
-    let core = open(alloc, FREE, given.as_slice(), Watched { watcher })?.core;
-    match drive(rt, driver, core, &OpenGate) {
-        Ok(core) => Ok(ended_in(&core)),
-        Err(_) => Err(Trouble::Memory),
-    }
+    let core = open(alloc, FREE, given.as_slice(), Watched { watcher })?;
+    let run = run_core(rt, driver, core, &OpenGate)?;
+    Ok(run.ended)
 }

@@ -1,9 +1,7 @@
 //! A call that is run twice, since the first run of it is held until the second has ended.
 
-use crate::crowds::greatest_in;
-use crate::runs::{Driver, run_text};
+use crate::runs::{Came, Driver, drive_many};
 use flow_core::Gate;
-use flow_model::{Entry, Event};
 use flux_model::{FlowNo, NodeNo};
 use std::alloc::Global;
 use std::marker::Sync;
@@ -12,7 +10,7 @@ use std::sync::atomic::{AtomicU64, Ordering};
 use std::thread;
 use std::thread::Threads;
 use trial_ends::Trouble;
-use trial_programs::{COUNTING, Flows, LEFT_OUT, numbers};
+use trial_programs::{COUNTING, LEFT_OUT};
 
 /// A run that is held looks so often, at most.
 const MOST_LOOKS: u64 = 100_000_000;
@@ -62,25 +60,10 @@ impl Gate for Outrun {
 /// What came of flows whose first call was run twice.
 #[derive(Clone, Copy)]
 pub struct Lates {
-    /// How many flows have ended.
-    pub ended: u32,
-    /// What they have counted.
-    pub total: i64,
+    /// Their greatest put is what they have counted.
+    pub came: Came,
     /// How many answers came when the call had one.
     pub late: u64,
-    /// Whether the auditor upholds the journal.
-    pub is_upheld: bool,
-}
-
-/// How many calls are among the entries.
-fn calls_in(entries: &[Entry]) -> u64 {
-    let mut calls: u64 = 0;
-    for entry in entries {
-        if matches!(&entry.event, Event::Call(_)) {
-            calls = calls.saturating_add(1);
-        }
-    }
-    calls
 }
 
 /// Drives flows that count in one cell, of which the first call is run twice.
@@ -90,19 +73,8 @@ pub fn late_of<R: Threads + Wait + Sync>(
     driver: Driver,
     flows: u32,
 ) -> Result<Lates, Trouble> {
-    let given = numbers(alloc, flows)?;
-    let given = given.as_slice();
     let gate = Outrun::new();
-    let run = run_text(rt, alloc, driver, COUNTING, given, &gate)?;
-    let entries = run.journal.entries.as_slice();
-    let flows = Flows {
-        text: COUNTING,
-        given,
-    };
-    Ok(Lates {
-        ended: run.ended,
-        total: greatest_in(entries),
-        late: gate.ended().saturating_sub(calls_in(entries)),
-        is_upheld: flows.uphold(alloc, &run.journal, LEFT_OUT)?,
-    })
+    let came = drive_many(rt, alloc, driver, COUNTING, flows, &gate, LEFT_OUT)?;
+    let late = gate.ended().saturating_sub(came.calls);
+    Ok(Lates { came, late })
 }

@@ -6,7 +6,7 @@
 #![tactic(auto)]
 
 mod burdens;
-mod crowds;
+mod entries;
 mod gates;
 mod halls;
 mod heavy;
@@ -17,13 +17,13 @@ mod runs;
 mod threads;
 mod words;
 
-use crowds::drive_crowd;
+use flow_core::OpenGate;
 use halls::two_tries;
 use heavy::heavy_ended;
 use lates::late_of;
 use queues::takes;
 use refusals::driven_twice;
-use runs::{Driver, calls_held, kept, nested_kept};
+use runs::{Driver, calls_held, drive_many, kept, nested_kept};
 use std::alloc::Global;
 use std::env;
 use std::marker::Sync;
@@ -135,7 +135,7 @@ fn answer_refusals<R: Threads + Wait + Sync + Print>(
         let drives = driven_twice(rt, alloc, driver, call)?;
         println!(rt;
             "{name}: call {call} is refused: the first drive is right {}, ended then {}, counted {}, upheld {}",
-            drives.first_is_right, drives.ended, drives.total, drives.is_upheld
+            drives.first_is_right, drives.came.ended, drives.came.greatest, drives.came.is_upheld
         )?;
     }
     Ok(())
@@ -165,7 +165,7 @@ fn answer_late<R: Threads + Wait + Sync + Print>(
     let lates = late_of(rt, alloc, driver, 4)?;
     println!(rt;
         "{name}: a call was run twice: {} flows have ended, the total is {}, late answers {}, upheld {}",
-        lates.ended, lates.total, lates.late, lates.is_upheld
+        lates.came.ended, lates.came.greatest, lates.late, lates.came.is_upheld
     )?;
     Ok(())
 }
@@ -178,7 +178,7 @@ fn answer_crowds<R: Threads + Wait + Sync + Print>(
     name: &str,
 ) -> Result<(), Trouble> {
     for (text, kind) in CROWDS {
-        let crowd = drive_crowd(rt, alloc, driver, text, 4_096)?;
+        let crowd = drive_many(rt, alloc, driver, text, 4_096, &OpenGate, 0)?;
         println!(rt;
             "{name}: {kind}: {} flows have ended, the greatest put is {}, upheld {}",
             crowd.ended, crowd.greatest, crowd.is_upheld

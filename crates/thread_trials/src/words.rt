@@ -35,11 +35,18 @@ fn driver_of(word: &str) -> Result<Driver, Trouble> {
     Err(Trouble::Words)
 }
 
+fn number_of(word: &str) -> Result<u32, Trouble> {
+    match word.parse::<u32>() {
+        Ok(number) => Ok(number),
+        Err(_) => Err(Trouble::Words),
+    }
+}
+
 fn heavy_of(driver: &str, flows: &str, rounds: &str) -> Result<Words, Trouble> {
     Ok(Words::Heavy {
         driver: driver_of(driver)?,
-        flows: flows.parse::<u32>().map_err(|_| Trouble::Words)?,
-        rounds: rounds.parse::<u64>().map_err(|_| Trouble::Words)?,
+        flows: number_of(flows)?,
+        rounds: u64::from(number_of(rounds)?),
     })
 }
 
