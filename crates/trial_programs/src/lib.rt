@@ -1,8 +1,9 @@
 //! What trials of the core drive: programs, random ones too, and a library whose calls are watched.
 //!
 //! `set_up` makes what flows run in of a text and of the numbers that its sources give to them, and `open` a core; `text_of` and
-//! `numbers_of` make both of a seed. `Flows::uphold` holds a journal against the auditor, and `Flows::keep_rules` against plain lists too. `Watched` is the library `Counter`, of
-//! whose calls a watcher is told, which may refuse them. Trials alone stand on this crate.
+//! `numbers_of` make both of a seed. `Flows::uphold` holds a journal against the auditor, and `Flows::keep_rules` against plain
+//! lists too. `Watched` is the library `Counter`, of whose calls a watcher is told, which may refuse them. Trials alone stand on
+//! this crate.
 #![tactic(auto)]
 
 mod audits;
