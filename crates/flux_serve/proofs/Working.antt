@@ -9,6 +9,8 @@ use Rattle.std.proofs.lemmas.List.{get_or-set_other, length-set, append-nil}
 use Rattle.flow_model.specs.declared.journals.Entry.{Entry}
 use Rattle.flow_core.specs.States.{CoreState}
 use Rattle.flow_core.specs.Runs.{GoesOn}
+use Rattle.flow_workers.specs.Outings.{AddsOwn}
+use Rattle.flux_model.specs.declared.items.FlowNo.{FlowNo}
 use Rattle.flow_shared.specs.Journals.{BeginsWith}
 use Rattle.flow_shared.specs.States.{SharedState, SeatState}
 use Rattle.flow_shared.specs.Turns.{IsTurnOf, given}
@@ -33,6 +35,10 @@ begins-more one two three first second =
     (first.0 ++ second.0, second.1 ∙ (ap (λ (l : List Entry). l ++ second.0) first.1 ∙ append_assoc one first.0 second.0))
 
 -- ---- turns
+
+-- entries of one flow are some more
+pub adds-on : {L : Type 0} → (old new : CoreState L) (flow : FlowNo) → AddsOwn old new flow → GoesOn old new
+adds-on old new flow adds = record { setup_ = adds.setup_; more = adds.more; added = adds.added }
 
 module _ {L : Type 0} (seat : SeatState L) (turn : SharedTurn L) (is : IsTurnOf seat turn) (core : CoreState L) (on : GoesOn turn.core core)
     (back : SeatState L) (is_given : (let held = turn.held in back ≡ given held core)) where

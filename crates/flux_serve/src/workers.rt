@@ -75,12 +75,12 @@ fn call<L: Library, G: Gate, R: Wait>(
     gate.after(flow, job.node());
     let mut turn = shared.turn(rt, seat);
     let goes = take_answer(&mut turn.core, flow, made);
-    let seat = shared.give(turn);
-    if goes {
-        (seat, Stage::Went)
-    } else {
-        (seat, Stage::Halted)
-    }
+    (shared.give(turn), stage_behind(goes))
+}
+
+/// How a flow stands whose answer was handed in.
+fn stage_behind(goes: bool) -> Stage {
+    if goes { Stage::Went } else { Stage::Halted }
 }
 
 /// The same, if the link is open.

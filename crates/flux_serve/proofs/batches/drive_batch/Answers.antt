@@ -1,4 +1,4 @@
-use Rattle.std.proofs.Common.{◌+◌, List, refl, ◌∙◌, subst, ap}
+use Rattle.std.proofs.Common.{ℕ, ◌+◌, ◌≤◌, List, refl, sym, ◌∙◌, subst, ap, arith}
 use Rattle.flow_model.specs.declared.journals.Entry.{Entry}
 use Rattle.flux_cells.specs.Kept.{cells_of}
 use Rattle.flux_outside.specs.Streams.{Stream}
@@ -43,3 +43,24 @@ returns-in-Err-run_links-clause-none g c log =
     (g.D.Door.to_come c.take.new.door) (g.D.Door.taken_back c.take.new.door) (g.D.Door.late c.take.new.door) c.in-Ok.links.items
     c.in-Ok.ensures.taken c.in-Ok.ensures.back c.give_back_held.ensures.back c.give_back_held.ensures.kept c.give_back_held.ensures.counts.1
     (c.give_back_held.ensures.counts.0 ∙ c.in-Ok.ensures.steady) refl
+
+pub returns-in-Ok-run_links-clause-open : goal.returns-in-Ok-run_links-clause-open
+returns-in-Ok-run_links-clause-open g c = c.answer_links.ensures.open ∙ c.take.ensures.open
+
+pub returns-in-Ok-run_links-clause-later : goal.returns-in-Ok-run_links-clause-later
+returns-in-Ok-run_links-clause-later g c =
+    let F : ℕ → Type 0 = λ n. g.D.Door.faults c.args.door.now ≤ n in
+    let N : ℕ → Type 0 = λ n. g.D.Door.late c.args.door.now ≤ n in
+    (subst F (sym c.answer_links.ensures.counts.0) c.take.ensures.later.0, subst N (sym c.answer_links.ensures.counts.1) c.take.ensures.later.1)
+
+pub returns-in-Err-run_links-clause-open : goal.returns-in-Err-run_links-clause-open
+returns-in-Err-run_links-clause-open g c = c.give_back_held.ensures.open ∙ c.take.ensures.open
+
+pub returns-in-Err-run_links-clause-later : goal.returns-in-Err-run_links-clause-later
+returns-in-Err-run_links-clause-later g c =
+    let F : ℕ → Type 0 = λ n. g.D.Door.faults c.args.door.now ≤ n in
+    let N : ℕ → Type 0 = λ n. g.D.Door.late c.args.door.now ≤ n in
+    (subst F (sym c.give_back_held.ensures.counts.0) c.take.ensures.later.0, subst N (sym c.give_back_held.ensures.counts.1) c.take.ensures.later.1)
+
+pub returns-in-Ok-run_links-clause-bound : goal.returns-in-Ok-run_links-clause-bound
+returns-in-Ok-run_links-clause-bound g c = omega (arith, c.in-Ok-run_links.ensures.next, c.in-Ok.ensures.out.1)

@@ -1,4 +1,4 @@
-use Rattle.std.proofs.Common.{◌≡◌, ◌+◌, Bool, true, Option, refl, ap, ◌∙◌, subst, inl, inr}
+use Rattle.std.proofs.Common.{◌≡◌, ℕ, ◌+◌, ◌≤◌, Bool, refl, sym, ap, ◌∙◌, subst, inl, inr, arith}
 use Rattle.flow_model.specs.Legal.{IsLegal, IsWhole}
 use Rattle.flow_model.specs.CellsAfter.{cells_after}
 use Rattle.flow_core.specs.States.{CoreState, setup_in}
@@ -90,3 +90,33 @@ returns-clause-none g c log =
         log_ = refl;
       }),
     )
+
+pub returns-in-Err-prepare-clause-open : goal.returns-in-Err-prepare-clause-open
+returns-in-Err-prepare-clause-open g c = c.give_back_held.ensures.open ∙ c.take.ensures.open
+
+pub returns-in-Err-prepare-clause-later : goal.returns-in-Err-prepare-clause-later
+returns-in-Err-prepare-clause-later g c =
+    let F : ℕ → Type 0 = λ n. g.D.Door.faults c.args.door.now ≤ n in
+    let N : ℕ → Type 0 = λ n. g.D.Door.late c.args.door.now ≤ n in
+    (subst F (sym c.give_back_held.ensures.counts.0) c.take.ensures.later.0, subst N (sym c.give_back_held.ensures.counts.1) c.take.ensures.later.1)
+
+pub returns-then-whole-clause-open : goal.returns-then-whole-clause-open
+returns-then-whole-clause-open g c = c.run_lanes-journal.ensures.open ∙ c.take.ensures.open
+
+pub returns-then-whole-clause-later : goal.returns-then-whole-clause-later
+returns-then-whole-clause-later g c =
+    let F : ℕ → Type 0 = λ n. g.D.Door.faults c.args.door.now ≤ n in
+    let N : ℕ → Type 0 = λ n. g.D.Door.late c.args.door.now ≤ n in
+    (subst F (sym c.run_lanes-journal.ensures.counts.0) c.take.ensures.later.0, subst N (sym c.run_lanes-journal.ensures.counts.1) c.take.ensures.later.1)
+
+pub returns-clause-open : goal.returns-clause-open
+returns-clause-open g c = c.run_lanes-journal.ensures.open ∙ c.take.ensures.open
+
+pub returns-clause-later : goal.returns-clause-later
+returns-clause-later g c =
+    let F : ℕ → Type 0 = λ n. g.D.Door.faults c.args.door.now ≤ n in
+    let N : ℕ → Type 0 = λ n. g.D.Door.late c.args.door.now ≤ n in
+    (subst F (sym c.run_lanes-journal.ensures.counts.0) c.take.ensures.later.0, subst N (sym c.run_lanes-journal.ensures.counts.1) c.take.ensures.later.1)
+
+pub returns-then-whole-clause-bound : goal.returns-then-whole-clause-bound
+returns-then-whole-clause-bound g c = omega (arith, c.len.ensures, c.in-Ok.links.ok.0, c.in-Ok.ensures.out.1)

@@ -1,0 +1,15 @@
+use Rattle.std.proofs.Common.{◌≡◌, Bool, true, false, not, refl, sym, subst}
+use Rattle.std.specs.Prelude.{MatchBool}
+use Rattle.flux_batches.specs.declared.reading.Sent.{Sent}
+use Rattle.flux_serve.specs.steps.Dues.{HasText}
+use Rattle.flux_serve.proofs.dues.Due.is_open.Goals as goal
+
+unwritten : (text : Type 0) (written : Bool) → text → MatchBool (not written) (text × (written ≡ false)) (text → written ≡ true)
+unwritten text true sent = λ has. refl
+unwritten text false sent = (sent, refl)
+
+pub returns-in-Text : goal.returns-in-Text
+returns-in-Text g c =
+    let due = c.args.self.now in
+    let held = due.held in
+    unwritten (HasText held.sent) due.written (subst HasText (sym c.in-Text.is) tt)
