@@ -4,3 +4,4 @@ mod Waiting
 mod Legality
 mod Orders
 mod Rounds
+mod Idle

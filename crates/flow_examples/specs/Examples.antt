@@ -3,6 +3,7 @@ use Rattle.flow_examples.specs.Walks.{HandlerFollowsDrops, FirstCaseIsTaken, Han
 use Rattle.flow_examples.specs.Held.{ReadersShare, CellsFollowPuts, KeysGoBySession, TakesAreKeptApart, SectionsAreKeptApart, TakesMayFollow}
 use Rattle.flow_examples.specs.Waiting.{MayWaitWhereHeld, WaitsForItsOwnTake, WaitsOnlyWhereBlocked, WaitsOnce, IsNotPassedBy, CyclesAreFound}
 use Rattle.flow_examples.specs.Orders.{OneFlowGoesRound, RoundBeginsWithTheFirst, TurnsLast, ListedComeFirst, LowestComesFirst}
+use Rattle.flow_examples.specs.Idle.{OthersAreBlocked, HolderCanGoOn}
 use Rattle.flow_examples.specs.Legality.{FailedIsWhole, OthersAnswersAreRefused, BegunIsNotWhole}
 
 pub record Examples : Type 0 where
@@ -18,6 +19,7 @@ pub record Examples : Type 0 where
   pub may_wait : MayWaitWhereHeld
   pub failed_is_whole : FailedIsWhole
   pub goes_round : OneFlowGoesRound
+  pub others_blocked : OthersAreBlocked
 
 pub record Refused : Type 0 where
   pub takes : TakesAreKeptApart
@@ -33,3 +35,4 @@ pub record Refused : Type 0 where
   pub turns : TurnsLast
   pub listed : ListedComeFirst
   pub lowest : LowestComesFirst
+  pub holder : HolderCanGoOn

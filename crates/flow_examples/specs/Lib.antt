@@ -4,4 +4,5 @@ pub mod Held
 pub mod Waiting
 pub mod Legality
 pub mod Orders
+pub mod Idle
 pub mod Examples

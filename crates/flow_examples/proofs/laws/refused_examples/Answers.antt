@@ -2,6 +2,7 @@ use Rattle.flow_examples.proofs.Held.{takes_apart, sections_apart}
 use Rattle.flow_examples.proofs.Waiting.{own_take, only_blocked, once, not_passed, cycle_found}
 use Rattle.flow_examples.proofs.Legality.{answers_refused, begun_not_whole}
 use Rattle.flow_examples.proofs.Orders.{first_begins, turns_last, listed_first, lowest_first}
+use Rattle.flow_examples.proofs.Idle.{holder_goes_on}
 use Rattle.flow_examples.proofs.laws.refused_examples.Goals as goal
 
 pub returns : goal.returns
@@ -19,4 +20,5 @@ returns c = record {
   turns = turns_last;
   listed = listed_first;
   lowest = lowest_first;
+  holder = holder_goes_on;
 }

@@ -3,6 +3,7 @@ use Rattle.flow_examples.proofs.Held.{may_follow, keys_differ}
 use Rattle.flow_examples.proofs.Waiting.{may_wait}
 use Rattle.flow_examples.proofs.Legality.{failed_whole}
 use Rattle.flow_examples.proofs.Rounds.{goes_round}
+use Rattle.flow_examples.proofs.Idle.{others_blocked}
 use Rattle.std.specs.FinMap.{gets}
 use Rattle.flow_examples.proofs.laws.worked_examples.Goals as goal
 
@@ -20,4 +21,5 @@ returns c = record {
   may_wait = may_wait;
   failed_is_whole = failed_whole;
   goes_round = goes_round;
+  others_blocked = others_blocked;
 }
