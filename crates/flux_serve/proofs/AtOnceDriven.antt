@@ -1,5 +1,5 @@
 -- A batch that was served at once: driven whole, or only begun.
-use Rattle.std.proofs.Common.{◌≡◌, ℕ, zero, suc, ◌+◌, ◌<◌, Bool, true, false, cond, List, [], length, Option, sym, ap, subst, ◌∙◌, refl, inl, inr, arith}
+use Rattle.std.proofs.Common.{◌≡◌, ℕ, zero, suc, ◌<◌, Bool, true, false, cond, List, [], length, Option, sym, ap, subst, refl, inl, inr, arith}
 use Rattle.std.specs.Prelude.{Result, Ok, Err, IfErr}
 use Rattle.flux_model.specs.declared.items.Item.{Item}
 use Rattle.flow_model.specs.declared.journals.Entry.{Entry}

@@ -1,5 +1,5 @@
 -- Steps of serving a batch. No promise cites it.
-use Rattle.std.specs.Prelude.{◌≡◌, ℕ, ◌+◌, ◌<◌, ◌≤◌, ◌⊎◌, List, [], length, Option, None, IfSome}
+use Rattle.std.specs.Prelude.{◌≡◌, ℕ, ◌<◌, ◌≤◌, ◌⊎◌, List, [], length, Option, None, IfSome}
 use Rattle.std.specs.Arc.{arc_value}
 use Rattle.flux_values.specs.Meanings.{LibraryMeaning}
 use Rattle.flux_cells.specs.Kept.{cells_of}

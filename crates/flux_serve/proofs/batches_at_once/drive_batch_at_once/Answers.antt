@@ -6,7 +6,7 @@ use Rattle.flux_cells.specs.Kept.{cells_of}
 use Rattle.flux_outside.specs.Streams.{Stream}
 use Rattle.flux_batches.specs.Links.{Seen, seen_by}
 use Rattle.flux_serve.specs.declared.batches.Run.{Run}
-use Rattle.flux_serve.specs.Batches.{Service, batch_setup}
+use Rattle.flux_serve.specs.Batches.{batch_setup}
 use Rattle.flux_serve.specs.Ends.{Sight}
 use Rattle.flux_serve.specs.steps.Batches.{sight_in, service_in}
 use Rattle.flux_serve.proofs.Driven.{ran_of, undriven_of}

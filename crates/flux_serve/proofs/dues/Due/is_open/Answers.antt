@@ -1,6 +1,5 @@
 use Rattle.std.proofs.Common.{◌≡◌, Bool, true, false, not, refl, sym, subst}
 use Rattle.std.specs.Prelude.{MatchBool}
-use Rattle.flux_batches.specs.declared.reading.Sent.{Sent}
 use Rattle.flux_serve.specs.steps.Dues.{HasText}
 use Rattle.flux_serve.proofs.dues.Due.is_open.Goals as goal
 
