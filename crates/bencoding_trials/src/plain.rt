@@ -6,14 +6,14 @@ use std::alloc::Global;
 use trial_ends::Trouble;
 
 /// What comes of a text: a value of so many bytes, or the first byte at which none goes on.
-#[derive(Clone, Copy, Debug, PartialEq, Eq)]
+#[derive(Clone, Copy, PartialEq)]
 pub enum Plain {
     Read(usize),
     Bad(usize),
 }
 
 /// What is open round the next byte.
-#[derive(Clone, Copy, Debug, PartialEq, Eq)]
+#[derive(Clone, Copy)]
 enum Open {
     List,
     /// A dictionary that wants a key, or its end.
@@ -35,7 +35,7 @@ enum Open {
 }
 
 /// What one byte more does.
-#[derive(Clone, Copy, Debug, PartialEq, Eq)]
+#[derive(Clone, Copy)]
 enum Step {
     Goes,
     /// A value, a key or the whole has come to its end.
