@@ -66,12 +66,22 @@ pub fn library_name(p: &Program, node: NodeNo) -> Option<&[u8]>
 }
 
 /// A begun call, to be run wherever its runtime likes.
-#[derive(Drop)]
 pub struct Job<L: Library> {
     flow: FlowNo,
     begun: Begun,
     program: Arc<Program>,
     library: Arc<L>,
+}
+
+impl<L: Library> Drop for Job<L> {
+    fn drop(self) {
+        let Job {
+            flow,
+            begun,
+            program,
+            library,
+        } = self;
+    }
 }
 
 impl<L: Library> Model for Job<L> {
@@ -94,13 +104,24 @@ impl<L: Library> Model for Job<L> {
 }
 
 /// A call that was run. It keeps that its answer is the library's for its own inputs.
-#[derive(Drop)]
 pub struct CallDone<L: Library> {
     flow: FlowNo,
     begun: Begun,
     answer: Answer,
     program: Arc<Program>,
     library: Arc<L>,
+}
+
+impl<L: Library> Drop for CallDone<L> {
+    fn drop(self) {
+        let CallDone {
+            flow,
+            begun,
+            answer,
+            program,
+            library,
+        } = self;
+    }
 }
 
 impl<L: Library> Model for CallDone<L> {

@@ -50,9 +50,14 @@ pub enum Finish {
 }
 
 /// Flows over a setup, and the journal of what they did. What it keeps at every moment is told by `journal`.
-#[derive(Drop)]
 pub struct Core<L: Library> {
     fields: Fields<L>,
+}
+
+impl<L: Library> Drop for Core<L> {
+    fn drop(self) {
+        let Core { fields } = self;
+    }
 }
 
 impl<L: Library> Model for Core<L> {
@@ -243,7 +248,8 @@ impl<L: Library> Core<L> {
         ensures cells { cells_of result.1 ≡ cells_after (setup_in L.meaning self) self.entries }
         ensures kept { IsKept L.meaning self }
     {
-        let Fields { state, journal, .. } = self.fields;
+        let Core { fields } = self;
+        let Fields { state, journal, .. } = fields;
         let (_, cells) = state.into_parts();
         (journal, cells)
     }

@@ -17,9 +17,14 @@ use std::snapshot::Snapshot;
 use std::sync::Wait;
 
 /// A core that threads take in turn.
-#[derive(Drop)]
 pub struct Hall<L: Library> {
     table: Table<Option<Core<L>>, View<L>, Snapshot<Core<L>>, HallRule<L>, Global>,
+}
+
+impl<L: Library> Drop for Hall<L> {
+    fn drop(self) {
+        let Hall { table } = self;
+    }
 }
 
 impl<L: Library> Model for Hall<L> {

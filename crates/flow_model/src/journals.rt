@@ -11,11 +11,17 @@ pub struct Key {
 }
 
 /// A call of a node, with what it answered.
-#[derive(Debug, Drop)]
+#[derive(Debug)]
 pub struct CallMade {
     pub node: NodeNo,
     pub args: List<Value>,
     pub answer: Answer,
+}
+
+impl Drop for CallMade {
+    fn drop(self) {
+        let CallMade { node, args, answer } = self;
+    }
 }
 
 /// How a node or a flow ended: well, over after a handler, or with a code.
@@ -26,7 +32,7 @@ pub enum Outcome {
     Bad(u16),
 }
 
-#[derive(Debug, Drop)]
+#[derive(Debug)]
 pub enum Event {
     Take(Key, Mode),
     Wait(Key, Mode),
@@ -39,15 +45,42 @@ pub enum Event {
     End(Outcome),
 }
 
+impl Drop for Event {
+    fn drop(self) {
+        match self {
+            Event::Take(_, _) => {}
+            Event::Wait(_, _) => {}
+            Event::Enter(_) => {}
+            Event::Choose(_) => {}
+            Event::Call(_) => {}
+            Event::Exit(_, _) => {}
+            Event::Drop(_) => {}
+            Event::End(_) => {}
+        }
+    }
+}
+
 /// An event with its flow.
-#[derive(Debug, Drop)]
+#[derive(Debug)]
 pub struct Entry {
     pub flow: FlowNo,
     pub event: Event,
 }
 
+impl Drop for Entry {
+    fn drop(self) {
+        let Entry { flow, event } = self;
+    }
+}
+
 /// What the flows did, in order.
-#[derive(Debug, Drop)]
+#[derive(Debug)]
 pub struct Journal {
     pub entries: List<Entry>,
+}
+
+impl Drop for Journal {
+    fn drop(self) {
+        let Journal { entries } = self;
+    }
 }

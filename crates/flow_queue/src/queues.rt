@@ -17,10 +17,15 @@ use std::snapshot::Snapshot;
 use std::sync::Wait;
 
 /// The numbers of flows that can be stepped, first in first out. No number is in it twice, nor in it and held.
-#[derive(Drop)]
 pub struct FlowQueue {
     queue: RuledArrayQueue<u32, View, QueueRule>,
     flows: u32,
+}
+
+impl Drop for FlowQueue {
+    fn drop(self) {
+        let FlowQueue { queue, flows } = self;
+    }
 }
 
 impl Model for FlowQueue {

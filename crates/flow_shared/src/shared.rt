@@ -18,9 +18,14 @@ use std::snapshot::Snapshot;
 use std::sync::Wait;
 
 /// A core that threads take in turn, with one journal for all of them.
-#[derive(Drop)]
 pub struct Shared<L: Library> {
     table: Table<Option<Core<L>>, View<L>, Snapshot<Core<L>>, SharedRule<L>, Global>,
+}
+
+impl<L: Library> Drop for Shared<L> {
+    fn drop(self) {
+        let Shared { table } = self;
+    }
 }
 
 impl<L: Library> Model for Shared<L> {

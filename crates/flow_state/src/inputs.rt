@@ -4,9 +4,15 @@ use flux_model::NodeNo;
 use flux_values::{Cell, List, Value};
 
 /// What a call of a node is given: values, and the cells that the node uses, in order.
-#[derive(Debug, Drop)]
+#[derive(Debug)]
 pub struct Inputs {
     pub node: NodeNo,
     pub args: List<Value>,
     pub cells: List<Cell>,
+}
+
+impl Drop for Inputs {
+    fn drop(self) {
+        let Inputs { node, args, cells } = self;
+    }
 }

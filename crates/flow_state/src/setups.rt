@@ -14,13 +14,24 @@ use std::sync::Arc;
 
 /// What flows run in: a program with a plan for each of its source lines, an item for each flow, the cells at the
 /// start, and the library.
-#[derive(Drop)]
 pub struct Setup<L: Library> {
     pub program: Arc<Program>,
     pub plans: Arc<List<VerifiedPlan>>,
     pub items: List<Item>,
     pub opening: Cells,
     pub library: Arc<L>,
+}
+
+impl<L: Library> Drop for Setup<L> {
+    fn drop(self) {
+        let Setup {
+            program,
+            plans,
+            items,
+            opening,
+            library,
+        } = self;
+    }
 }
 
 impl<L: Library> Setup<L> {

@@ -34,9 +34,14 @@ use std::marker::Model;
 
 /// Flows over a setup, where the entries that they made have led them. What it keeps at every moment is told by
 /// `keep`.
-#[derive(Drop)]
 pub struct State<L: Library> {
     fields: Fields<L>,
+}
+
+impl<L: Library> Drop for State<L> {
+    fn drop(self) {
+        let State { fields } = self;
+    }
 }
 
 impl<L: Library> Model for State<L> {
@@ -109,7 +114,8 @@ impl<L: Library> State<L> {
         ensures cells { cells_of result.1 ≡ cells_after (setup_at L.meaning self) self.entries }
         ensures kept { IsLegalState L.meaning self }
     {
-        let Fields { setup, cells, .. } = self.fields;
+        let State { fields } = self;
+        let Fields { setup, cells, .. } = fields;
         (setup, cells)
     }
 }

@@ -26,11 +26,20 @@ use std::alloc::Global;
 use std::marker::Model;
 
 /// The flows of a core that are looked at, and those that needn't be. After want of memory it is of no more use.
-#[derive(Drop)]
 pub struct Candidates {
     ready: Numbers,
     readers: Rooms,
     writers: Rooms,
+}
+
+impl Drop for Candidates {
+    fn drop(self) {
+        let Candidates {
+            ready,
+            readers,
+            writers,
+        } = self;
+    }
 }
 
 impl Model for Candidates {

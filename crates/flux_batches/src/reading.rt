@@ -32,13 +32,23 @@ pub fn threads_for(links: usize) -> usize
 }
 
 /// What a link sent.
-#[derive(Debug, Drop)]
+#[derive(Debug)]
 pub enum Sent {
     Text(TextBytes),
     /// Reading failed.
     Failed,
     /// There was no memory for the text.
     Memory,
+}
+
+impl Drop for Sent {
+    fn drop(self) {
+        match self {
+            Sent::Text(_) => {}
+            Sent::Failed => {}
+            Sent::Memory => {}
+        }
+    }
 }
 
 /// A link that was read, with what it sent.

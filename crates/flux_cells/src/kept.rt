@@ -14,10 +14,15 @@ use std::collections::BTreeMap;
 use std::marker::Model;
 
 /// A cell for each key.
-#[derive(Drop)]
 pub struct Cells {
     cells: BTreeMap<Key, Cell>,
     alloc: Global,
+}
+
+impl Drop for Cells {
+    fn drop(self) {
+        let Cells { cells, alloc } = self;
+    }
 }
 
 impl Model for Cells {

@@ -14,9 +14,15 @@ use std::cmp::Ordering;
 use std::marker::Model;
 
 /// Classes by rising numbers, each once, with the mode in which it is held.
-#[derive(Debug, Drop)]
+#[derive(Debug)]
 pub struct ClassSet {
     holds: Vec<Hold>,
+}
+
+impl Drop for ClassSet {
+    fn drop(self) {
+        let ClassSet { holds } = self;
+    }
 }
 
 impl Model for ClassSet {

@@ -12,7 +12,6 @@ use std::alloc::Global;
 use std::collections::VecDeque;
 
 /// A door in memory with the batches of links that come.
-#[derive(Drop)]
 pub struct MemoryDoor {
     /// What is left of the batch that has begun, and the batches behind it.
     begun: VecDeque<MemoryLink>,
@@ -25,6 +24,21 @@ pub struct MemoryDoor {
     faults: u64,
     late: u64,
     ghost reserved: { vec_len back + out + deque_len begun + queued_in later.items ≤ vec_capacity back },
+}
+
+impl Drop for MemoryDoor {
+    fn drop(self) {
+        let MemoryDoor {
+            begun,
+            later,
+            back,
+            port,
+            out,
+            calls,
+            faults,
+            late,
+        } = self;
+    }
 }
 
 /// The links of a batch, the first in front.

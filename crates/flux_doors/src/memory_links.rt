@@ -7,7 +7,7 @@ use flux_outside::{Calls, Failed, MemorySink, Sink, count_failure};
 use flux_values::{Bytes, List};
 
 /// A link in memory: what it gives, and the sink that takes its reply.
-#[derive(Debug, Drop)]
+#[derive(Debug)]
 pub struct MemoryLink {
     input: Bytes,
     given: usize,
@@ -17,6 +17,19 @@ pub struct MemoryLink {
     faults: u64,
     ghost within: { given ≤ length input },
     ghost some: { 0 < piece },
+}
+
+impl Drop for MemoryLink {
+    fn drop(self) {
+        let MemoryLink {
+            input,
+            given,
+            piece,
+            written,
+            calls,
+            faults,
+        } = self;
+    }
 }
 
 impl MemoryLink {

@@ -149,11 +149,17 @@ pub struct Place {
 }
 
 /// A fault at a byte of the text, counted from 0. The path is empty unless the kind is `Cycle`.
-#[derive(Debug, Drop)]
+#[derive(Debug)]
 pub struct StaticFault {
     pub kind: FaultKind,
     pub at: u32,
     pub path: List<TextBytes>,
+}
+
+impl Drop for StaticFault {
+    fn drop(self) {
+        let StaticFault { kind, at, path } = self;
+    }
 }
 
 /// Why a static part refuses a text.

@@ -7,9 +7,15 @@ use flux_model::NodeNo;
 use flux_values::{List, Memory};
 
 /// The nodes of a program, each after all that it leads to.
-#[derive(Debug, Drop)]
+#[derive(Debug)]
 pub struct Order {
     pub nodes: List<NodeNo>,
+}
+
+impl Drop for Order {
+    fn drop(self) {
+        let Order { nodes } = self;
+    }
 }
 
 /// Why a program has no order.

@@ -15,9 +15,15 @@ use flux_values::{List, Memory};
 use std::alloc::Global;
 
 /// What each node holds, by its number.
-#[derive(Debug, Drop)]
+#[derive(Debug)]
 pub struct Sets {
     pub nodes: List<ClassSet>,
+}
+
+impl Drop for Sets {
+    fn drop(self) {
+        let Sets { nodes } = self;
+    }
 }
 
 pub(crate) fn join_holds(set: &mut ClassSet, holds: &[Hold]) -> Result<(), Memory>

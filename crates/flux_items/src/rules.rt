@@ -12,11 +12,21 @@ pub const ITEM_LIMIT: usize = 4096;
 pub const SIZE_LIMIT: u64 = 4_194_304;
 
 /// The sources of a program, by their places: the name, the kinds of the values and the size of each.
-#[derive(Debug, Drop)]
+#[derive(Debug)]
 pub struct ItemRules {
     pub names: List<TextBytes>,
     pub kinds: List<List<Kind>>,
     pub sizes: List<u32>,
+}
+
+impl Drop for ItemRules {
+    fn drop(self) {
+        let ItemRules {
+            names,
+            kinds,
+            sizes,
+        } = self;
+    }
 }
 
 /// Why a text has no items: what is wrong with its first faulty line, which is counted from 1.

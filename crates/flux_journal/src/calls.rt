@@ -81,9 +81,9 @@ impl Cursor<'_> {
     fn text(&mut self, alloc: Global) -> Result<TextBytes, LineFault>
         ensures { IsPartRead BeginsName self.old.rest.now self.new.rest.now result }
     {
-        match self.value(alloc)? {
-            Value::Text(text) => Ok(text),
-            Value::Int(_) | Value::Bool(_) => Err(LineFault::BadLine),
+        match self.value(alloc)?.into_text() {
+            Some(text) => Ok(text),
+            None => Err(LineFault::BadLine),
         }
     }
 

@@ -220,9 +220,14 @@ pub fn read_line(alloc: Global, program: &Program, line: &[u8]) -> Result<Entry,
 
 /// What the lines of a program's journal are read by, one after the other. It is made once for a journal, since it has the
 /// program's names by hash. Contracts see it as the program.
-#[derive(Drop)]
 pub struct LineReader<'a> {
     reader: Reader<'a>,
+}
+
+impl<'a> Drop for LineReader<'a> {
+    fn drop(self) {
+        let LineReader { reader } = self;
+    }
 }
 
 impl<'a> Model for LineReader<'a> {

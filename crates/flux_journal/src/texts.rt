@@ -34,9 +34,15 @@ pub fn count_lines(text: &[u8]) -> u64
 }
 
 /// The lines of a text, each without its LF, which the last may lack.
-#[derive(Debug, Drop)]
+#[derive(Debug)]
 pub struct Lines<'a> {
     rest: &'a [u8],
+}
+
+impl<'a> Drop for Lines<'a> {
+    fn drop(self) {
+        let Lines { rest } = self;
+    }
 }
 
 impl<'a> Model for Lines<'a> {

@@ -44,7 +44,7 @@ pub fn emits(alloc: Global, emits: Bytes) -> Result<Answer, Memory>
 pub fn copies(alloc: Global, values: &[Value]) -> Result<List<Value>, Memory>
     ensures { IfOk result (λ copied. copied ≡ values.now) }
 {
-    let mut copied = List::new(alloc);
+    let mut copied = List::with_room(alloc, values.len())?;
     for value in values {
         copied.add(value.copy(alloc)?)?;
     }

@@ -15,12 +15,18 @@ use std::marker::Model;
 pub const BODY_LIMIT: usize = 1_048_576;
 
 /// Documents: a finite map from names to bodies of at most 1,048,576 bytes each.
-#[derive(Debug, Drop)]
+#[derive(Debug)]
 pub struct Docs {
     alloc: Global,
     /// The names are vectors, since such keys can be searched for a slice.
     bodies: BTreeMap<Vec<u8>, Bytes>,
     ghost each: { AreBodies (map.from_entries (by_bytes bodies.entries)) } by { Prim.hlevel props },
+}
+
+impl Drop for Docs {
+    fn drop(self) {
+        let Docs { alloc, bodies } = self;
+    }
 }
 
 impl Model for Docs {

@@ -8,8 +8,14 @@ use flux_values::{List, Value};
 pub struct FlowNo(pub u32);
 
 /// What starts one flow: the values that a source gives.
-#[derive(Debug, Drop)]
+#[derive(Debug)]
 pub struct Item {
     pub source: SourceNo,
     pub values: List<Value>,
+}
+
+impl Drop for Item {
+    fn drop(self) {
+        let Item { source, values } = self;
+    }
 }

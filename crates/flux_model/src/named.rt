@@ -4,7 +4,7 @@ use crate::programs::Program;
 use flux_values::List;
 
 /// Places of names, in bytes from 0.
-#[derive(Debug, Drop)]
+#[derive(Debug)]
 pub struct Sites {
     /// Of each node, its name in its first naming line.
     pub nodes: List<u32>,
@@ -14,6 +14,17 @@ pub struct Sites {
     pub sources: List<u32>,
     /// Of the handlers, node by node.
     pub handlers: List<u32>,
+}
+
+impl Drop for Sites {
+    fn drop(self) {
+        let Sites {
+            nodes,
+            targets,
+            sources,
+            handlers,
+        } = self;
+    }
 }
 
 /// A program, and where its names stand.

@@ -6,9 +6,14 @@ use std::alloc::Global;
 use std::marker::Model;
 
 /// Distinct names that are borrowed, each at its place from 0, seen as their list.
-#[derive(Drop)]
 pub struct Names<'a> {
     set: IndexSet<&'a [u8]>,
+}
+
+impl<'a> Drop for Names<'a> {
+    fn drop(self) {
+        let Names { set } = self;
+    }
 }
 
 impl<'a> Model for Names<'a> {

@@ -24,10 +24,16 @@ pub struct SourceNo(pub u32);
 pub struct ClassNo(pub u32);
 
 /// A constraint name with its scope: the whole program, or one session.
-#[derive(Debug, Drop)]
+#[derive(Debug)]
 pub struct Class {
     pub name: TextBytes,
     pub session: bool,
+}
+
+impl Drop for Class {
+    fn drop(self) {
+        let Class { name, session } = self;
+    }
 }
 
 /// A class, and how it is held.
@@ -38,7 +44,7 @@ pub struct Hold {
 }
 
 /// What a text declares. The predicates are names of the library.
-#[derive(Debug, Drop)]
+#[derive(Debug)]
 pub struct Program {
     pub classes: List<Class>,
     pub nodes: List<Node>,
@@ -46,7 +52,18 @@ pub struct Program {
     pub predicates: List<TextBytes>,
 }
 
-#[derive(Debug, Drop)]
+impl Drop for Program {
+    fn drop(self) {
+        let Program {
+            classes,
+            nodes,
+            sources,
+            predicates,
+        } = self;
+    }
+}
+
+#[derive(Debug)]
 pub struct Node {
     pub name: TextBytes,
     pub body: Body,
@@ -56,36 +73,78 @@ pub struct Node {
     pub declared: List<Hold>,
 }
 
+impl Drop for Node {
+    fn drop(self) {
+        let Node {
+            name,
+            body,
+            on_fail,
+            declared,
+        } = self;
+    }
+}
+
 /// A handler for codes. No codes at all mean every code that no other arm of the node names.
-#[derive(Debug, Drop)]
+#[derive(Debug)]
 pub struct HandleArm {
     /// From 1 to 256, where 256 is the failure of a flow none of whose cases matches.
     pub codes: List<u16>,
     pub node: NodeNo,
 }
 
+impl Drop for HandleArm {
+    fn drop(self) {
+        let HandleArm { codes, node } = self;
+    }
+}
+
 /// What a node does: a call of the library's node of that name, or the first case that matches.
-#[derive(Debug, Drop)]
+#[derive(Debug)]
 pub enum Body {
     Concrete(TextBytes),
     Abstract(List<Case>),
 }
 
+impl Drop for Body {
+    fn drop(self) {
+        match self {
+            Body::Concrete(_) => {}
+            Body::Abstract(_) => {}
+        }
+    }
+}
+
 /// A case of a flow. No pattern at all matches everything, and a pattern without a number matches any value;
 /// a number points into the program's predicates.
-#[derive(Debug, Drop)]
+#[derive(Debug)]
 pub struct Case {
     pub patterns: List<Option<u32>>,
     pub members: List<NodeNo>,
 }
 
+impl Drop for Case {
+    fn drop(self) {
+        let Case { patterns, members } = self;
+    }
+}
+
 /// A line that starts one flow at its target for each item of its source.
-#[derive(Debug, Drop)]
+#[derive(Debug)]
 pub struct SourceLine {
     pub node: NodeNo,
     pub target: NodeNo,
     /// The library's session function.
     pub session: Option<TextBytes>,
+}
+
+impl Drop for SourceLine {
+    fn drop(self) {
+        let SourceLine {
+            node,
+            target,
+            session,
+        } = self;
+    }
 }
 
 fn add_all(led: &mut List<NodeNo>, numbers: &[NodeNo]) -> Result<(), Memory>

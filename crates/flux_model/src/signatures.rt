@@ -6,22 +6,40 @@ ghost use Rattle.flux_model.specs.Types.{same_types};
 use flux_values::{Kind, List, TextBytes};
 
 /// A type as it is spelled, and the kind that the library has for it.
-#[derive(Debug, Drop)]
+#[derive(Debug)]
 pub struct TypeText {
     pub words: TextBytes,
     pub kind: Kind,
 }
 
-#[derive(Debug, Drop)]
+impl Drop for TypeText {
+    fn drop(self) {
+        let TypeText { words, kind } = self;
+    }
+}
+
+#[derive(Debug)]
 pub struct NodeSig {
     pub ins: List<TypeText>,
     pub outs: List<TypeText>,
 }
 
+impl Drop for NodeSig {
+    fn drop(self) {
+        let NodeSig { ins, outs } = self;
+    }
+}
+
 /// One signature for each node of a program.
-#[derive(Debug, Drop)]
+#[derive(Debug)]
 pub struct Sigs {
     pub nodes: List<NodeSig>,
+}
+
+impl Drop for Sigs {
+    fn drop(self) {
+        let Sigs { nodes } = self;
+    }
 }
 
 /// Whether types are spelled alike, in number and order.

@@ -11,9 +11,14 @@ use std::alloc::Global;
 use std::marker::Model;
 
 /// Numbers of nodes, each once.
-#[derive(Drop)]
 pub struct Visits {
     set: IndexSet<u32>,
+}
+
+impl Drop for Visits {
+    fn drop(self) {
+        let Visits { set } = self;
+    }
 }
 
 impl Model for Visits {

@@ -6,10 +6,16 @@ ghost use Rattle.flux_outside.specs.Calls.{no_calls, one_more, IsToFail};
 use flux_values::List;
 
 /// How many calls were made, and the numbers, from 1, of those that are to fail.
-#[derive(Debug, Drop)]
+#[derive(Debug)]
 pub struct Calls {
     fails: List<u64>,
     made: u64,
+}
+
+impl Drop for Calls {
+    fn drop(self) {
+        let Calls { fails, made } = self;
+    }
 }
 
 impl Calls {

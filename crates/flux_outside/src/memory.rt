@@ -11,14 +11,20 @@ use flux_values::{Bytes, List, Memory};
 use std::alloc::Global;
 
 /// One file: its name and its bytes.
-#[derive(Debug, Drop)]
+#[derive(Debug)]
 pub struct FileBytes {
     pub name: Bytes,
     pub body: Bytes,
 }
 
+impl Drop for FileBytes {
+    fn drop(self) {
+        let FileBytes { name, body } = self;
+    }
+}
+
 /// A sink in memory with a fixed room.
-#[derive(Debug, Drop)]
+#[derive(Debug)]
 pub struct MemorySink {
     written: Vec<u8>,
     room: usize,
@@ -28,6 +34,18 @@ pub struct MemorySink {
     ghost reserved: { room ≤ vec_capacity written },
     ghost within: { vec_len written ≤ room },
     ghost some: { 0 < piece },
+}
+
+impl Drop for MemorySink {
+    fn drop(self) {
+        let MemorySink {
+            written,
+            room,
+            piece,
+            calls,
+            faults,
+        } = self;
+    }
 }
 
 impl MemorySink {
@@ -96,12 +114,23 @@ impl Sink for MemorySink {
 }
 
 /// A store in memory. Of two files of one name the first counts.
-#[derive(Debug, Drop)]
+#[derive(Debug)]
 pub struct MemoryStore {
     files: List<FileBytes>,
     calls: Calls,
     asked: AskedNames,
     faults: u64,
+}
+
+impl Drop for MemoryStore {
+    fn drop(self) {
+        let MemoryStore {
+            files,
+            calls,
+            asked,
+            faults,
+        } = self;
+    }
 }
 
 impl MemoryStore {

@@ -11,7 +11,7 @@ use flux_values::{Bytes, List};
 use std::alloc::Global;
 
 /// One folder of documents in memory, which gives them in order, of one name too.
-#[derive(Debug, Drop)]
+#[derive(Debug)]
 pub struct MemoryFolder {
     dir: Bytes,
     docs: List<FileBytes>,
@@ -20,6 +20,19 @@ pub struct MemoryFolder {
     calls: Calls,
     asked: AskedNames,
     faults: u64,
+}
+
+impl Drop for MemoryFolder {
+    fn drop(self) {
+        let MemoryFolder {
+            dir,
+            docs,
+            next,
+            calls,
+            asked,
+            faults,
+        } = self;
+    }
 }
 
 impl MemoryFolder {

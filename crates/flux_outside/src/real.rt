@@ -28,10 +28,15 @@ impl Unbuffered for Stdout {}
 impl Unbuffered for Stderr {}
 
 /// A stream of std, as standard output.
-#[derive(Drop)]
 pub struct RealSink<W> {
     stream: W,
     faults: u64,
+}
+
+impl<W: Drop> Drop for RealSink<W> {
+    fn drop(self) {
+        let RealSink { stream, faults } = self;
+    }
 }
 
 impl<W> RealSink<W> {
@@ -67,9 +72,14 @@ impl<W: Unbuffered> Sink for RealSink<W> {
 }
 
 /// The files of the system.
-#[derive(Drop)]
 pub struct RealStore<R> {
     files: SystemFiles<R>,
+}
+
+impl<R: Drop> Drop for RealStore<R> {
+    fn drop(self) {
+        let RealStore { files } = self;
+    }
 }
 
 impl<R> RealStore<R> {

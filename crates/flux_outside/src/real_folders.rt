@@ -26,7 +26,6 @@ const PATH_LIMIT: usize = 4096;
 
 /// The folders of the system, each with its subfolders. Documents have names relative to the folder, with `/` between parts.
 /// What is neither a file nor a folder, as a link, is passed over.
-#[derive(Drop)]
 pub struct RealFolder<R: Files + AllocGlobal + Clone + Drop> {
     files: SystemFiles<R>,
     asked: AskedNames,
@@ -42,6 +41,22 @@ pub struct RealFolder<R: Files + AllocGlobal + Clone + Drop> {
     listing: Option<Listing<R>>,
     /// The entry that is looked at. It stays until its document was given, so that a refusal loses none.
     entry: Option<DirEntry<R, Global>>,
+}
+
+impl<R: Files + AllocGlobal + Clone + Drop> Drop for RealFolder<R> {
+    fn drop(self) {
+        let RealFolder {
+            files,
+            asked,
+            alloc,
+            root,
+            fresh,
+            pending,
+            found,
+            listing,
+            entry,
+        } = self;
+    }
 }
 
 /// A folder whose entries are being read.

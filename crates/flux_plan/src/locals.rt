@@ -20,10 +20,16 @@ use std::alloc::Global;
 use std::marker::Model;
 
 /// One flow's place in a plan, seen as a `Position`: either the flow has just its values, or it is in a state.
-#[derive(Debug, Drop)]
+#[derive(Debug)]
 pub struct Local {
     begun: bool,
     stack: Stack,
+}
+
+impl Drop for Local {
+    fn drop(self) {
+        let Local { begun, stack } = self;
+    }
 }
 
 impl Model for Local {

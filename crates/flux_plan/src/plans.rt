@@ -9,16 +9,28 @@ use std::marker::Model;
 use std::sync::Arc;
 
 /// What a flow does from a target on: one segment for each node of a program, by the nodes' numbers.
-#[derive(Debug, Drop)]
+#[derive(Debug)]
 pub struct Plan {
     pub target: NodeNo,
     pub segments: Segments,
 }
 
+impl Drop for Plan {
+    fn drop(self) {
+        let Plan { target, segments } = self;
+    }
+}
+
 /// The segments of all nodes, seen as a list. Plans of one program share them.
-#[derive(Debug, Drop)]
+#[derive(Debug)]
 pub struct Segments {
     shared: Arc<List<Segment>>,
+}
+
+impl Drop for Segments {
+    fn drop(self) {
+        let Segments { shared } = self;
+    }
 }
 
 impl Model for Segments {
@@ -63,14 +75,20 @@ impl Segments {
 }
 
 /// What a flow does in one node.
-#[derive(Debug, Drop)]
+#[derive(Debug)]
 pub struct Segment {
     pub code: List<Instr>,
     /// The place of `Exit` in the code.
     pub exit: u32,
 }
 
-#[derive(Debug, Drop)]
+impl Drop for Segment {
+    fn drop(self) {
+        let Segment { code, exit } = self;
+    }
+}
+
+#[derive(Debug)]
 pub enum Instr {
     Take(ClassNo, Mode),
     Enter,
@@ -89,9 +107,33 @@ pub enum Instr {
     Return,
 }
 
+impl Drop for Instr {
+    fn drop(self) {
+        match self {
+            Instr::Take(_, _) => {}
+            Instr::Enter => {}
+            Instr::Choose(_) => {}
+            Instr::Go(_) => {}
+            Instr::Leave => {}
+            Instr::Call => {}
+            Instr::Exit => {}
+            Instr::Drop(_) => {}
+            Instr::Handle(_) => {}
+            Instr::EndHandle => {}
+            Instr::Return => {}
+        }
+    }
+}
+
 /// A case: its patterns, and the place in the code where its members begin.
-#[derive(Debug, Drop)]
+#[derive(Debug)]
 pub struct Arm {
     pub patterns: List<Option<u32>>,
     pub to: u32,
+}
+
+impl Drop for Arm {
+    fn drop(self) {
+        let Arm { patterns, to } = self;
+    }
 }

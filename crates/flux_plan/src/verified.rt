@@ -7,9 +7,15 @@ use crate::plans::Plan;
 use std::marker::Model;
 
 /// A plan without a faulty place, seen as that plan.
-#[derive(Debug, Drop)]
+#[derive(Debug)]
 pub struct VerifiedPlan {
     plan: Plan,
+}
+
+impl Drop for VerifiedPlan {
+    fn drop(self) {
+        let VerifiedPlan { plan } = self;
+    }
 }
 
 impl Model for VerifiedPlan {

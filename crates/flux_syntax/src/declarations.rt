@@ -7,18 +7,30 @@ use flux_values::{Bytes, List, Memory, Mode, TextBytes};
 use std::alloc::Global;
 
 /// A name or a number as it is spelled, and the place of its first byte in the text, from 0.
-#[derive(Debug, Drop)]
+#[derive(Debug)]
 pub struct Word {
     pub text: TextBytes,
     pub at: u32,
 }
 
+impl Drop for Word {
+    fn drop(self) {
+        let Word { text, at } = self;
+    }
+}
+
 /// A parameter: its type is a word with so many stars.
-#[derive(Debug, Drop)]
+#[derive(Debug)]
 pub struct Param {
     pub ty: Word,
     pub stars: u32,
     pub name: Word,
+}
+
+impl Drop for Param {
+    fn drop(self) {
+        let Param { ty, stars, name } = self;
+    }
 }
 
 impl Param {
@@ -36,15 +48,25 @@ impl Param {
 }
 
 /// A name that a node holds as reader or writer, in the whole program or in its session.
-#[derive(Debug, Drop)]
+#[derive(Debug)]
 pub struct Constraint {
     pub name: Word,
     pub mode: Mode,
     pub session: bool,
 }
 
+impl Drop for Constraint {
+    fn drop(self) {
+        let Constraint {
+            name,
+            mode,
+            session,
+        } = self;
+    }
+}
+
 /// A declaration.
-#[derive(Debug, Drop)]
+#[derive(Debug)]
 pub enum Decl {
     /// `Name (int a) => (int b);`
     Signature {
@@ -84,4 +106,39 @@ pub enum Decl {
         source: Word,
         function: Word,
     },
+}
+
+impl Drop for Decl {
+    fn drop(self) {
+        match self {
+            Decl::Signature {
+                name: _,
+                ins: _,
+                outs: _,
+            } => {}
+            Decl::Flow {
+                name: _,
+                patterns: _,
+                members: _,
+            } => {}
+            Decl::Source { name: _, target: _ } => {}
+            Decl::Typedef {
+                name: _,
+                function: _,
+            } => {}
+            Decl::Handler {
+                node: _,
+                codes: _,
+                handler: _,
+            } => {}
+            Decl::Atomic {
+                node: _,
+                constraints: _,
+            } => {}
+            Decl::Session {
+                source: _,
+                function: _,
+            } => {}
+        }
+    }
 }

@@ -13,9 +13,14 @@ use std::alloc::Global;
 use std::marker::Model;
 
 /// Distinct names in the order in which they came, found by hash.
-#[derive(Drop)]
 pub struct Names<'a> {
     set: IndexSet<&'a [u8]>,
+}
+
+impl<'a> Drop for Names<'a> {
+    fn drop(self) {
+        let Names { set } = self;
+    }
 }
 
 impl<'a> Model for Names<'a> {

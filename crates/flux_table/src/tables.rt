@@ -21,10 +21,15 @@ pub enum Taken {
 }
 
 /// Who holds each key, and who waits for it.
-#[derive(Drop)]
 pub struct Table {
     locks: BTreeMap<Key, Lock>,
     alloc: Global,
+}
+
+impl Drop for Table {
+    fn drop(self) {
+        let Table { locks, alloc } = self;
+    }
 }
 
 impl Model for Table {

@@ -22,11 +22,17 @@ type Entries = Vec<(TextBytes, Value)>;
 /// A finite map from text to value.
 ///
 /// Copies share their entries until one of them is changed.
-#[derive(Debug, Drop)]
+#[derive(Debug)]
 pub struct Cell {
     alloc: Global,
     /// None where nothing was put yet.
     entries: Option<Arc<Entries, Global>>,
+}
+
+impl Drop for Cell {
+    fn drop(self) {
+        let Cell { alloc, entries } = self;
+    }
 }
 
 impl Model for Cell {

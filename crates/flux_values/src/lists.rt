@@ -1,7 +1,7 @@
 //! A list that contracts see as a list.
 
 ghost use Rattle.std.specs.Prelude.{◌≡◌, ◌<◌, ◌^◌, [], ◌∷◌, ◌++◌, length, slice_get, slice_set, OnOk, IfErr, OnErr, IfSome, IsNone, IfNone, IsTrue, ◌↔◌};
-ghost use Rattle.std.specs.Prelude.{◌-◌, option_copied};
+ghost use Rattle.std.specs.Prelude.{IfOk, ◌-◌, option_copied};
 ghost use Rattle.std.specs.Cmp.Lexicographic.{pointwise, lists_per, lists_equiv};
 ghost use Rattle.std.specs.Slice.Iter.{iter_rest, iter_steps};
 ghost use Rattle.std.specs.Iterator.Adapters.{IterYieldsInOrder};
@@ -13,9 +13,15 @@ use std::marker::Model;
 use std::slice::Iter;
 
 /// Items in order.
-#[derive(Debug, Drop)]
+#[derive(Debug)]
 pub struct List<T> {
     items: Vec<T>,
+}
+
+impl<T: Drop> Drop for List<T> {
+    fn drop(self) {
+        let List { items } = self;
+    }
 }
 
 impl<T> Model for List<T> {
@@ -34,6 +40,15 @@ impl<T> List<T> {
         List {
             items: Vec::new(alloc),
         }
+    }
+
+    /// The empty list, with room for this many items.
+    pub fn with_room(alloc: Global, items: usize) -> Result<List<T>, Memory>
+        ensures { IfOk result (λ list. list ≡ []) }
+    {
+        Ok(List {
+            items: Vec::with_capacity(alloc, items)?,
+        })
     }
 
     /// Adds an item at the end. For want of memory it hands the item back.

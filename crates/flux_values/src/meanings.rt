@@ -17,19 +17,36 @@ pub enum Role {
 }
 
 /// A cell that a node uses, and how.
-#[derive(Debug, PartialEq, Eq, Drop)]
+#[derive(Debug, PartialEq, Eq)]
 pub struct CellUse {
     pub name: TextBytes,
     pub mode: Mode,
 }
 
+impl Drop for CellUse {
+    fn drop(self) {
+        let CellUse { name, mode } = self;
+    }
+}
+
 /// What a library says of a node.
-#[derive(Debug, PartialEq, Eq, Drop)]
+#[derive(Debug, PartialEq, Eq)]
 pub struct Sig {
     pub ins: List<Kind>,
     pub outs: List<Kind>,
     pub cells: List<CellUse>,
     pub role: Role,
+}
+
+impl Drop for Sig {
+    fn drop(self) {
+        let Sig {
+            ins,
+            outs,
+            cells,
+            role,
+        } = self;
+    }
 }
 
 /// What a library means. It has no call: programs over a library say by its member what they

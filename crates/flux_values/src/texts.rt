@@ -20,9 +20,15 @@ pub const TEXT_LIMIT: usize = 65_536;
 pub const EMISSION_LIMIT: usize = 1_049_600;
 
 /// A text: at most 65,536 bytes, of any encoding.
-#[derive(Debug, Drop)]
+#[derive(Debug)]
 pub struct TextBytes {
     bytes: Vec<u8>,
+}
+
+impl Drop for TextBytes {
+    fn drop(self) {
+        let TextBytes { bytes } = self;
+    }
 }
 
 impl Model for TextBytes {
@@ -117,9 +123,15 @@ impl PartialOrd for TextBytes {
 }
 
 /// Bytes of any length.
-#[derive(Debug, Drop)]
+#[derive(Debug)]
 pub struct Bytes {
     bytes: Vec<u8>,
+}
+
+impl Drop for Bytes {
+    fn drop(self) {
+        let Bytes { bytes } = self;
+    }
 }
 
 impl Model for Bytes {

@@ -1,7 +1,7 @@
 //! The values that flows carry.
 
 ghost use Rattle.std.specs.Prelude.{◌≡◌, IfOk};
-ghost use Rattle.flux_values.specs.Values.{kind_of};
+ghost use Rattle.flux_values.specs.Values.{kind_of, text_of};
 
 use crate::failures::Memory;
 use crate::texts::TextBytes;
@@ -15,11 +15,21 @@ pub enum Kind {
     Text,
 }
 
-#[derive(Debug, PartialEq, Eq, Drop)]
+#[derive(Debug, PartialEq, Eq)]
 pub enum Value {
     Int(i64),
     Bool(bool),
     Text(TextBytes),
+}
+
+impl Drop for Value {
+    fn drop(self) {
+        match self {
+            Value::Int(_) => {}
+            Value::Bool(_) => {}
+            Value::Text(_) => {}
+        }
+    }
 }
 
 impl Value {
@@ -30,6 +40,16 @@ impl Value {
             Value::Int(_) => Kind::Int,
             Value::Bool(_) => Kind::Bool,
             Value::Text(_) => Kind::Text,
+        }
+    }
+
+    /// The text that this is, or None where it is of another kind.
+    pub fn into_text(self) -> Option<TextBytes>
+        ensures { result ≡ text_of self }
+    {
+        match self {
+            Value::Int(_) | Value::Bool(_) => None,
+            Value::Text(text) => Some(text),
         }
     }
 

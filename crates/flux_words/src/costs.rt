@@ -23,9 +23,15 @@ pub struct Processors {
 }
 
 /// What the calls of the first nodes cost, from 1 to 1,000 each.
-#[derive(Debug, Drop)]
+#[derive(Debug)]
 pub struct Costs {
     pub list: List<u32>,
     pub ghost within: { (place : ℕ) → place < length list
         → (1 ≤ slice_index list place) × (slice_index list place ≤ 1000) },
+}
+
+impl Drop for Costs {
+    fn drop(self) {
+        let Costs { list } = self;
+    }
 }

@@ -10,9 +10,15 @@ use nodes_counter::Counter;
 use std::alloc::Global;
 
 /// The nodes of `Counter`, `Web`, `Caching` and `Tracker`, those of `Web` and `Caching` over the same documents.
-#[derive(Debug, Drop)]
+#[derive(Debug)]
 pub struct All {
     pub docs: Docs,
+}
+
+impl Drop for All {
+    fn drop(self) {
+        let All { docs } = self;
+    }
 }
 
 impl Meaning for All {

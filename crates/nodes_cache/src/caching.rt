@@ -10,9 +10,15 @@ use flux_values::{Answer, Bytes, CallResult, Cell, Kind, List, Meaning, Memory, 
 use std::alloc::Global;
 
 /// The nodes of an image server, which keep documents in the cell `cache`, behind the source `Listen`.
-#[derive(Debug, Drop)]
+#[derive(Debug)]
 pub struct Caching {
     pub docs: Docs,
+}
+
+impl Drop for Caching {
+    fn drop(self) {
+        let Caching { docs } = self;
+    }
 }
 
 impl Meaning for Caching {

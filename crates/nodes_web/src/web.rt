@@ -11,9 +11,15 @@ use std::alloc::Global;
 
 /// The web nodes `ReadRequest`, `LookUp`, `SendDoc`, `SendHead`, `NotFound`, `NotAllowed` and
 /// `BadRequest`, behind the source `Accept`, over documents.
-#[derive(Debug, Drop)]
+#[derive(Debug)]
 pub struct Web {
     pub docs: Docs,
+}
+
+impl Drop for Web {
+    fn drop(self) {
+        let Web { docs } = self;
+    }
 }
 
 impl Meaning for Web {

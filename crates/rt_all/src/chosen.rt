@@ -18,12 +18,23 @@ use std::sync::Wait;
 use std::thread::Threads;
 
 /// One of the program's runtimes.
-#[derive(Debug, Drop)]
+#[derive(Debug)]
 pub enum Chosen {
     Event(EventLoop),
     Script(Script),
     PerFlow(PerFlow),
     Pool(Pool),
+}
+
+impl Drop for Chosen {
+    fn drop(self) {
+        match self {
+            Chosen::Event(_) => {}
+            Chosen::Script(_) => {}
+            Chosen::PerFlow(_) => {}
+            Chosen::Pool(_) => {}
+        }
+    }
 }
 
 impl Chosen {

@@ -15,9 +15,15 @@ use std::sync::Wait;
 use std::thread::Threads;
 
 /// Drives a core by a list of flows' numbers.
-#[derive(Debug, Drop)]
+#[derive(Debug)]
 pub struct Script {
     pub numbers: List<FlowNo>,
+}
+
+impl Drop for Script {
+    fn drop(self) {
+        let Script { numbers } = self;
+    }
 }
 
 impl Script {

@@ -16,10 +16,15 @@ use flux_values::Memory;
 use std::marker::Model;
 
 /// Candidates, and beside them flows whose calls are begun. After want of memory they are of no more use.
-#[derive(Drop)]
 pub struct Idlers {
     candidates: Candidates,
     aside: Numbers,
+}
+
+impl Drop for Idlers {
+    fn drop(self) {
+        let Idlers { candidates, aside } = self;
+    }
 }
 
 impl Model for Idlers {
