@@ -1,17 +1,19 @@
 //! Words, texts and numbers as the lines of a case file spell them.
 
 use flux_spelling::read_value;
-use flux_values::{Bytes, List, Value, ValueFault};
+use flux_values::{Bytes, List, ValueFault};
 use std::alloc::Global;
 use trial_ends::Trouble;
 
 /// The text that is all of a spelling between quotes.
 pub fn text_of(alloc: Global, spelling: &str) -> Result<Bytes, Trouble> {
-    match read_value(alloc, spelling.as_bytes()) {
-        Ok((Value::Text(text), length)) if length == spelling.len() => {
-            Ok(Bytes::copy(alloc, text.as_bytes())?)
-        }
-        Err(ValueFault::Memory) => Err(Trouble::Memory),
+    let (value, length) = match read_value(alloc, spelling.as_bytes()) {
+        Ok(read) => read,
+        Err(ValueFault::Memory) => return Err(Trouble::Memory),
+        Err(_) => return Err(Trouble::Words),
+    };
+    match value.into_text() {
+        Some(text) if length == spelling.len() => Ok(Bytes::copy(alloc, text.as_bytes())?),
         _ => Err(Trouble::Words),
     }
 }

@@ -11,16 +11,10 @@ use flux_values::{Bytes, List, Memory};
 use std::alloc::Global;
 
 /// One file: its name and its bytes.
-#[derive(Debug)]
+#[derive(Debug, Drop)]
 pub struct FileBytes {
     pub name: Bytes,
     pub body: Bytes,
-}
-
-impl Drop for FileBytes {
-    fn drop(self) {
-        let FileBytes { name, body } = self;
-    }
 }
 
 /// A sink in memory with a fixed room.

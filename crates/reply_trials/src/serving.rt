@@ -3,7 +3,7 @@
 ghost use Rattle.std.specs.Prelude.{◌≡◌, IfOk};
 ghost use Rattle.flux_doors.specs.Memory.{door_out};
 
-use flow_core::{Gate, Setup};
+use flow_core::Gate;
 use flux_doors::{Door, MemoryDoor, MemoryLink};
 use flux_outside::MemorySink;
 use flux_serve::{ServeEnd, Served, serve_at_once};
@@ -47,19 +47,14 @@ pub fn serve_text<D: Door, G: Gate + Sync, R: Threads + Wait + Sync>(
 ) -> Result<ServeEnd, Trouble>
     requires { D.out door.old ≡ 0 }
 {
-    let Setup {
-        program,
-        plans,
-        library,
-        ..
-    } = set_up(alloc, text, &[], Counter)?;
-    let Some(framing) = framing_of(alloc, &*library, &program)? else {
+    let setup = set_up(alloc, text, &[], Counter)?;
+    let Some(framing) = framing_of(alloc, &*setup.library, &setup.program)? else {
         return Err(Trouble::Wrong);
     };
     let served = Served {
-        program,
-        plans,
-        library,
+        program: setup.program.clone()?,
+        plans: setup.plans.clone()?,
+        library: setup.library.clone()?,
         framing,
     };
     let mut log = MemorySink::new(alloc, 1_048_576, 65_536, List::new(alloc))?;
