@@ -8,6 +8,7 @@ use Rattle.flux_values.specs.declared.answers.CallResult.{CallResult}
 use Rattle.flux_values.specs.declared.answers.CallResult.TheVariants as results
 use Rattle.flux_values.specs.declared.answers.Put.{Put}
 use Rattle.flux_values.specs.declared.texts.TheConstants.{EMISSION_LIMIT}
+use Rattle.flux_values.specs.Values.{text_of}
 use Rattle.flux_values.specs.Spellings.{SpellsText, BeginsText, IsTextRead}
 use Rattle.flux_spelling.proofs.Literals.{one_text}
 use Rattle.flux_model.specs.declared.programs.Program.{Program}
@@ -32,11 +33,16 @@ not_behind word text Then none x tail b = none b.rest b.laid
 
 -- ---- values
 
-not_text : (v : Value) (t : List ℕ) → ((x : ℤ) × (v ≡ values.Int x)) ⊎ ((x : Bool) × (v ≡ values.Bool x)) → v ≡ values.Text t → ⊥
-not_text v t (inl is) e = let f : values.Int is.0 ≡ values.Text t = sym is.1 ∙ e in absurd cc
-not_text v t (inr is) e = let f : values.Bool is.0 ≡ values.Text t = sym is.1 ∙ e in absurd cc
+not_text : (v : Value) (t : List ℕ) → None ≡ text_of v → v ≡ values.Text t → ⊥
+not_text v t none e = let f : None ≡ Some t = none ∙ ap text_of e in absurd cc
 
-pub other_no_name : (text : List ℕ) (v : Value) (rest : List ℕ) → ((x : ℤ) × (v ≡ values.Int x)) ⊎ ((x : Bool) × (v ≡ values.Bool x)) → BeginsValue text v rest → BeginsNone BeginsName text
+-- a value whose text this is
+pub the_text : (v : Value) (t : List ℕ) → Some t ≡ text_of v → v ≡ values.Text t
+the_text (values.Int x) t is = absurd cc
+the_text (values.Bool x) t is = absurd cc
+the_text (values.Text u) t is = cc
+
+pub other_no_name : (text : List ℕ) (v : Value) (rest : List ℕ) → None ≡ text_of v → BeginsValue text v rest → BeginsNone BeginsName text
 other_no_name text v rest other begins name tail named = let one = value_once text v (values.Text name) rest tail begins named in not_text v name other one.given
 
 pub more_pushed : (old now new : List Value) (text rest front behind : List ℕ) (v : Value) → AreAdded old now text rest → rest ≡ codes ", " ++ front → BeginsValue front v behind → new ≡ now ++ v ∷ [] → AreAdded old new text behind

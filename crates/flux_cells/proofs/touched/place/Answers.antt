@@ -12,19 +12,8 @@ loop-key-preserved-in-Some-get_mut c =
     c.in-Some.key c.in-Some.copy c.loop-key.invariant c.in-Some.ensures.items
     (changed_is c.loop-key.cells.entries _ c.in-Some.key (Some c.in-Some.copy) ((c.get_mut.follows.holds c.in-Some.copy).3 (subst IsSome c.in-Some-get_mut.ensures.value refl)).0)
 
-pub loop-key-preserved-in-Some-get_mut-2 : goal.loop-key-preserved-in-Some-get_mut-2
-loop-key-preserved-in-Some-get_mut-2 c =
-    placed_more c.args.cells.now.entries c.loop-key.cells.entries (c.get_mut.follows.lender c.in-Some.copy).entries c.args.touched.items c.loop-key.touched.items c.pop.new.self.items
-    c.in-Some.key c.in-Some.copy c.loop-key.invariant c.in-Some.ensures.items
-    (changed_is c.loop-key.cells.entries _ c.in-Some.key (Some c.in-Some.copy) ((c.get_mut.follows.holds c.in-Some.copy).3 (subst IsSome c.in-Some-get_mut.ensures.value refl)).0)
-
 pub loop-key-preserved : goal.loop-key-preserved
 loop-key-preserved c =
-    let there = placed_there c.args.cells.now.entries c.loop-key.cells.entries c.args.touched.items c.loop-key.touched.items c.pop.new.self.items c.in-Some.key c.in-Some.copy c.loop-key.invariant c.in-Some.ensures.items in
-    none_is_not _ there (sym (c.in_default-get_mut.ensures.value ∙ found_is c.loop-key.cells.entries c.in-Some.key))
-
-pub loop-key-preserved-in_default-get_mut : goal.loop-key-preserved-in_default-get_mut
-loop-key-preserved-in_default-get_mut c =
     let there = placed_there c.args.cells.now.entries c.loop-key.cells.entries c.args.touched.items c.loop-key.touched.items c.pop.new.self.items c.in-Some.key c.in-Some.copy c.loop-key.invariant c.in-Some.ensures.items in
     none_is_not _ there (sym (c.in_default-get_mut.ensures.value ∙ found_is c.loop-key.cells.entries c.in-Some.key))
 

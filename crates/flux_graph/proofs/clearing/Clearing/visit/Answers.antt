@@ -13,7 +13,7 @@ returns c = λ was.
     let now : IsClearing nodes c.if-has_all.self =
     elim c.if-has_all.branch [
       | then-has_all+in_ok-add w ↦
-          let led : c.as_slice-2.result.now ≡ leads_in nodes node = c.as_slice-2.ensures ∙ c.in_ok-leads_in.ensures in
+          let led : c.as_slice.result.now ≡ leads_in nodes node = c.as_slice.ensures ∙ c.in_ok-leads_in.ensures in
           let all : list_all (λ n. list_any (eqb n.0) v) (leads_in nodes node) ≡ true = subst (λ ns. list_all (λ n. list_any (eqb n.0) v) ns ≡ true) led (sym c.has_all.ensures ∙ w.if-has_all.true) in
           rw (w.self-is, w.in_ok-add.ensures) (record {
             closed = was.closed;
