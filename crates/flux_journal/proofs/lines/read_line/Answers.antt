@@ -5,4 +5,4 @@ use Rattle.flux_journal.proofs.lines.read_line.Goals as goal
 
 pub returns-clause-entry : goal.returns-clause-entry
 returns-clause-entry c entry is =
-    c.read_line-2.ensures.entry entry (subst (λ (p : Program). IsEntryLine p c.args.line.now entry) (sym c.in_ok-new.ensures) is)
+    c.read_line.ensures.entry entry (subst (λ (p : Program). IsEntryLine p c.args.line.now entry) (sym c.in_ok-new.ensures) is)
