@@ -5,20 +5,6 @@ use Rattle.flux_batches.proofs.gathering.give_back_held.Goals as goal
 pub links-init : goal.links-init
 links-init g c = (given_none (g.D.Door.taken_back c.args.door.now) (map (λ held. held.link) c.args.links.items), c.requires, refl, refl, refl, refl)
 
-pub links-preserved-in-Some : goal.links-preserved-in-Some
-links-preserved-in-Some g c =
-    let back = g.D.Door.taken_back in
-    let before = c.links.invariant in
-    let P : List g.row.D-Link.Denot → Type 0 = Given (back c.args.door.now) (back c.links.door) (map (λ held. held.link) c.args.links.items) in (
-      given_more (back c.args.door.now) (back c.links.door) (back c.done.new.self) (map (λ held. held.link) c.args.links.items) (map (λ held. held.link) c.pop_front.new.self.items) c.in-Some.held.link
-          (subst P (ap (map (λ held. held.link)) c.in-Some.ensures.items) before.0) c.done.ensures.back,
-      omega (arith, c.done.ensures.out, before.1, c.in-Some.ensures.cases),
-      c.done.ensures.kept ∙ before.2,
-      c.done.ensures.counts.0 ∙ before.3,
-      c.done.ensures.counts.1 ∙ before.4,
-      c.done.ensures.stays ∙ before.5,
-    )
-
 pub links-preserved : goal.links-preserved
 links-preserved g c =
     let back = g.D.Door.taken_back in
