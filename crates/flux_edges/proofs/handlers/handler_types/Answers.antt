@@ -7,7 +7,7 @@ use Rattle.flux_edges.specs.Handlers.{unlike_handlers}
 use Rattle.flux_edges.proofs.Along.{arms_least}
 use Rattle.flux_edges.proofs.handlers.handler_types.Goals as goal
 
-place_is : (c : goal.After-drop-arms-inside) → c.arms_along-place.result ≡ least_of None (unlike_handlers (sig_at c.args.sigs.now.nodes) c.args.named.now)
+place_is : (c : goal.After-drop-arms) → c.arms_along-place.result ≡ least_of None (unlike_handlers (sig_at c.args.sigs.now.nodes) c.args.named.now)
 place_is c =
     c.arms_along-place.ensures ∙ (rw (c.as_slice-2.ensures, c.as_slice-3.ensures, c.as_slice-sites.ensures, c.in_ok-arms.ensures, c.as_slice.ensures) refl)
     ∙ arms_least (sig_at c.args.sigs.now.nodes) None _ _

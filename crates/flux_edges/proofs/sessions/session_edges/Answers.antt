@@ -10,7 +10,7 @@ use Rattle.flux_edges.specs.steps.Marking.{mark_at, lines_along}
 use Rattle.flux_edges.proofs.Along.{lines_least, all_served}
 use Rattle.flux_edges.proofs.sessions.session_edges.Goals as goal
 
-place_is : (c : goal.After-drop-marks-inside) → c.lines_along-place.result ≡ least_of None (unserved_sources c.args.named.now)
+place_is : (c : goal.After-drop-marks) → c.lines_along-place.result ≡ least_of None (unserved_sources c.args.named.now)
 place_is c =
     let p = c.args.named.now.program in let sites = c.args.named.now.sites in
     c.lines_along-place.ensures ∙ (rw (c.as_slice.ensures, c.as_slice-lines.ensures, c.as_slice-2.ensures) refl)
