@@ -1,5 +1,6 @@
 -- A core that goes round.
-use Rattle.std.proofs.Common.{◌≡◌, ◌≢◌, ◌≤◌, ◌+◌, inl, inr, ℕ, Bool, true, false, List, [], ◌∷◌, ◌++◌, length, Option, Some, None, refl, sym, subst}
+use Rattle.std.specs.Bool.{then_some}
+use Rattle.std.proofs.Common.{◌≡◌, ◌≢◌, ◌≤◌, ◌+◌, inl, inr, ℕ, Bool, true, false, not, List, [], ◌∷◌, ◌++◌, length, Option, Some, None, refl, sym, subst}
 use Rattle.flux_values.specs.Meanings.{LibraryMeaning}
 use Rattle.flux_model.specs.declared.items.FlowNo.{FlowNo}
 use Rattle.flow_model.specs.declared.journals.Entry.{Entry}
@@ -39,6 +40,10 @@ rounding-none setup entries legal = record {
 abbrev pub turn_after : Bool → FlowNo → Option FlowNo
 turn_after true owner = None
 turn_after false owner = Some owner
+
+pub turn-some : (b : Bool) (owner : FlowNo) → then_some (not b) owner ≡ turn_after b owner
+turn-some true owner = refl
+turn-some false owner = refl
 
 -- the owner is live, and doesn't stand in a line
 pub owner-live : (setup : Setup) (entries : List Entry) (pools : Pools) (from : ℕ) (on_turn : Option FlowNo)

@@ -100,7 +100,7 @@ fn round<L: Library, G: Gate>(core: &mut Core<L>, gate: &G) -> Result<(), Memory
         let ends = own_turn(core, gate, owner)?;
         from = owner.0 + 1;
         candidates.told(core, from)?;
-        on_turn = if ends { None } else { Some(owner) };
+        on_turn = (!ends).then_some(owner);
     }
     Ok(())
 }

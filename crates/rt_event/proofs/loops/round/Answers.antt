@@ -1,11 +1,10 @@
-use Rattle.std.proofs.Common.{◌≡◌, ◌∙◌, ◌+◌, ℕ, sym, ap, subst, arith}
+use Rattle.std.proofs.Common.{◌∙◌, ◌+◌, ℕ, sym, subst, arith}
 use Rattle.flow_model.specs.Events.{IsLive}
 use Rattle.flow_core.specs.States.{setup_in}
 use Rattle.flow_core.proofs.Sequels.{same-setup, same-then, same-itself}
 use Rattle.rt_event.specs.steps.Owners.{Stays}
-use Rattle.rt_event.proofs.Rounds.{IsRounding, rounding-none, rounding-few, rounded, turn_after, core-rounds, core-lags, core-stays, core-legal, core-longer}
+use Rattle.rt_event.proofs.Rounds.{IsRounding, rounding-none, rounding-few, rounded, turn_after, turn-some, core-rounds, core-lags, core-stays, core-legal, core-longer}
 use Rattle.rt_event.proofs.loops.round.Goals as goal
-use Rattle.rt_event.proofs.loops.round.Goals.{then-ends, else-ends}
 
 pub loop-candidates-init : goal.loop-candidates-init
 loop-candidates-init g c = (
@@ -45,10 +44,7 @@ loop-candidates-smaller g c =
 
 pub loop-candidates-preserved : goal.loop-candidates-preserved
 loop-candidates-preserved g c =
-    let turn : c.if-ends.on_turn ≡ turn_after c.in_ok-ends.ends c.in-Some.owner = elim c.if-ends.branch [
-      | then-ends w ↦ w.on_turn-is ∙ ap (λ b. turn_after b c.in-Some.owner) (sym w.if-ends.true)
-      | else-ends w ↦ w.on_turn-is ∙ ap (λ b. turn_after b c.in-Some.owner) (sym w.if-ends.false)
-    ] in (
+    let turn = c.then_some-on_turn.ensures ∙ turn-some c.in_ok-ends.ends c.in-Some.owner in (
       same-then c.args.core.now c.loop-candidates.core c.own_turn.new.core c.loop-candidates.invariant.0
           c.own_turn.ensures.others.setting,
       subst (IsRounding (setup_in g.L.Meaning.meaning c.args.core.now) c.args.core.now.entries
