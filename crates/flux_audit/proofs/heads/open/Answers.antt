@@ -9,8 +9,8 @@ returns-in_err-head c =
     (sym c.new-lines.ensures ∙ c.in_ok-next_line.ensures.found) (omega (arith, c.ranges.flows))
     (omega (arith, c.next_line.ensures.few, ap length c.in_ok-next_line.ensures.found)) c.in_err-head.ensures.none)
 
-pub returns-else-eq : goal.returns-else-eq
-returns-else-eq c =
+pub returns : goal.returns
+returns c =
     told_other c.args.text.now c.in_ok-next_line.field-0.now c.next_line.new.self c.args.flows (sym c.if-not-is_headed.ensures)
     (sym c.new-lines.ensures ∙ c.in_ok-next_line.ensures.found) (omega (arith, c.ranges.flows))
     (omega (arith, c.next_line.ensures.few, ap length c.in_ok-next_line.ensures.found))
