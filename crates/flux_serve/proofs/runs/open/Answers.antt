@@ -11,7 +11,7 @@ new-requires g c =
     let meaning = g.L.Meaning.meaning (arc_value served.library) in
     let p = arc_value served.program in
     let outs = source_outs meaning p can.kinds served.framing (library.lawful (arc_value served.library)) can.sound source in
-    rw (c.in_ok-try_clone.ensures, c.in_ok-try_clone-2.ensures, c.in_ok-try_clone-3.ensures, c.items.view_is) (record {
+    rw (c.in_ok-try_clone.ensures, c.in_ok-try_clone-2.ensures, c.in_ok-try_clone-3.ensures) (record {
       kinds = can.kinds;
       sound = can.sound;
       fit = link_items_fit p can.kinds source.line source.one outs c.args.items c.requires.items;
