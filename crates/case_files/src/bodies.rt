@@ -78,6 +78,19 @@ pub fn is_piece(line: &str) -> bool {
     }
 }
 
+/// The line that a piece stands for, if it stands for one: what is behind `| `, or an empty one.
+fn line_of(piece: &str) -> Option<&str> {
+    match piece.strip_prefix('|')? {
+        "" => Some(""),
+        rest => rest.strip_prefix(' '),
+    }
+}
+
+fn append_line(out: &mut Bytes, line: &str) -> Result<(), Memory> {
+    out.append(line.as_bytes())?;
+    out.append(b"\n")
+}
+
 /// Adds what a piece stands for. The lines are those before it, with the texts that it may name.
 pub fn append_piece(
     alloc: Global,
@@ -85,11 +98,8 @@ pub fn append_piece(
     piece: &str,
     lines: &[Line],
 ) -> Result<(), Trouble> {
-    if piece == "|" {
-        Ok(out.append(b"\n")?)
-    } else if let Some(line) = piece.strip_prefix("| ") {
-        out.append(line.as_bytes())?;
-        Ok(out.append(b"\n")?)
+    if let Some(line) = line_of(piece) {
+        Ok(append_line(out, line)?)
     } else if let Some(rest) = piece.strip_prefix("for ") {
         append_range(alloc, out, rest)
     } else if let Some((count, text)) = piece.split_once(" times ") {

@@ -12,6 +12,13 @@ pub struct Shape {
     pub piece: Option<usize>,
 }
 
+/// Keeps what is said, where nothing was said before.
+fn keep<T: Copy>(place: &mut Option<T>, said: T) {
+    if place.is_none() {
+        *place = Some(said);
+    }
+}
+
 /// The lines of a case, its own before those that it shares, and what they say. Of two that say the same the first counts.
 #[derive(Clone, Copy)]
 pub struct Case<'a> {
@@ -53,26 +60,31 @@ impl<'a> Case<'a> {
             out: shape,
             err: shape,
         };
-        for line in own.iter().chain(shared) {
-            case.take(&line.entry);
-        }
+        case.take_all(own);
+        case.take_all(shared);
         case
+    }
+
+    fn take_all(&mut self, lines: &'a [Line]) {
+        for line in lines {
+            self.take(&line.entry);
+        }
     }
 
     /// Takes what an entry says, where nothing said the same before.
     fn take(&mut self, entry: &'a Entry) {
         match entry {
-            Entry::Words(words) => self.words = self.words.or(Some(words.as_slice())),
-            Entry::Status(status) => self.status = self.status.or(Some(*status)),
-            Entry::Asked(names) => self.asked = self.asked.or(Some(names.as_slice())),
-            Entry::Opened(names) => self.opened = self.opened.or(Some(names.as_slice())),
-            Entry::Folder(dir) => self.folder = self.folder.or(Some(dir.as_bytes())),
-            Entry::Calls(calls) => self.calls = self.calls.or(Some(*calls)),
-            Entry::Hold(looks) => self.hold = self.hold.or(Some(*looks)),
-            Entry::Room(Stream::Out, bytes) => self.out.room = self.out.room.or(Some(*bytes)),
-            Entry::Room(Stream::Err, bytes) => self.err.room = self.err.room.or(Some(*bytes)),
-            Entry::Piece(Stream::Out, bytes) => self.out.piece = self.out.piece.or(Some(*bytes)),
-            Entry::Piece(Stream::Err, bytes) => self.err.piece = self.err.piece.or(Some(*bytes)),
+            Entry::Words(words) => keep(&mut self.words, words.as_slice()),
+            Entry::Status(status) => keep(&mut self.status, *status),
+            Entry::Asked(names) => keep(&mut self.asked, names.as_slice()),
+            Entry::Opened(names) => keep(&mut self.opened, names.as_slice()),
+            Entry::Folder(dir) => keep(&mut self.folder, dir.as_bytes()),
+            Entry::Calls(calls) => keep(&mut self.calls, *calls),
+            Entry::Hold(looks) => keep(&mut self.hold, *looks),
+            Entry::Room(Stream::Out, bytes) => keep(&mut self.out.room, *bytes),
+            Entry::Room(Stream::Err, bytes) => keep(&mut self.err.room, *bytes),
+            Entry::Piece(Stream::Out, bytes) => keep(&mut self.out.piece, *bytes),
+            Entry::Piece(Stream::Err, bytes) => keep(&mut self.err.piece, *bytes),
             _ => {}
         }
     }
@@ -153,8 +165,8 @@ fn shape_in(lines: &[Line], before: Shape) -> Shape {
     let mut shape = before;
     for line in lines {
         match &line.entry {
-            Entry::Room(Stream::Link, bytes) => shape.room = shape.room.or(Some(*bytes)),
-            Entry::Piece(Stream::Link, bytes) => shape.piece = shape.piece.or(Some(*bytes)),
+            Entry::Room(Stream::Link, bytes) => keep(&mut shape.room, *bytes),
+            Entry::Piece(Stream::Link, bytes) => keep(&mut shape.piece, *bytes),
             _ => {}
         }
     }

@@ -9,6 +9,7 @@ mod bodies;
 mod cases;
 mod differences;
 mod entries;
+mod keys;
 mod lines;
 mod reports;
 mod settings;

@@ -2,6 +2,7 @@
 
 use crate::bodies::{begun, named, read_document, read_documents};
 use crate::entries::{Entry, Gain, Line, Measure, Part, Stream};
+use crate::keys::{Key, key_of};
 use crate::spellings::{calls_of, number_of, word_of, words_of};
 use flux_values::Bytes;
 use std::alloc::Global;
@@ -9,32 +10,30 @@ use trial_ends::Trouble;
 
 /// What a line says that isn't a piece. The lines are those before it.
 pub fn read_entry(alloc: Global, line: &str, lines: &[Line]) -> Result<Entry, Trouble> {
-    let (key, rest) = line.split_once(' ').unwrap_or((line, ""));
+    let (word, rest) = line.split_once(' ').unwrap_or((line, ""));
     let rest = rest.trim_start();
-    match key {
-        "shared" if rest.is_empty() => Ok(Entry::Shared),
-        "case" if !rest.is_empty() => Ok(Entry::Case(String::from_str(alloc, rest)?)),
-        "text" => Ok(Entry::Text(named(alloc, rest, lines)?)),
-        "words" => Ok(Entry::Words(words_of(alloc, rest)?)),
-        "file" => Ok(Entry::File(named(alloc, rest, lines)?)),
-        "folder" => Ok(Entry::Folder(word_of(alloc, rest)?)),
-        "document" => Ok(Entry::Documents(read_document(alloc, rest, lines)?)),
-        "documents" => Ok(Entry::Documents(read_documents(alloc, rest, lines)?)),
-        "fail" => fail(alloc, rest),
-        "room" => room(rest),
-        "piece" => piece(rest),
-        "out" => gain(alloc, Stream::Out, rest, lines),
-        "err" => gain(alloc, Stream::Err, rest, lines),
-        "batch" if rest.is_empty() => Ok(Entry::Batch),
-        "link" => Ok(Entry::Links(1, begun(alloc, rest, lines)?)),
-        "links" => links(alloc, rest, lines),
-        "gets" => gain(alloc, Stream::Link, rest, lines),
-        "status" => Ok(Entry::Status(number_of(rest)?)),
-        "calls" => Ok(Entry::Calls(number_of(rest)?)),
-        "hold" => Ok(Entry::Hold(number_of(rest)?)),
-        "asked" => Ok(Entry::Asked(words_of(alloc, rest)?)),
-        "opened" => Ok(Entry::Opened(words_of(alloc, rest)?)),
-        _ => Err(Trouble::Words),
+    match key_of(word)? {
+        Key::Shared if rest.is_empty() => Ok(Entry::Shared),
+        Key::Case if !rest.is_empty() => Ok(Entry::Case(String::from_str(alloc, rest)?)),
+        Key::Batch if rest.is_empty() => Ok(Entry::Batch),
+        Key::Shared | Key::Case | Key::Batch => Err(Trouble::Words),
+        Key::Text => Ok(Entry::Text(named(alloc, rest, lines)?)),
+        Key::Words => Ok(Entry::Words(words_of(alloc, rest)?)),
+        Key::File => Ok(Entry::File(named(alloc, rest, lines)?)),
+        Key::Folder => Ok(Entry::Folder(word_of(alloc, rest)?)),
+        Key::Document => Ok(Entry::Documents(read_document(alloc, rest, lines)?)),
+        Key::Documents => Ok(Entry::Documents(read_documents(alloc, rest, lines)?)),
+        Key::Fail => fail(alloc, rest),
+        Key::Room => room(rest),
+        Key::Piece => piece(rest),
+        Key::Gains(stream) => gain(alloc, stream, rest, lines),
+        Key::Link => Ok(Entry::Links(1, begun(alloc, rest, lines)?)),
+        Key::Links => links(alloc, rest, lines),
+        Key::Status => Ok(Entry::Status(number_of(rest)?)),
+        Key::Calls => Ok(Entry::Calls(number_of(rest)?)),
+        Key::Hold => Ok(Entry::Hold(number_of(rest)?)),
+        Key::Asked => Ok(Entry::Asked(words_of(alloc, rest)?)),
+        Key::Opened => Ok(Entry::Opened(words_of(alloc, rest)?)),
     }
 }
 

@@ -29,6 +29,23 @@ pub enum Crowd {
     Counter,
 }
 
+impl Crowd {
+    pub fn name(self) -> &'static str {
+        match self {
+            Crowd::Echo => "echo",
+            Crowd::Counter => "counter",
+        }
+    }
+
+    /// The program that serves it.
+    fn program(self) -> &'static [u8] {
+        match self {
+            Crowd::Echo => ECHO,
+            Crowd::Counter => COUNTER,
+        }
+    }
+}
+
 /// Which read and which write of a link fail; 0 for none.
 fn fails_of(number: u64) -> (u64, u64) {
     if number % 8 == 7 {
@@ -85,6 +102,33 @@ fn are_counted(alloc: Global, back: &[MemoryLink]) -> Result<bool, Trouble> {
     Ok(true)
 }
 
+/// Whether the links that were taken back got what they had to get.
+fn are_told(alloc: Global, crowd: Crowd, back: &[MemoryLink], cut: bool) -> Result<bool, Trouble> {
+    match crowd {
+        Crowd::Echo => are_echoed(alloc, back, cut),
+        Crowd::Counter if cut => Ok(true),
+        Crowd::Counter => are_counted(alloc, back),
+    }
+}
+
+/// What is said of a crowd that was served.
+fn judge(
+    alloc: Global,
+    crowd: Crowd,
+    back: &[MemoryLink],
+    end: ServeEnd,
+    batches: u32,
+) -> Result<&'static str, Trouble> {
+    if !are_told(alloc, crowd, back, end == ServeEnd::Memory)? {
+        return Ok("another reply");
+    }
+    match (end, back.len(), batches) {
+        (ServeEnd::Memory, _, _) => Err(Trouble::Memory),
+        (ServeEnd::Counted, 64, 1) | (ServeEnd::Closed, 65, 3) => Ok("right"),
+        _ => Ok("another end"),
+    }
+}
+
 /// Serves a crowd, whose links fill one batch and begin a second one.
 pub fn serve_crowd<R: Threads + Wait + Sync>(
     rt: &R,
@@ -94,21 +138,14 @@ pub fn serve_crowd<R: Threads + Wait + Sync>(
     batches: u32,
 ) -> Result<&'static str, Trouble> {
     let mut door = door_of(alloc, crowd_of(alloc, crowd)?)?;
-    let text = match crowd {
-        Crowd::Echo => ECHO,
-        Crowd::Counter => COUNTER,
-    };
-    let end = serve_text(rt, alloc, text, &mut door, workers, &OpenGate, batches)?;
-    let back = door.taken_back();
-    let cut = end == ServeEnd::Memory;
-    let told = match crowd {
-        Crowd::Echo => are_echoed(alloc, back, cut)?,
-        Crowd::Counter => cut || are_counted(alloc, back)?,
-    };
-    match (end, back.len(), batches) {
-        _ if !told => Ok("another reply"),
-        (ServeEnd::Memory, _, _) => Err(Trouble::Memory),
-        (ServeEnd::Counted, 64, 1) | (ServeEnd::Closed, 65, 3) => Ok("right"),
-        _ => Ok("another end"),
-    }
+    let end = serve_text(
+        rt,
+        alloc,
+        crowd.program(),
+        &mut door,
+        workers,
+        &OpenGate,
+        batches,
+    )?;
+    judge(alloc, crowd, door.taken_back(), end, batches)
 }

@@ -22,18 +22,38 @@ use std::sync::Wait;
 use std::thread::Threads;
 use trial_ends::Trouble;
 
+/// Tells what came of two links of one batch.
+fn tell_pair<R: Threads + Wait + Sync + Print>(
+    rt: &R,
+    alloc: Global,
+    workers: u8,
+    looks: u32,
+) -> Result<(), Trouble> {
+    let said = serve_pair(rt, alloc, workers, looks)?;
+    Ok(println!(rt; "a reply in the middle of another flow, workers {workers}: {said}")?)
+}
+
+/// Tells what came of a crowd.
+fn tell_crowd<R: Threads + Wait + Sync + Print>(
+    rt: &R,
+    alloc: Global,
+    crowd: Crowd,
+    workers: u8,
+    batches: u32,
+) -> Result<(), Trouble> {
+    let name = crowd.name();
+    let said = serve_crowd(rt, alloc, crowd, workers, batches)?;
+    Ok(println!(rt; "{name}, workers {workers}, batches {batches}: {said}")?)
+}
+
 fn answer<R: Threads + Wait + Sync + Print>(rt: &R, alloc: Global) -> Result<(), Trouble> {
     // Behind each look a call sleeps a millisecond, so that it is held for ten seconds or some more at most.
-    let two = serve_pair(rt, alloc, 2, 10_000)?;
-    println!(rt; "a reply in the middle of another flow, workers 2: {two}")?;
-    let one = serve_pair(rt, alloc, 1, 100)?;
-    println!(rt; "a reply in the middle of another flow, workers 1: {one}")?;
+    tell_pair(rt, alloc, 2, 10_000)?;
+    tell_pair(rt, alloc, 1, 100)?;
     for workers in [1, 2, 16] {
         for batches in [1, 3] {
-            let echo = serve_crowd(rt, alloc, Crowd::Echo, workers, batches)?;
-            println!(rt; "echo, workers {workers}, batches {batches}: {echo}")?;
-            let counter = serve_crowd(rt, alloc, Crowd::Counter, workers, batches)?;
-            println!(rt; "counter, workers {workers}, batches {batches}: {counter}")?;
+            tell_crowd(rt, alloc, Crowd::Echo, workers, batches)?;
+            tell_crowd(rt, alloc, Crowd::Counter, workers, batches)?;
         }
     }
     Ok(())

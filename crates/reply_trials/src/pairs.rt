@@ -4,9 +4,10 @@ use crate::crowds::COUNTER;
 use crate::doors::TellingDoor;
 use crate::serving::{door_of, link_of, serve_text};
 use flow_core::Gate;
+use flux_doors::MemoryLink;
 use flux_model::{FlowNo, NodeNo};
 use flux_serve::ServeEnd;
-use flux_values::List;
+use flux_values::{List, Memory};
 use std::alloc::Global;
 use std::marker::Sync;
 use std::sync::Wait;
@@ -58,6 +59,27 @@ impl<R: Wait> Gate for Holding<'_, R> {
     fn after(&self, _flow: FlowNo, _node: NodeNo) {}
 }
 
+/// The two links.
+fn links_of(alloc: Global) -> Result<List<MemoryLink>, Memory> {
+    let mut links = List::new(alloc);
+    links.add(link_of(alloc, b"add 5\n", 0, 0)?)?;
+    links.add(link_of(alloc, b"get\n", 0, 0)?)?;
+    Ok(links)
+}
+
+/// What is said of two links that were taken back, where so many calls were let go in time.
+fn judge(back: &[MemoryLink], kept: u64) -> &'static str {
+    if kept != 3 {
+        return "not in time";
+    }
+    for link in back {
+        if link.written() != b"5\n".as_slice() {
+            return "another reply";
+        }
+    }
+    "right"
+}
+
 /// Whether three calls were let go in time, the last one when the first link was written to, and both links were told the sum.
 pub fn serve_pair<R: Threads + Wait + Sync>(
     rt: &R,
@@ -65,31 +87,21 @@ pub fn serve_pair<R: Threads + Wait + Sync>(
     workers: u8,
     looks: u32,
 ) -> Result<&'static str, Trouble> {
-    let (word, kept) = (AtomicU64::new(0), AtomicU64::new(0));
+    let word = AtomicU64::new(0);
+    let mut door = TellingDoor {
+        door: door_of(alloc, links_of(alloc)?)?,
+        word: Some(&word),
+    };
     let gate = Holding {
         rt,
         word: &word,
         looks,
         zero: AtomicU64::new(0),
         one: AtomicU64::new(0),
-        kept,
-    };
-    let mut links = List::new(alloc);
-    links.add(link_of(alloc, b"add 5\n", 0, 0)?)?;
-    links.add(link_of(alloc, b"get\n", 0, 0)?)?;
-    let mut door = TellingDoor {
-        door: door_of(alloc, links)?,
-        word: Some(&word),
+        kept: AtomicU64::new(0),
     };
     match serve_text(rt, alloc, COUNTER, &mut door, workers, &gate, 1)? {
-        ServeEnd::Memory => return Err(Trouble::Memory),
-        _ if gate.kept.load(Ordering::SeqCst) != 3 => return Ok("not in time"),
-        _ => {}
+        ServeEnd::Memory => Err(Trouble::Memory),
+        _ => Ok(judge(door.door.taken_back(), gate.kept.load(Ordering::SeqCst))),
     }
-    for link in door.door.taken_back() {
-        if link.written() != b"5\n".as_slice() {
-            return Ok("another reply");
-        }
-    }
-    Ok("right")
 }
