@@ -3,7 +3,7 @@
 use std::alloc::{AllocError, Global};
 
 /// Short ones.
-pub const ROWS: [(&str, &[u8]); 19] = [
+pub const ROWS: &[(&str, &[u8])] = &[
     ("a minus sign and a zero", b"i-0e"),
     ("a key below the one before", b"d1:bi1e1:ai2ee"),
     ("a key as the one before", b"d1:ai1e1:ai2ee"),
@@ -35,7 +35,7 @@ pub enum Large {
 }
 
 /// Long ones.
-pub const LARGE: [(&str, Large); 5] = [
+pub const LARGE: &[(&str, Large)] = &[
     ("8 lists", Large::Lists(8)),
     ("9 lists", Large::Lists(9)),
     ("65,536 bytes", Large::String(b"65536:", 65_536)),
