@@ -29,10 +29,10 @@ use Rattle.flow_waits.specs.Idle.{IsIdle, AllAreBlocked}
 use Rattle.flow_waits.specs.Turns.{IsBefore}
 use Rattle.flow_waits.specs.steps.Staying.{IsFresh}
 use Rattle.flow_waits.specs.steps.Waking.{has, IsMore, IsLess, IsEarliest, Rooms, IsMoreAt}
-use Rattle.flow_waits.specs.steps.Covers.{Pools, rooms_for, IsReady, IsParked, IsBehind, IsInRoom, IsCovered, Covers, Lags, HasRoom, Parks, WakesFirst, Wakes, served_of, WakesLine}
+use Rattle.flow_waits.specs.steps.Covers.{Pools, rooms_for, IsReady, IsParked, IsBehind, IsInRoom, IsCovered, Covers, Lags, HasRoom, IsPassedOver, Parks, WakesFirst, Wakes, served_of, WakesLine}
 use Rattle.flow_waits.specs.steps.Aside.{beside, AreAside, IsIdleChosen, CallsKeepCovers}
 use Rattle.flow_waits.proofs.Ending.{live-is}
-use Rattle.flow_waits.proofs.Membership.{none_has, more_cases}
+use Rattle.flow_waits.proofs.Membership.{none_has, more_cases, less_there, less_kept}
 use Rattle.flow_waits.proofs.Orders.{before-itself, before-then, before-turned}
 use Rattle.flow_waits.proofs.Choosing.{without_ended, parked}
 use Rattle.flow_waits.proofs.Told.{told-other}
@@ -138,6 +138,23 @@ parks-beside old new aside flow stop parks away = record {
         let a = length-append aside new.ready in
         let b = length-append aside old.ready in
         omega (arith, fewer, a, b)
+
+-- one that is passed over, beside others
+pub passed-kept : (old new : Pools) (aside : List ℕ) (flow : ℕ) → IsPassedOver old new flow
+    → (other : ℕ) → flow ≢ other → IsReady (beside old aside) other → IsReady (beside new aside) other
+passed-kept old new aside flow passed other apart ready = by (either aside old.ready other ready)
+  where
+    by : (has aside other ≡ true) ⊎ IsReady old other → IsReady (beside new aside) other
+    by (inl is) = left aside new.ready other is
+    by (inr is) = right aside new.ready other (less_kept old.ready new.ready flow passed.less other apart is)
+
+pub passed-there : (old new : Pools) (aside : List ℕ) (flow : ℕ) → IsPassedOver old new flow
+    → (other : ℕ) → IsReady (beside new aside) other → IsReady (beside old aside) other
+passed-there old new aside flow passed other ready = by (either aside new.ready other ready)
+  where
+    by : (has aside other ≡ true) ⊎ IsReady new other → IsReady (beside old aside) other
+    by (inl is) = left aside old.ready other is
+    by (inr is) = right aside old.ready other (less_there old.ready new.ready flow passed.less other is)
 
 -- flows that are woken
 

@@ -1,8 +1,8 @@
 -- Blocked flows stay blocked.
-use Rattle.std.proofs.Common.{◌≡◌, ◌≢◌, ◌<◌, ◌⊎◌, inl, inr, ℕ, Bool, true, false, cond, ◌||◌, if◌then◌else◌, List, [], ◌∷◌, ◌++◌, refl, sym, ap, subst, ◌∙◌, arith}
+use Rattle.std.proofs.Common.{◌≡◌, ◌≢◌, ◌<◌, ◌⊎◌, inl, inr, ℕ, Bool, true, false, cond, ◌||◌, if◌then◌else◌, List, [], ◌∷◌, ◌++◌, length, refl, sym, ap, subst, ◌∙◌, arith}
 use Rattle.std.specs.List.{list_any}
 use Rattle.std.proofs.lemmas.Bool.{cases_eq}
-use Rattle.std.proofs.lemmas.List.{append_cancel_left, append-nil}
+use Rattle.std.proofs.lemmas.List.{append_cancel_left, append-nil, length-append}
 use Rattle.flux_values.specs.declared.answers.Mode.{Mode}
 use Rattle.flux_values.specs.declared.answers.Mode.TheVariants.{Writer}
 use Rattle.flux_model.specs.declared.items.FlowNo.{FlowNo}
@@ -15,7 +15,7 @@ use Rattle.flow_model.specs.Keys.{same_key}
 use Rattle.flux_model.specs.Modes.{conflict}
 use Rattle.flow_model.specs.Events.{events_by, own_events, IsNext}
 use Rattle.flow_model.specs.Exclusion.{without_first, held_after, modes_held, HoldsKey, holds_against}
-use Rattle.flow_model.specs.Waits.{StandsAt, StandsBefore, Blocks}
+use Rattle.flow_model.specs.Waits.{StandsAt, StandsBefore, Blocks, MayWait}
 use Rattle.flow_model.specs.Legal.{IsLegal}
 use Rattle.flow_model.proofs.Keys.{key_cases, same_key_itself}
 use Rattle.flux_laws.specs.Moves.{IsMove}
@@ -24,6 +24,7 @@ use Rattle.flux_laws.proofs.Standing.{next-unique, standing-next}
 use Rattle.flux_laws.proofs.Lasting.{last-unique}
 use Rattle.flux_laws.proofs.Fronts.{fronts_are_legal}
 use Rattle.flux_laws.proofs.LastMoves.{entries_are_moves}
+use Rattle.flow_waits.specs.Turns.{IsInLine}
 use Rattle.flow_waits.specs.steps.Staying.{BlockedStay, WritersBlock, FreshAreAlike}
 use Rattle.flow_waits.proofs.Others.{held-stays, free-stays, next-stays, last-stays, last-back}
 
@@ -236,6 +237,70 @@ writers_block setup entries legal flow writer key mode place before stands their
         let one = last-unique entries (record { 0 = flow }) (Wait key own) (Wait key mode) at place there stands in
         let e = one.1 in
         omega (arith, e, lt)
+
+-- a flow that has made its wait stands in a line, and is blocked still
+module _ (setup : Setup) (before : List Entry) (flow : FlowNo) (key : Key) (mode : Mode)
+    (legal : IsLegal setup (before ++ record { flow = flow; event = Wait key mode } ∷ [])) where
+  abbrev behind : List Entry
+  behind = before ++ record { flow = flow; event = Wait key mode } ∷ []
+
+  stands-last : StandsAt behind flow.0 key mode (length before)
+  stands-last = record { before = before; after = []; stands = refl; last = refl; at = refl }
+
+  may : MayWait setup before flow key mode []
+  may = legal.waits before [] flow key mode refl
+
+  still-stands : (blocker : ℕ) → (flow.0 ≡ blocker → ⊥) → StandsBefore before blocker flow.0 key mode
+      → StandsBefore behind blocker flow.0 key mode
+  still-stands blocker apart stands = record {
+    their = stands.their;
+    place = stands.place;
+    stands = last-stays before flow (Wait key mode) blocker apart (Wait key stands.their) stands.place stands.stands;
+    against = stands.against;
+    first = first;
+  }
+    where
+      inside : stands.place < length before
+      inside = let s = stands.stands in
+          let split = ap length s.stands ∙ length-append s.before
+              (record { flow = record { 0 = blocker }; event = Wait key stands.their } ∷ s.after) in
+          omega (arith, split, s.at)
+
+      first : (own : Mode) (at : ℕ) → StandsAt behind flow.0 key own at → stands.place < at
+      first own at there =
+          let one = last-unique behind flow (Wait key own) (Wait key mode) at (length before) there stands-last in
+          let e = one.1 in
+          omega (arith, e, inside)
+
+  pub waited-in-line : IsInLine setup behind flow.0
+  waited-in-line = let m = may in let blocked = m.blocked in record {
+    key = key;
+    mode = mode;
+    place = length before;
+    stands = stands-last;
+    blocked = (
+      m.blocker,
+      record {
+        key = key;
+        mode = mode;
+        next = standing-next setup behind flow.0 key mode (length before) legal.waits stands-last;
+        blocked = record {
+          free = stander-free setup behind legal flow.0 key mode (length before) stands-last;
+          apart = blocked.apart;
+          cause = by (λ same. blocked.apart (sym same)) blocked.cause;
+        };
+      },
+    );
+  }
+    where
+      by : (flow.0 ≡ (let m = may in m.blocker) → ⊥)
+          → (holds_against before (let m = may in m.blocker) key mode ≡ true)
+          ⊎ StandsBefore before (let m = may in m.blocker) flow.0 key mode
+          → (holds_against behind (let m = may in m.blocker) key mode ≡ true)
+          ⊎ StandsBefore behind (let m = may in m.blocker) flow.0 key mode
+      by apart (inl against) = let m = may in
+          inl (rw (held-stays before flow (Wait key mode) m.blocker apart key) against)
+      by apart (inr stands) = let m = may in inr (still-stands m.blocker apart stands)
 
 -- ---- fresh flows
 

@@ -124,7 +124,9 @@ IsParkedSo old new key mode flow =
     → IsParked old k m other ⊎ ((key ≡ k) × (mode ≡ m) × (flow ≡ other)))
 
 module _ (setup : Setup) (entries : List Entry) (old new : Pools) (from flow : ℕ)
-    (covers : Covers setup entries old from) (less : IsLess old.ready new.ready flow) where
+    (covers : Covers setup entries old from)
+    (kept : (other : ℕ) → flow ≢ other → IsReady old other → IsReady new other)
+    (there : (other : ℕ) → IsReady new other → IsReady old other) where
   -- what becomes of the others, where those behind the flow are covered without it
   others : ((k : Key) (m : Mode) (other : ℕ) → IsParked old k m other → IsParked new k m other)
       → ((k : Key) (m : Mode) (other : ℕ) → IsParked old k m other → IsFresh setup entries flow k m
@@ -150,7 +152,7 @@ module _ (setup : Setup) (entries : List Entry) (old new : Pools) (from flow : �
                   (subst (λ f. IsFresh setup entries f room.key room.mode) (sym same) behind.fresh))
               one (inr elsewhere) = inr (record {
                 other = behind.other;
-                ready = less_kept old.ready new.ready flow less behind.other elsewhere behind.ready;
+                ready = kept behind.other elsewhere behind.ready;
                 fresh = behind.fresh;
                 before = behind.before;
               })
@@ -161,12 +163,12 @@ module _ (setup : Setup) (entries : List Entry) (old new : Pools) (from flow : �
           cause (inr behind) = behind-it behind
 
       by : IsCovered setup entries old from other → IsCovered setup entries new from other
-      by (inl ready) = inl (less_kept old.ready new.ready flow less other apart ready)
+      by (inl ready) = inl (kept other apart ready)
       by (inr (inl line)) = inr (inl line)
       by (inr (inr room)) = inr (inr (in-room room))
 
   exist : (other : ℕ) → IsReady new other → other < length setup.items
-  exist other ready = covers.exist other (less_there old.ready new.ready flow less other ready)
+  exist other ready = covers.exist other (there other ready)
 
   -- one that is covered otherwise, with all rooms as they were
   without-own : new.readers ≡ old.readers → new.writers ≡ old.writers
@@ -176,7 +178,7 @@ module _ (setup : Setup) (entries : List Entry) (old new : Pools) (from flow : �
     each = each;
     fresh = λ key mode other parked. covers.fresh key mode other (back key mode other parked);
     apart = λ key mode other parked ready. covers.apart key mode other (back key mode other parked)
-        (less_there old.ready new.ready flow less other ready);
+        (there other ready);
     exist = exist;
   }
     where
@@ -197,17 +199,26 @@ module _ (setup : Setup) (entries : List Entry) (old new : Pools) (from flow : �
           by (inl is) = subst (IsCovered setup entries new from) is (own (subst (IsLive setup entries) (sym is) live))
           by (inr apart) = others stay (λ k m o parked fresh. absurd (stale k m fresh)) other apart live
 
-  -- one that has ended
-  pub without_ended : new.readers ≡ old.readers → new.writers ≡ old.writers → (IsLive setup entries flow → ⊥)
-      → Covers setup entries new from
-  without_ended readers writers ended =
-      without-own readers writers (λ live. absurd (ended live)) (λ key mode fresh. ended fresh.live)
-
   -- one that is blocked, and stands in a line
   pub without_standing : new.readers ≡ old.readers → new.writers ≡ old.writers → IsInLine setup entries flow
       → Covers setup entries new from
   without_standing readers writers line = without-own readers writers (λ live. inr (inl line))
       (λ key mode fresh. fresh.stands_nowhere line.key line.mode line.place line.stands)
+
+module _ (setup : Setup) (entries : List Entry) (old new : Pools) (from flow : ℕ)
+    (covers : Covers setup entries old from) (less : IsLess old.ready new.ready flow) where
+  abbrev kept : (other : ℕ) → flow ≢ other → IsReady old other → IsReady new other
+  kept = less_kept old.ready new.ready flow less
+
+  abbrev there : (other : ℕ) → IsReady new other → IsReady old other
+  there = less_there old.ready new.ready flow less
+
+  -- one that has ended
+  pub without_ended : new.readers ≡ old.readers → new.writers ≡ old.writers → (IsLive setup entries flow → ⊥)
+      → Covers setup entries new from
+  without_ended readers writers ended =
+      without-own setup entries old new from flow covers kept there readers writers (λ live. absurd (ended live))
+      (λ key mode fresh. ended fresh.live)
 
   -- one that is blocked, and has a place in a room now
   pub without_parked : (key : Key) (mode : Mode) → IsParkedSo old new key mode flow → IsParked new key mode flow
@@ -217,7 +228,7 @@ module _ (setup : Setup) (entries : List Entry) (old new : Pools) (from flow : �
     each = each;
     fresh = fresh;
     apart = apart;
-    exist = exist;
+    exist = exist setup entries old new from flow covers kept there;
   }
     where
       each : (other : ℕ) → IsLive setup entries other → IsCovered setup entries new from other
@@ -226,8 +237,9 @@ module _ (setup : Setup) (entries : List Entry) (old new : Pools) (from flow : �
           by : (flow ≡ other) ⊎ (flow ≡ other → ⊥) → IsCovered setup entries new from other
           by (inl same) = subst (λ f. IsCovered setup entries new from f) same
               (inr (inr (record { key = key; mode = mode; parked = parked; cause = inl blocked })))
-          by (inr elsewhere) = others stay (λ k m o there fresh. fresh_are_alike setup entries flow o k m fresh
-              (covers.fresh k m o there) blocked) other elsewhere live
+          by (inr elsewhere) = others setup entries old new from flow covers kept there stay
+              (λ k m o parked fresh. fresh_are_alike setup entries flow o k m fresh (covers.fresh k m o parked) blocked)
+              other elsewhere live
 
       fresh : (k : Key) (m : Mode) (other : ℕ) → IsParked new k m other → IsFresh setup entries other k m
       fresh k m other there = by (back k m other there)
@@ -266,7 +278,8 @@ module _ (setup : Setup) (entries : List Entry) (old new : Pools) (from flow : �
         by : (b : Bool) → stop.stands ≡ b → HasRoom old new flow stop.key stop.mode b → Covers setup entries new from
         by true stands (readers, writers) =
             let (place, there) = is_stop.stands stands in
-            without_standing setup entries old new from flow covers parks.less readers writers
+            without_standing setup entries old new from flow covers (less_kept old.ready new.ready flow parks.less)
+            (less_there old.ready new.ready flow parks.less) readers writers
             (record { key = stop.key; mode = stop.mode; place = place; stands = there; blocked = is_stop.blocked })
         by false not (more, others) =
             without_parked setup entries old new from flow covers parks.less stop.key stop.mode (kept, back)

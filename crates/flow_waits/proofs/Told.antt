@@ -1,5 +1,5 @@
 -- Candidates that are told of one entry more cover all flows again.
-use Rattle.std.proofs.Common.{◌≡◌, ◌-◌, ◌⊎◌, inl, inr, ℕ, suc, List, [], ◌∷◌, ◌++◌, length, Some, refl, sym, ap, subst, ◌∙◌, arith}
+use Rattle.std.proofs.Common.{◌≡◌, ◌≢◌, ◌-◌, ◌⊎◌, inl, inr, ℕ, suc, List, [], ◌∷◌, ◌++◌, length, Some, refl, sym, ap, subst, ◌∙◌, arith}
 use Rattle.std.specs.List.{slice_get}
 use Rattle.flux_values.specs.declared.answers.Mode.{Mode}
 use Rattle.flux_values.specs.declared.answers.Mode.TheVariants.{Reader, Writer}
@@ -7,15 +7,18 @@ use Rattle.flux_model.specs.declared.items.FlowNo.{FlowNo}
 use Rattle.flow_model.specs.declared.journals.Key.{Key}
 use Rattle.flow_model.specs.declared.journals.Entry.{Entry}
 use Rattle.flow_model.specs.declared.journals.Event.{Event}
-use Rattle.flow_model.specs.declared.journals.Event.TheVariants.{Take, Drop}
+use Rattle.flow_model.specs.declared.journals.Event.TheVariants.{Take, Wait, Drop}
 use Rattle.flow_model.specs.Setup.{Setup}
 use Rattle.flow_model.specs.Events.{IsLive}
 use Rattle.flow_model.specs.Waits.{StandsAt}
 use Rattle.flow_model.specs.Legal.{IsLegal}
 use Rattle.flux_table.specs.declared.locks.Waiter.{Waiter}
 use Rattle.flow_state.specs.Lines.{IsLineAt}
+use Rattle.flow_waits.specs.Turns.{IsInLine}
 use Rattle.flow_waits.specs.steps.Staying.{IsFresh}
 use Rattle.flow_waits.specs.steps.Covers.{Pools, IsReady, IsParked, IsCovered, Covers, Lags, Wakes, WakesLine}
+use Rattle.flow_waits.proofs.Blocked.{waited-in-line}
+use Rattle.flow_waits.proofs.Choosing.{without_standing}
 use Rattle.flow_waits.proofs.Waking.{IsOwed, carried, parked-fresh}
 use Rattle.flow_waits.proofs.Woken.{AreFresh, woken-kept, woken-covered, woken-fresh, woken-apart, woken-exist, woken-owed, line-covered, line-fresh, line-apart, line-exist, line-owed}
 
@@ -31,16 +34,22 @@ last-is {X} (y ∷ xs) x = by (xs ++ x ∷ []) (last-is xs x)
         let e : suc (length (z ∷ more) - 1) ≡ length (y ∷ z ∷ more) - 1 = omega arith in
         subst (λ (n : ℕ). slice_get (y ∷ z ∷ more) n ≡ Some x) e is
 
--- the event of the last entry
+-- the last entry, and its event
+pub last-own : (before : List Entry) (flow : FlowNo) (event : Event) (entries journal : List Entry) (entry : Entry)
+    → entries ≡ before ++ record { flow = flow; event = event } ∷ []
+    → journal ≡ entries → Some entry ≡ slice_get journal (length journal - 1)
+    → entry ≡ record { flow = flow; event = event }
+last-own before flow event entries journal entry added same last =
+    let whole : journal ≡ before ++ record { flow = flow; event = event } ∷ [] = same ∙ added in
+    let one : Some entry ≡ Some (record { flow = flow; event = event }) =
+    (rw whole at last) ∙ last-is before (record { flow = flow; event = event }) in
+    cc one
+
 pub last-event : (before : List Entry) (flow : FlowNo) (event : Event) (entries journal : List Entry) (entry : Entry)
     → entries ≡ before ++ record { flow = flow; event = event } ∷ []
     → journal ≡ entries → Some entry ≡ slice_get journal (length journal - 1) → event ≡ entry.event
 last-event before flow event entries journal entry added same last =
-    let whole : journal ≡ before ++ record { flow = flow; event = event } ∷ [] = same ∙ added in
-    let one : Some entry ≡ Some (record { flow = flow; event = event }) =
-    (rw whole at last) ∙ last-is before (record { flow = flow; event = event }) in
-    let own : entry ≡ record { flow = flow; event = event } = cc one in
-    ap (λ (e : Entry). e.event) (sym own)
+    ap (λ (e : Entry). e.event) (sym (last-own before flow event entries journal entry added same last))
 
 module _ (setup : Setup) (entries : List Entry) (legal : IsLegal setup entries) (pools : Pools) (from : ℕ)
     (lags : Lags setup entries pools from) where
@@ -61,6 +70,13 @@ module _ (setup : Setup) (entries : List Entry) (legal : IsLegal setup entries) 
   are-fresh key mode flow parked = subst (λ es. IsFresh setup es flow key mode) (sym lags.added)
       (parked-fresh setup lags.before lags.flow lags.event split pools lags.was from covers lags.ready lags.later key
       mode flow parked)
+
+  -- the flow of a wait stands in a line then, and is blocked
+  pub waiting : (key : Key) (mode : Mode) → lags.event ≡ Wait key mode → IsInLine setup entries lags.flow.0
+  waiting key mode waits = subst (λ es. IsInLine setup es lags.flow.0)
+      (ap (λ event. lags.before ++ record { flow = lags.flow; event = event } ∷ []) (sym waits) ∙ sym lags.added)
+      (waited-in-line setup lags.before lags.flow key mode
+      (subst (λ event. IsLegal setup (lags.before ++ record { flow = lags.flow; event = event } ∷ [])) waits split))
 
   -- an event that neither takes nor drops a key
   pub told-other : ((key : Key) (mode : Mode) → lags.event ≡ Take key mode → ⊥)
@@ -83,6 +99,22 @@ module _ (setup : Setup) (entries : List Entry) (legal : IsLegal setup entries) 
           none (inl (drops, place, stands)) = no_drop owed.key drops
           none (inr (inl drops, parked)) = no_drop owed.key drops
           none (inr (inr takes, parked)) = no_take owed.key owed.mode takes
+
+  -- a wait, whose flow is no longer looked at
+  pub told-wait : (new : Pools) (key : Key) (mode : Mode) → lags.event ≡ Wait key mode
+      → ((other : ℕ) → lags.flow.0 ≢ other → IsReady pools other → IsReady new other)
+      → ((other : ℕ) → IsReady new other → IsReady pools other)
+      → new.readers ≡ pools.readers → new.writers ≡ pools.writers → Covers setup entries new from
+  told-wait new key mode waits kept there readers writers =
+      without_standing setup entries pools new from lags.flow.0
+      (told-other (λ k m takes. no_take (sym waits ∙ takes)) (λ k drops. no_drop (sym waits ∙ drops)))
+      kept there readers writers (waiting key mode waits)
+    where
+      no_take : {k : Key} {m : Mode} → Wait key mode ≡ Take k m → ⊥
+      no_take e = cc
+
+      no_drop : {k : Key} → Wait key mode ≡ Drop k → ⊥
+      no_drop e = cc
 
   -- a take
   pub told-take : (new : Pools) (key : Key) (mode : Mode) → lags.event ≡ Take key mode → Wakes pools new key mode from

@@ -9,7 +9,7 @@ ghost use Rattle.flow_model.specs.Events.{IsLive};
 ghost use Rattle.flow_core.specs.States.{setup_in};
 ghost use Rattle.flow_waits.specs.steps.Waking.{has};
 ghost use Rattle.flow_waits.specs.steps.Aside.{beside};
-ghost use Rattle.flow_waits.specs.steps.Covers.{Covers, IsChosen, Lags, StayReady, Parks, WakesFirst, Wakes, served_of, WakesLine};
+ghost use Rattle.flow_waits.specs.steps.Covers.{Covers, IsChosen, Lags, StayAwake, IsPassedOver, Parks, WakesFirst, Wakes, served_of, WakesLine};
 
 mod idle;
 
@@ -95,17 +95,20 @@ impl Candidates {
     pub fn told<L: Library>(&mut self, core: &Core<L>, from: u32) -> Result<(), Memory>
         requires { Lags (setup_in L.meaning core.now) core.now.entries self.old from }
         ensures covers { OnOk result (Covers (setup_in L.meaning core.now) core.now.entries self.new from) }
-        ensures ready { OnOk result (StayReady self.old self.new) }
+        ensures ready { OnOk result (StayAwake (setup_in L.meaning core.now) core.now.entries self.old self.new) }
     {
         self.follow(core, from)
     }
 
-    /// Looks at the flows that the last entry may have freed. Others may stand beside them.
+    /// Looks at the flows that the last entry may have freed, and no longer at the flow of a wait. Others may stand beside
+    /// them.
     fn follow<L: Library>(&mut self, core: &Core<L>, from: u32) -> Result<(), Memory>
         ensures covers { (aside : List ℕ)
             → Lags (setup_in L.meaning core.now) core.now.entries (beside self.old aside) from
             → OnOk result (Covers (setup_in L.meaning core.now) core.now.entries (beside self.new aside) from) }
-        ensures ready { OnOk result (StayReady self.old self.new) }
+        ensures ready { (aside : List ℕ)
+            → Lags (setup_in L.meaning core.now) core.now.entries (beside self.old aside) from
+            → OnOk result (StayAwake (setup_in L.meaning core.now) core.now.entries self.old self.new) }
     {
         let Some(entry) = core.journal().entries.last() else {
             return Ok(());
@@ -117,8 +120,19 @@ impl Candidates {
                 self.wake(*key, Mode::Writer, from)?;
                 self.wake_line(core.line(*key))
             }
+            Event::Wait(_, _) => {
+                self.pass_over(entry.flow.0);
+                Ok(())
+            }
             _ => Ok(()),
         }
+    }
+
+    /// No longer looks at a flow that stands in a line.
+    fn pass_over(&mut self, flow: u32)
+        ensures { IsPassedOver self.old self.new flow }
+    {
+        self.ready.remove(flow);
     }
 
     /// No longer looks at a flow that is blocked.

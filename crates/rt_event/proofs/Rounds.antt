@@ -12,7 +12,7 @@ use Rattle.flow_core.specs.States.{CoreState, setup_in}
 use Rattle.flow_core.specs.Runs.{SameSetting, GoesOnLegally, GoesToEnd}
 use Rattle.flow_core.proofs.Sequels.{same-setup, same-then, goes-on, legally-same}
 use Rattle.flow_waits.specs.Turns.{IsBefore, IsFirstFrom, IsInLine}
-use Rattle.flow_waits.specs.steps.Covers.{Pools, IsReady, Covers, Lags, StayReady}
+use Rattle.flow_waits.specs.steps.Covers.{Pools, IsReady, Covers, Lags, StayAwake}
 use Rattle.flow_waits.proofs.Orders.{before-later}
 use Rattle.flow_waits.proofs.Counting.{most_entries}
 use Rattle.flow_waits.proofs.Schedules.{IsScheduling, scheduling-none, scheduling-more, scheduling-few, scheduled, move-longer}
@@ -123,18 +123,20 @@ module _ (setup : Setup) (old entries after : List Entry) (pools : Pools) (from 
         other ready;
   }
 
-  pub rounding-stays : (told : Pools) → StayReady pools told → Covers setup after told (owner.0 + 1)
+  pub rounding-stays : (told : Pools) → StayAwake setup after pools told → Covers setup after told (owner.0 + 1)
       → Stays setup after told (owner.0 + 1) (turn_after ends owner)
   rounding-stays told ready covers = record { covers = covers; on = by ends (let o = own in o.over) }
     where
       by : (b : Bool) → IsOver b (let o = own in o.event) → KeepsOn setup after told (owner.0 + 1) (turn_after b owner)
       by true over = tt
-      by false on = let o = own in let m = o.makes in record {
+      by false on = let o = own in let m = o.makes in
+          let awake : IsInLine setup after owner.0 → ⊥ = λ line. still-awake setup entries owner o.event on
+          (subst (λ es. IsInLine setup es owner.0) m.added line) in
+          record {
         live = subst (λ es. IsLive setup es owner.0) (sym m.added)
             (still-live setup entries owner o.event on (owner-live setup entries pools from on_turn owner is_owner));
-        awake = λ line. still-awake setup entries owner o.event on
-            (subst (λ es. IsInLine setup es owner.0) m.added line);
-        ready = ready owner.0 (owner-ready setup entries pools from on_turn owner is_owner);
+        awake = awake;
+        ready = ready owner.0 (owner-ready setup entries pools from on_turn owner is_owner) awake;
         next = refl;
       }
 
@@ -181,13 +183,14 @@ module _ {L : Type 0} (meaning : L → LibraryMeaning) (start old new : CoreStat
       start-owner start-makes
       (subst (λ s. Covers s old.entries pools from) (same-setup meaning start old same) leads.covers))
 
-  pub core-stays : (told : Pools) → StayReady pools told → Covers (setup_in meaning new) new.entries told (owner.0 + 1)
+  pub core-stays : (told : Pools) → StayAwake (setup_in meaning new) new.entries pools told
+      → Covers (setup_in meaning new) new.entries told (owner.0 + 1)
       → Stays (setup_in meaning new) new.entries told (owner.0 + 1) (turn_after ends owner)
   core-stays told ready covers =
       let both = same-setup meaning start new (same-then start old new same stays) in
       subst (λ s. Stays s new.entries told (owner.0 + 1) (turn_after ends owner)) (sym both)
       (rounding-stays (setup_in meaning start) start.entries old.entries new.entries pools from on_turn owner ends kept
-      start-owner start-makes told ready
+      start-owner start-makes told (subst (λ s. StayAwake s new.entries pools told) both ready)
       (subst (λ s. Covers s new.entries told (owner.0 + 1)) both covers))
 
   pub core-legal : GoesOnLegally meaning start new

@@ -86,6 +86,17 @@ pub record Lags (setup : Setup) (entries : List Entry) (pools : Pools) (from : �
 abbrev pub StayReady : Pools → Pools → Type 0
 StayReady old new = (flow : ℕ) → IsReady old flow → IsReady new flow
 
+-- but for flows that are blocked and stand in a line
+abbrev pub StayAwake : Setup → List Entry → Pools → Pools → Type 0
+StayAwake setup entries old new = (flow : ℕ) → IsReady old flow → (IsInLine setup entries flow → ⊥)
+    → IsReady new flow
+
+-- a flow is no longer looked at
+pub record IsPassedOver (old new : Pools) (flow : ℕ) : Type 0 where
+  pub less : IsLess old.ready new.ready flow
+  pub readers_ : new.readers ≡ old.readers
+  pub writers_ : new.writers ≡ old.writers
+
 -- a blocked flow has a place in a room, unless it stands in a line
 abbrev pub HasRoom : Pools → Pools → ℕ → Key → Mode → Bool → Type 0
 HasRoom old new flow key mode true = (new.readers ≡ old.readers) × (new.writers ≡ old.writers)

@@ -1,11 +1,14 @@
-use Rattle.std.proofs.Common.{◌∙◌, sym}
+use Rattle.std.proofs.Common.{◌≡◌, ◌∙◌, sym, ap, subst}
 use Rattle.std.proofs.lemmas.Result.{on_ok_weaker}
 use Rattle.flux_values.specs.declared.answers.Mode.TheVariants.{Reader, Writer}
+use Rattle.flow_model.specs.declared.journals.Entry.{Entry}
 use Rattle.flow_core.specs.States.{setup_in}
+use Rattle.flow_waits.specs.Turns.{IsInLine}
 use Rattle.flow_waits.specs.steps.Aside.{beside}
-use Rattle.flow_waits.proofs.Told.{told-take, told-drop, told-other, last-event}
+use Rattle.flow_waits.proofs.Membership.{less_kept}
+use Rattle.flow_waits.proofs.Told.{told-take, told-drop, told-other, told-wait, waiting, last-own, last-event}
 use Rattle.flow_waits.proofs.Woken.{woken-ready, line-ready}
-use Rattle.flow_waits.proofs.Aside.{wakes-beside, line-beside}
+use Rattle.flow_waits.proofs.Aside.{wakes-beside, line-beside, passed-kept, passed-there}
 use Rattle.flow_waits.proofs.candidates.Candidates.follow.Goals as goal
 
 pub returns-in-Take-clause-covers : goal.returns-in-Take-clause-covers
@@ -18,9 +21,9 @@ returns-in-Take-clause-covers g c = λ aside lags.
     (wakes-beside c.args.self.now c.wake.new.self aside c.in-Take.key c.in-Take.mode c.args.from wakes)) c.wake.ensures
 
 pub returns-in-Take-clause-ready : goal.returns-in-Take-clause-ready
-returns-in-Take-clause-ready g c =
-    on_ok_weaker c.wake.result (λ wakes. woken-ready (setup_in g.L.Meaning.meaning c.args.core.now)
-    c.args.core.now.entries c.args.self.now c.wake.new.self c.in-Take.key c.in-Take.mode c.args.from wakes)
+returns-in-Take-clause-ready g c = λ aside lags.
+    on_ok_weaker c.wake.result (λ wakes flow ready awake. woken-ready (setup_in g.L.Meaning.meaning c.args.core.now)
+    c.args.core.now.entries c.args.self.now c.wake.new.self c.in-Take.key c.in-Take.mode c.args.from wakes flow ready)
     c.wake.ensures
 
 pub returns-in_ok-wake-in-Drop-2-clause-covers : goal.returns-in_ok-wake-in-Drop-2-clause-covers
@@ -40,10 +43,10 @@ returns-in_ok-wake-in-Drop-2-clause-covers g c = λ aside lags.
     c.wake_line.ensures
 
 pub returns-in_ok-wake-in-Drop-2-clause-ready : goal.returns-in_ok-wake-in-Drop-2-clause-ready
-returns-in_ok-wake-in-Drop-2-clause-ready g c =
+returns-in_ok-wake-in-Drop-2-clause-ready g c = λ aside lags.
     let setup = setup_in g.L.Meaning.meaning c.args.core.now in
     let entries = c.args.core.now.entries in
-    on_ok_weaker c.wake_line.result (λ last flow ready.
+    on_ok_weaker c.wake_line.result (λ last flow ready awake.
     line-ready setup entries (let kept = c.journal.ensures.kept in kept.legal) c.wake-in-Drop-2.new.self
     c.wake_line.new.self c.in-Drop.key c.args.from c.line.result.now c.line.ensures last flow
     (woken-ready setup entries c.wake-in-Drop.new.self c.wake-in-Drop-2.new.self c.in-Drop.key Writer c.args.from
@@ -63,5 +66,30 @@ returns-in_default-event g c = record {
       (last-event lags.before lags.flow lags.event c.args.core.now.entries
       c.journal.result.now.entries c.in-Some.entry.now lags.added c.journal.ensures.same c.in-Some.ensures)
       ∙ drops));
-  ready = λ flow ready. ready;
+  ready = λ aside lags flow ready awake. ready;
 }
+
+pub returns-in-Wait-clause-covers : goal.returns-in-Wait-clause-covers
+returns-in-Wait-clause-covers g c = λ aside lags.
+    let own = last-own lags.before lags.flow lags.event c.args.core.now.entries c.journal.result.now.entries
+    c.in-Some.entry.now lags.added c.journal.ensures.same c.in-Some.ensures in
+    let flow : lags.flow.0 ≡ c.in-Some.entry.now.flow.0 = ap (λ (e : Entry). e.flow.0) (sym own) in
+    told-wait (setup_in g.L.Meaning.meaning c.args.core.now) c.args.core.now.entries
+    (let kept = c.journal.ensures.kept in kept.legal) (beside c.args.self.now aside) c.args.from lags
+    (beside c.pass_over.new.self aside) c.in-Wait.field-0 c.in-Wait.field-1
+    (ap (λ (e : Entry). e.event) (sym own) ∙ c.in-Wait.is)
+    (λ other apart. passed-kept c.args.self.now c.pass_over.new.self aside c.in-Some.entry.now.flow.0 c.pass_over.ensures
+    other (λ same. apart (flow ∙ same)))
+    (passed-there c.args.self.now c.pass_over.new.self aside c.in-Some.entry.now.flow.0 c.pass_over.ensures)
+    c.pass_over.ensures.readers_ c.pass_over.ensures.writers_
+
+pub returns-in-Wait-clause-ready : goal.returns-in-Wait-clause-ready
+returns-in-Wait-clause-ready g c = λ aside lags flow ready awake.
+    let own = last-own lags.before lags.flow lags.event c.args.core.now.entries c.journal.result.now.entries
+    c.in-Some.entry.now lags.added c.journal.ensures.same c.in-Some.ensures in
+    let in_line = waiting (setup_in g.L.Meaning.meaning c.args.core.now) c.args.core.now.entries
+    (let kept = c.journal.ensures.kept in kept.legal) (beside c.args.self.now aside) c.args.from lags
+    c.in-Wait.field-0 c.in-Wait.field-1 (ap (λ (e : Entry). e.event) (sym own) ∙ c.in-Wait.is) in
+    less_kept c.args.self.now.ready c.pass_over.new.self.ready c.in-Some.entry.now.flow.0 c.pass_over.ensures.less flow
+    (λ same. awake (subst (IsInLine (setup_in g.L.Meaning.meaning c.args.core.now) c.args.core.now.entries)
+    (ap (λ (e : Entry). e.flow.0) (sym own) ∙ same) in_line)) ready
