@@ -263,7 +263,7 @@ module _ (setup : Setup) (before : List Entry) (flow : FlowNo) (key : Key) (mode
       inside : stands.place < length before
       inside = let s = stands.stands in
           let split = ap length s.stands ∙ length-append s.before
-              (record { flow = record { 0 = blocker }; event = Wait key stands.their } ∷ s.after) in
+          (record { flow = record { 0 = blocker }; event = Wait key stands.their } ∷ s.after) in
           omega (arith, split, s.at)
 
       first : (own : Mode) (at : ℕ) → StandsAt behind flow.0 key own at → stands.place < at

@@ -133,12 +133,12 @@ module _ (setup : Setup) (old entries after : List Entry) (pools : Pools) (from 
           let awake : IsInLine setup after owner.0 → ⊥ = λ line. still-awake setup entries owner o.event on
           (subst (λ es. IsInLine setup es owner.0) m.added line) in
           record {
-        live = subst (λ es. IsLive setup es owner.0) (sym m.added)
-            (still-live setup entries owner o.event on (owner-live setup entries pools from on_turn owner is_owner));
-        awake = awake;
-        ready = ready owner.0 (owner-ready setup entries pools from on_turn owner is_owner) awake;
-        next = refl;
-      }
+            live = subst (λ es. IsLive setup es owner.0) (sym m.added)
+                (still-live setup entries owner o.event on (owner-live setup entries pools from on_turn owner is_owner));
+            awake = awake;
+            ready = ready owner.0 (owner-ready setup entries pools from on_turn owner is_owner) awake;
+            next = refl;
+          }
 
 pub rounded : (setup : Setup) (old new : List Entry) (from : ℕ) (on_turn : Option FlowNo)
     → IsRounding setup old new from on_turn → ((flow : ℕ) → IsLive setup new flow → ⊥) → IsRound setup old new
