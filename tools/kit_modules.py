@@ -83,8 +83,8 @@ def find_needed(crates, texts):
 def cut(libraries, whole, program, folder):
     """Yields the libraries that a program needs, with copies in the folder in place of those that aren't named whole."""
     crates = {it.name: Crate(it) for it in libraries if it.name not in whole}
-    read = [program, *(it for it in libraries if it.name in whole)]
-    find_needed(crates, [(it, text_of(file)) for it in read for file in rust_files(it.source.parent)])
+    users = [it for it in (program, *libraries) if it.name not in crates and not crates.keys().isdisjoint(it.uses)]
+    find_needed(crates, [(it, text_of(file)) for it in users for file in rust_files(it.source.parent)])
     kept = {it.name for it in libraries if it.name in whole or crates[it.name].needed}
     for it in libraries:
         if it.name in kept:
