@@ -1,7 +1,8 @@
 # What the benches share; each reads it with its own words. It sets
 # - program: the first word, or the built program, which is proved and built first where it isn't;
 # - folder: an empty folder that goes when the bench ends;
-# - least: a command that gives the least time of five runs of its words, in microseconds, without what they print.
+# - least: a command that gives the least time of five runs of its words, in microseconds, without what they print;
+# - held: a command that gives the most memory that a run of its words held, in bytes, without what it prints.
 set -euo pipefail
 top="$(cd "$(dirname "${BASH_SOURCE[0]}")/.." && pwd)"
 program="${1-}"
@@ -21,4 +22,9 @@ least() {
         if [ -z "$best" ] || [ $((end - start)) -lt "$best" ]; then best=$((end - start)); fi
     done
     echo "$best"
+}
+
+held() {
+    [ -x "$folder/held" ] || gcc -O2 -o "$folder/held" "$top/bench/held.c"
+    "$folder/held" "$@"
 }
