@@ -13,7 +13,7 @@ use std::marker::Model;
 use std::sync::Arc;
 
 /// A begun call, which a core and its jobs share, seen as its inputs.
-#[derive(Debug, Drop)]
+#[derive(Drop)]
 pub struct Begun {
     shared: Arc<Inputs>,
 }

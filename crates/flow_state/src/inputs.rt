@@ -4,7 +4,6 @@ use flux_model::NodeNo;
 use flux_values::{Cell, List, Value};
 
 /// What a call of a node is given: values, and the cells that the node uses, in order.
-#[derive(Debug)]
 pub struct Inputs {
     pub node: NodeNo,
     pub args: List<Value>,

@@ -3,7 +3,7 @@
 use flux_plan::Local;
 
 /// A flow's place in its plan, its session's number, and whether it stands in a line.
-#[derive(Debug, Drop)]
+#[derive(Drop)]
 pub struct Place {
     pub local: Local,
     pub session: u64,

@@ -8,7 +8,7 @@ use std::marker::Model;
 use std::sync::Arc;
 
 /// Values, seen as a list.
-#[derive(Debug, Drop)]
+#[derive(Drop)]
 pub struct Carried {
     shared: Arc<List<Value>>,
 }

@@ -20,7 +20,6 @@ use std::alloc::Global;
 use std::marker::Model;
 
 /// One flow's place in a plan, seen as a `Position`: either the flow has just its values, or it is in a state.
-#[derive(Debug)]
 pub struct Local {
     begun: bool,
     stack: Stack,
@@ -44,7 +43,7 @@ impl Model for Local {
 }
 
 /// What a flow does next.
-#[derive(Clone, Copy, Debug, PartialEq, Eq)]
+#[derive(Clone, Copy, Debug)]
 pub enum Next {
     Take(ClassNo, Mode),
     Enter(NodeNo),

@@ -9,7 +9,6 @@ use std::marker::Model;
 use std::sync::Arc;
 
 /// What a flow does from a target on: one segment for each node of a program, by the nodes' numbers.
-#[derive(Debug)]
 pub struct Plan {
     pub target: NodeNo,
     pub segments: Segments,
@@ -22,7 +21,6 @@ impl Drop for Plan {
 }
 
 /// The segments of all nodes, seen as a list. Plans of one program share them.
-#[derive(Debug)]
 pub struct Segments {
     shared: Arc<List<Segment>>,
 }
@@ -75,7 +73,6 @@ impl Segments {
 }
 
 /// What a flow does in one node.
-#[derive(Debug)]
 pub struct Segment {
     pub code: List<Instr>,
     /// The place of `Exit` in the code.
@@ -88,7 +85,6 @@ impl Drop for Segment {
     }
 }
 
-#[derive(Debug)]
 pub enum Instr {
     Take(ClassNo, Mode),
     Enter,
@@ -126,7 +122,6 @@ impl Drop for Instr {
 }
 
 /// A case: its patterns, and the place in the code where its members begin.
-#[derive(Debug)]
 pub struct Arm {
     pub patterns: List<Option<u32>>,
     pub to: u32,

@@ -22,7 +22,7 @@ use std::alloc::Global;
 
 /// A node that was entered, the place of the instruction that comes next in its segment, and the values with which it
 /// was entered.
-#[derive(Debug, Drop)]
+#[derive(Drop)]
 pub struct Frame {
     pub node: NodeNo,
     pub place: u32,
@@ -31,7 +31,7 @@ pub struct Frame {
 
 /// The frames of the nodes that were entered and not left, the outermost first; the values at hand; and how all came
 /// out so far.
-#[derive(Debug, Drop)]
+#[derive(Drop)]
 pub struct Stack {
     pub alloc: Global,
     pub frames: Vec<Frame>,

@@ -7,7 +7,6 @@ use crate::plans::Plan;
 use std::marker::Model;
 
 /// A plan without a faulty place, seen as that plan.
-#[derive(Debug)]
 pub struct VerifiedPlan {
     plan: Plan,
 }
