@@ -10,10 +10,10 @@ use Rattle.flow_model.specs.declared.journals.Outcome.{Outcome}
 use Rattle.flow_model.specs.Events.{IsLive}
 use Rattle.flow_model.specs.Waits.{StandsAt}
 use Rattle.flux_laws.specs.Going.{IsBlocked, CanGoOn}
-use Rattle.flow_waits.specs.Turns.{IsInLine, MakesMove}
-use Rattle.flow_waits.specs.Drains.{DrainsTo}
-use Rattle.rt_event.specs.Round.{EndsTurn, IsOnTurn, HasHadTurn, LooksFrom, HasTurn}
-use Rattle.rt_script.specs.Follow.{Rests, IsTurn}
+use Rattle.flow_orders.specs.Turns.{IsInLine, MakesMove}
+use Rattle.flow_orders.specs.Drains.{DrainsTo}
+use Rattle.flow_orders.specs.Round.{EndsTurn, IsOnTurn, HasHadTurn, LooksFrom, HasTurn}
+use Rattle.flow_orders.specs.Follow.{Rests, IsTurn}
 use Rattle.flow_examples.proofs.Ends.{nothing_past}
 use Rattle.flow_examples.specs.Small.{no, by}
 use Rattle.flow_examples.specs.Orders.{side_by_side, RoundBeginsWithTheFirst, TurnsLast, ListedComeFirst, LowestComesFirst}

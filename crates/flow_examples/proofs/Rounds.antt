@@ -15,8 +15,8 @@ use Rattle.flux_laws.specs.Going.{CanGoOn}
 use Rattle.flux_laws.specs.Moves.{IsMove}
 use Rattle.flux_laws.proofs.Fronts.{fronts_are_legal}
 use Rattle.flux_laws.proofs.LastMoves.{entries_are_moves}
-use Rattle.flow_waits.specs.Turns.{IsBefore, IsFirstFrom}
-use Rattle.rt_event.specs.Round.{HasTurn}
+use Rattle.flow_orders.specs.Turns.{IsBefore, IsFirstFrom}
+use Rattle.flow_orders.specs.Round.{HasTurn}
 use Rattle.flow_examples.proofs.Ends.{nothing_past}
 use Rattle.flow_examples.proofs.Legality.{no_take_next, failed_whole}
 use Rattle.flow_examples.specs.Small.{int, no, called, by}

@@ -3,9 +3,9 @@ use Rattle.std.specs.Prelude.{List, [], ◌∷◌, codes}
 use Rattle.flow_model.specs.declared.journals.Entry.{Entry}
 use Rattle.flow_model.specs.declared.journals.Event.TheVariants.{Enter}
 use Rattle.flow_model.specs.Setup.{Setup}
-use Rattle.flow_waits.specs.Drains.{DrainsTo}
-use Rattle.rt_event.specs.Round.{IsRound}
-use Rattle.rt_script.specs.Follow.{IsFollow}
+use Rattle.flow_orders.specs.Drains.{DrainsTo}
+use Rattle.flow_orders.specs.Round.{IsRound}
+use Rattle.flow_orders.specs.Follow.{IsFollow}
 use Rattle.flow_examples.specs.Small.{no, concrete, none_held, two, by}
 use Rattle.flow_examples.specs.Legality.{failing, failed}
 

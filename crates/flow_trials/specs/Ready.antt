@@ -6,7 +6,7 @@ use Rattle.flux_model.specs.declared.programs.Program.{Program}
 use Rattle.flux_model.specs.declared.items.Item.{Item}
 use Rattle.flux_laws.specs.Growth.{item_size}
 use Rattle.flow_core.specs.States.{CoreState, setup_in, begun_by}
-use Rattle.flux_simulate.specs.Costs.{AreCosts}
+use Rattle.flow_orders.specs.Costs.{AreCosts}
 
 -- a core of these items, whose flows have done nothing
 pub record IsOpened {L : Type 0} (program : Program) (items : List Item) (core : CoreState L) : Type 0 where

@@ -6,8 +6,9 @@ ghost use Rattle.flow_trials.specs.Ready.{CanSimulate};
 
 use crate::readying::{Ready, ready_of};
 use flow_model::Journal;
+use flow_orders::Run;
 use flux_library::Library;
-use flux_simulate::{Run, simulate};
+use flux_simulate::simulate;
 use flux_values::List;
 use nodes_counter::Counter;
 use std::alloc::Global;

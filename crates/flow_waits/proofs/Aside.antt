@@ -26,7 +26,7 @@ use Rattle.flow_state.proofs.Ended.{call-goes_on, not-true}
 use Rattle.flow_state.proofs.Tables.{not-both}
 use Rattle.flow_core.specs.States.{CoreState, setup_in, begun_by, IsKept}
 use Rattle.flow_waits.specs.Idle.{IsIdle, AllAreBlocked}
-use Rattle.flow_waits.specs.Turns.{IsBefore}
+use Rattle.flow_orders.specs.Turns.{IsBefore}
 use Rattle.flow_waits.specs.steps.Staying.{IsFresh}
 use Rattle.flow_waits.specs.steps.Waking.{has, IsMore, IsLess, IsEarliest, Rooms, IsMoreAt}
 use Rattle.flow_waits.specs.steps.Covers.{Pools, rooms_for, IsReady, IsParked, IsBehind, IsInRoom, IsCovered, Covers, Lags, HasRoom, IsPassedOver, Parks, WakesFirst, Wakes, served_of, WakesLine}

@@ -24,7 +24,7 @@ use Rattle.flux_laws.proofs.Standing.{next-unique, standing-next}
 use Rattle.flux_laws.proofs.Lasting.{last-unique}
 use Rattle.flux_laws.proofs.Fronts.{fronts_are_legal}
 use Rattle.flux_laws.proofs.LastMoves.{entries_are_moves}
-use Rattle.flow_waits.specs.Turns.{IsInLine}
+use Rattle.flow_orders.specs.Turns.{IsInLine}
 use Rattle.flow_waits.specs.steps.Staying.{BlockedStay, WritersBlock, FreshAreAlike}
 use Rattle.flow_waits.proofs.Others.{held-stays, free-stays, next-stays, last-stays, last-back}
 

@@ -15,7 +15,7 @@ use Rattle.flux_laws.proofs.Living.{not_all_blocked}
 use Rattle.flux_laws.proofs.Standing.{next-unique}
 use Rattle.flow_state.specs.declared.stops.Stop.{Stop}
 use Rattle.flow_state.specs.Lines.{IsStop}
-use Rattle.flow_waits.specs.Turns.{IsBefore, IsInLine}
+use Rattle.flow_orders.specs.Turns.{IsBefore, IsInLine}
 use Rattle.flow_waits.specs.steps.Staying.{IsFresh}
 use Rattle.flow_waits.specs.steps.Waking.{has, IsLess, IsEarliest, room_at}
 use Rattle.flow_waits.specs.steps.Covers.{Pools, IsReady, IsParked, IsInRoom, IsBehind, IsCovered, Covers, IsChosen, HasRoom, Parks, rooms_for}

@@ -21,9 +21,10 @@ use Rattle.flow_core.specs.Runs.{SameSetting, GoesOnLegally}
 use Rattle.flow_core.proofs.Sequels.{same-setup, same-then, goes-on}
 use Rattle.flow_waits.specs.declared.turns.Turn.{Turn}
 use Rattle.flow_waits.specs.declared.turns.Turn.TheVariants.{Ended, InLine, Waited, Called, Went}
-use Rattle.flow_waits.specs.Turns.{IsFirstFrom, TakesTurn, MakesMove}
-use Rattle.flow_waits.specs.Schedules.{IsAllowed}
-use Rattle.flow_waits.specs.Drains.{IsLowestsTurn, DrainsTo}
+use Rattle.flow_orders.specs.Turns.{IsFirstFrom, MakesMove}
+use Rattle.flow_waits.specs.Turns.{TakesTurn}
+use Rattle.flow_orders.specs.Schedules.{IsAllowed}
+use Rattle.flow_orders.specs.Drains.{IsLowestsTurn, DrainsTo}
 use Rattle.flow_waits.specs.steps.Covers.{Pools, IsReady, Covers, IsChosen, Lags}
 use Rattle.flow_waits.proofs.Orders.{before-from_zero}
 use Rattle.flow_waits.proofs.Schedules.{each-holds, IsScheduling, scheduling-more, scheduled, move-longer}

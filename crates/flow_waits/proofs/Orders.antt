@@ -1,6 +1,6 @@
 -- The order in which flows are looked at.
 use Rattle.std.proofs.Common.{◌<◌, ◌+◌, inl, inr, ℕ, arith}
-use Rattle.flow_waits.specs.Turns.{IsBefore}
+use Rattle.flow_orders.specs.Turns.{IsBefore}
 
 -- no flow comes before itself
 pub before-itself : (from a : ℕ) → IsBefore from a a → ⊥

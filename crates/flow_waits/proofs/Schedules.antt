@@ -12,8 +12,8 @@ use Rattle.flux_laws.specs.Moves.{IsMove}
 use Rattle.flux_laws.proofs.Members.{end_or_front, IsEnd, InFront}
 use Rattle.flux_laws.proofs.Added.{moves_are_legal}
 use Rattle.flux_laws.proofs.Ends.{none_live_is_whole}
-use Rattle.flow_waits.specs.Turns.{MakesMove, EachStands}
-use Rattle.flow_waits.specs.Schedules.{IsAllowed, IsScheduled}
+use Rattle.flow_orders.specs.Turns.{MakesMove, EachStands}
+use Rattle.flow_orders.specs.Schedules.{IsAllowed, IsScheduled}
 use Rattle.flow_waits.proofs.Counting.{most_entries, few-entries}
 
 -- ---- lists of which each entry is as it should be

@@ -10,7 +10,7 @@ use Rattle.std.specs.declared.ops.Bound.TheVariants.{Included, Unbounded}
 use Rattle.std.proofs.lemmas.Bool.{cases_lt, ltb-false, eq-eqb, false≢true}
 use Rattle.std.proofs.lemmas.Map.Keys.{le_from_not_gt}
 use Rattle.flow_model.proofs.Keys.{cmp_eqb}
-use Rattle.flow_waits.specs.Turns.{IsBefore}
+use Rattle.flow_orders.specs.Turns.{IsBefore}
 use Rattle.flow_waits.specs.steps.Waking.{has, IsMore, IsLess, IsEarliest}
 
 abbrev found : List ℕ → ℕ → Bool

@@ -14,7 +14,7 @@ use Rattle.flow_model.specs.Waits.{StandsAt}
 use Rattle.flow_model.specs.Legal.{IsLegal}
 use Rattle.flux_table.specs.declared.locks.Waiter.{Waiter}
 use Rattle.flow_state.specs.Lines.{IsLineAt}
-use Rattle.flow_waits.specs.Turns.{IsInLine}
+use Rattle.flow_orders.specs.Turns.{IsInLine}
 use Rattle.flow_waits.specs.steps.Staying.{IsFresh}
 use Rattle.flow_waits.specs.steps.Covers.{Pools, IsReady, IsParked, IsCovered, Covers, Lags, Wakes, WakesLine}
 use Rattle.flow_waits.proofs.Blocked.{waited-in-line}

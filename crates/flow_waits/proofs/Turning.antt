@@ -21,7 +21,8 @@ use Rattle.flow_core.specs.declared.cores.Step.{Step}
 use Rattle.flow_core.specs.declared.cores.Step.TheVariants.{Ended, Waits, Went}
 use Rattle.flow_core.specs.States.{CoreState, setup_in}
 use Rattle.flow_core.specs.Moves.{HasStepped, HasWaited, AddsWait}
-use Rattle.flow_waits.specs.Turns.{IsPassing, IsInLine, MakesMove}
+use Rattle.flow_orders.specs.Turns.{IsInLine, MakesMove}
+use Rattle.flow_waits.specs.Turns.{IsPassing}
 
 pub end-in : (list : List Event) → list_any is_end list ≡ true → (outcome : Outcome) × In (events.End outcome) list
 end-in [] any = absurd cc

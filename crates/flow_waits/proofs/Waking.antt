@@ -17,7 +17,7 @@ use Rattle.flux_laws.specs.Moves.{IsMove}
 use Rattle.flux_laws.proofs.Standing.{next-unique, standing-next}
 use Rattle.flux_laws.proofs.Fronts.{fronts_are_legal}
 use Rattle.flux_laws.proofs.LastMoves.{entries_are_moves}
-use Rattle.flow_waits.specs.Turns.{IsBefore, IsInLine}
+use Rattle.flow_orders.specs.Turns.{IsBefore, IsInLine}
 use Rattle.flow_waits.specs.steps.Staying.{IsFresh}
 use Rattle.flow_waits.specs.steps.Covers.{Pools, IsReady, IsParked, IsBehind, IsCovered, Covers}
 use Rattle.flow_waits.proofs.Others.{live-back, last-stays, fresh-stays}

@@ -6,7 +6,7 @@ use Rattle.flow_model.specs.declared.journals.Event.TheVariants.{Call}
 use Rattle.flux_model.specs.declared.items.FlowNo.{FlowNo}
 use Rattle.flow_model.specs.Setup.{Setup}
 use Rattle.flow_core.specs.States.{CoreState, JobState, begun_by}
-use Rattle.flow_waits.specs.Turns.{MakesMove}
+use Rattle.flow_orders.specs.Turns.{MakesMove}
 
 -- a job is a flow's begun call
 pub record IsJobOf {L : Type 0} (core : CoreState L) (job : JobState L) : Type 0 where

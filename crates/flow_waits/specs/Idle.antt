@@ -5,7 +5,7 @@ use Rattle.flux_model.specs.declared.items.FlowNo.{FlowNo}
 use Rattle.flow_model.specs.Events.{IsLive}
 use Rattle.flux_laws.specs.Going.{IsBlocked, CanGoOn}
 use Rattle.flow_core.specs.States.{CoreState, setup_in, begun_by}
-use Rattle.flow_waits.specs.Turns.{IsBefore}
+use Rattle.flow_orders.specs.Turns.{IsBefore}
 
 module _ {L : Type 0} (meaning : L → LibraryMeaning) (core : CoreState L) where
   -- a flow can go on, and has no begun call

@@ -5,7 +5,7 @@ ghost use Rattle.flow_model.specs.Events.{IsLive};
 ghost use Rattle.flux_laws.specs.Going.{IsLowest};
 ghost use Rattle.flow_core.specs.States.{setup_in};
 ghost use Rattle.flow_core.specs.Runs.{GoesOnLegally};
-ghost use Rattle.flow_waits.specs.Drains.{DrainsTo};
+ghost use Rattle.flow_orders.specs.Drains.{DrainsTo};
 
 use crate::candidates::Candidates;
 use crate::turns::take_turn;

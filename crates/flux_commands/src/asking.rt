@@ -8,7 +8,6 @@ ghost use Rattle.flux_commands.specs.Commands.{folder_of};
 ghost use Rattle.flux_commands.specs.Answers.{IsAnswer};
 ghost use Rattle.flux_commands.specs.Asked.{HasAsked};
 ghost use Rattle.flux_commands.specs.Refusals.{status_of, line_of};
-ghost use Rattle.flux_commands.specs.Driving.{CanDrive};
 ghost use Rattle.flux_commands.specs.steps.Preparing.{AsksAll, IsRefusedAll};
 ghost use Rattle.flux_commands.specs.Prepared.{PreparesAll, PreparesWords, prepared_status};
 ghost use Rattle.flux_commands.specs.Counts.{CountsBoth};
@@ -16,13 +15,12 @@ ghost use Rattle.flux_commands.specs.Due.{AnswersDue, AnswersWords};
 
 use crate::commands::prepare;
 use crate::documents::{load_docs, share};
+use crate::drivers::Driver;
 use crate::prepared::Prepared;
 use crate::refusals::Refusal;
-use flow_core::Core;
 use flux_outside::{Folder, Store};
-use flux_values::{Bytes, Memory};
-use flux_words::{Asked, Runtime, read_words};
-use nodes_all::All;
+use flux_values::Bytes;
+use flux_words::{Asked, read_words};
 use std::alloc::Global;
 
 /// The folder of documents, where one is named.
@@ -40,15 +38,14 @@ fn dir_of<'a>(wanted: &Asked<'a>) -> Option<&'a [u8]>
 }
 
 /// What a command prints: all of it is made before any of it is written.
-fn prepare_asked<'a, S: Store, F: Folder, D: Fn(Core<All>, Runtime) -> Result<Core<All>, Memory>>(
+fn prepare_asked<'a, S: Store, F: Folder, D: Driver>(
     alloc: Global,
     store: &mut S,
     folder: &mut F,
     driver: &D,
     wanted: Asked<'a>,
 ) -> Result<Prepared, Refusal<'a>>
-    requires driver { CanDrive (D.pre driver.now) (D.post driver.now) }
-    requires printed { IsServe (asked wanted) → ⊥ }
+    requires { IsServe (asked wanted) → ⊥ }
     ensures kept { S.files store.new ≡ S.files store.old }
     ensures kept_folders { F.folders folder.new ≡ F.folders folder.old }
     ensures later { S.faults store.old ≤ S.faults store.new }
@@ -73,20 +70,14 @@ fn prepare_asked<'a, S: Store, F: Folder, D: Fn(Core<All>, Runtime) -> Result<Co
 }
 
 /// What the words print.
-pub fn prepare_words<
-    'a,
-    S: Store,
-    F: Folder,
-    D: Fn(Core<All>, Runtime) -> Result<Core<All>, Memory>,
->(
+pub fn prepare_words<'a, S: Store, F: Folder, D: Driver>(
     alloc: Global,
     store: &mut S,
     folder: &mut F,
     driver: &D,
     words: &'a [Bytes],
 ) -> Result<Prepared, Refusal<'a>>
-    requires driver { CanDrive (D.pre driver.now) (D.post driver.now) }
-    requires printed { (command : Command) → Spells words.now command → IsServe command → ⊥ }
+    requires { (command : Command) → Spells words.now command → IsServe command → ⊥ }
     ensures kept { S.files store.new ≡ S.files store.old }
     ensures kept_folders { F.folders folder.new ≡ F.folders folder.old }
     ensures later { S.faults store.old ≤ S.faults store.new }

@@ -8,23 +8,22 @@ ghost use Rattle.flux_commands.specs.BuiltIn.{meaning_in};
 ghost use Rattle.flux_commands.specs.Told.{Files};
 ghost use Rattle.flux_commands.specs.Printed.{help_text};
 ghost use Rattle.flux_commands.specs.steps.Refusals.{Counts, IsRefused};
-ghost use Rattle.flux_commands.specs.Driving.{CanDrive};
 ghost use Rattle.flux_commands.specs.steps.Preparing.{run_of, simulate_of, AsksFiles, IsPrepared, IsFirm};
 ghost use Rattle.flux_commands.specs.Prepared.{prepared_status};
 
 use crate::audited::{audit_text, swarm_text};
+use crate::drivers::Driver;
 use crate::files::{JOURNAL_FILE_LIMIT, PROGRAM_FILE_LIMIT, load};
 use crate::loaded::{Loaded, load_files, load_program, load_texts};
 use crate::prepared::Prepared;
 use crate::refusals::Refusal;
 use crate::running::{Wanted, run_items};
 use crate::texts::read_text;
-use flow_core::Core;
 use flux_hoist::{print_plan, report};
 use flux_library::Library;
 use flux_load::make;
 use flux_outside::Store;
-use flux_runs::{Printing, simulate_items};
+use flux_runs::Printing;
 use flux_syntax::format;
 use flux_values::{Bytes, Memory};
 use flux_words::{Asked, Costs, JournalFormat, Processors, Runtime};
@@ -109,7 +108,7 @@ fn prepare_format<'a, L: Library, S: Store>(
 }
 
 /// The journal that `run` prints.
-fn prepare_run<'a, S: Store, D: Fn(Core<All>, Runtime) -> Result<Core<All>, Memory>>(
+fn prepare_run<'a, S: Store, D: Driver>(
     alloc: Global,
     library: Arc<All>,
     store: &mut S,
@@ -119,7 +118,6 @@ fn prepare_run<'a, S: Store, D: Fn(Core<All>, Runtime) -> Result<Core<All>, Memo
     runtime: Runtime,
     journal: JournalFormat,
 ) -> Result<Prepared, Refusal<'a>>
-    requires { CanDrive (D.pre driver.now) (D.post driver.now) }
     ensures kept { S.files store.new ≡ S.files store.old }
     ensures later { S.faults store.old ≤ S.faults store.new }
     ensures asked { (docs : Option (List ℕ)) → AsksFiles (meaning_in (arc_value library))
@@ -171,7 +169,7 @@ fn prepare_audit<'a, L: Library, S: Store>(
 }
 
 /// The summary that `load` prints.
-fn prepare_load<'a, D: Fn(Core<All>, Runtime) -> Result<Core<All>, Memory>>(
+fn prepare_load<'a, D: Driver>(
     alloc: Global,
     library: Arc<All>,
     driver: &D,
@@ -179,7 +177,6 @@ fn prepare_load<'a, D: Fn(Core<All>, Runtime) -> Result<Core<All>, Memory>>(
     first: u32,
     runtime: Runtime,
 ) -> Result<Prepared, Refusal<'a>>
-    requires { CanDrive (D.pre driver.now) (D.post driver.now) }
     ensures done { (told : Files) → IfOk result (IsPrepared (meaning_in (arc_value library))
         (load count first runtime) told) }
     ensures refused { (told : Files) → IfErr result (IsRefused (meaning_in (arc_value library))
@@ -197,10 +194,11 @@ fn prepare_load<'a, D: Fn(Core<All>, Runtime) -> Result<Core<All>, Memory>>(
 }
 
 /// The three lines that `simulate` prints.
-fn prepare_simulation<'a, L: Library, S: Store>(
+fn prepare_simulation<'a, S: Store, D: Driver>(
     alloc: Global,
-    library: Arc<L>,
+    library: Arc<All>,
     store: &mut S,
+    driver: &D,
     file: &'a [u8],
     items: &'a [u8],
     processors: Processors,
@@ -208,20 +206,20 @@ fn prepare_simulation<'a, L: Library, S: Store>(
 ) -> Result<Prepared, Refusal<'a>>
     ensures kept { S.files store.new ≡ S.files store.old }
     ensures later { S.faults store.old ≤ S.faults store.new }
-    ensures asked { (docs : Option (List ℕ)) → AsksFiles (L.meaning (arc_value library))
+    ensures asked { (docs : Option (List ℕ)) → AsksFiles (meaning_in (arc_value library))
         (simulate_of file.now items.now processors.count costs.list docs) (S.files store.old)
         (S.asked store.old) (S.asked store.new) }
-    ensures done { (docs : Option (List ℕ)) → IfOk result (IsPrepared (L.meaning (arc_value library))
+    ensures done { (docs : Option (List ℕ)) → IfOk result (IsPrepared (meaning_in (arc_value library))
         (simulate_of file.now items.now processors.count costs.list docs) (S.files store.old)) }
-    ensures refused { (docs : Option (List ℕ)) → IfErr result (IsRefused (L.meaning (arc_value library))
+    ensures refused { (docs : Option (List ℕ)) → IfErr result (IsRefused (meaning_in (arc_value library))
         (simulate_of file.now items.now processors.count costs.list docs) (S.files store.old)) }
     ensures counts { Counts result (S.faults store.old) (S.faults store.new) }
-    ensures firm { (docs : Option (List ℕ)) → IsFirm (L.meaning (arc_value library))
+    ensures firm { (docs : Option (List ℕ)) → IsFirm (meaning_in (arc_value library))
         (simulate_of file.now items.now processors.count costs.list docs) (S.files store.old)
         (prepared_status result) }
 {
     let loaded = load_files(alloc, &*library, store, file, items)?;
-    let text = simulate_items(
+    let text = driver.simulate(
         alloc,
         library,
         loaded.checked,
@@ -270,15 +268,14 @@ fn prepare_help(alloc: Global) -> Result<Bytes, Memory>
 }
 
 /// What a command prints, with a library.
-pub fn prepare<'a, S: Store, D: Fn(Core<All>, Runtime) -> Result<Core<All>, Memory>>(
+pub fn prepare<'a, S: Store, D: Driver>(
     alloc: Global,
     library: Arc<All>,
     store: &mut S,
     driver: &D,
     wanted: Asked<'a>,
 ) -> Result<Prepared, Refusal<'a>>
-    requires driver { CanDrive (D.pre driver.now) (D.post driver.now) }
-    requires printed { IsServe (asked wanted) → ⊥ }
+    requires { IsServe (asked wanted) → ⊥ }
     ensures kept { S.files store.new ≡ S.files store.old }
     ensures later { S.faults store.old ≤ S.faults store.new }
     ensures asked { AsksFiles (meaning_in (arc_value library)) (asked wanted.entry)
@@ -322,7 +319,9 @@ pub fn prepare<'a, S: Store, D: Fn(Core<All>, Runtime) -> Result<Core<All>, Memo
             processors,
             costs,
             docs: _,
-        } => prepare_simulation(alloc, library, store, file, items, processors, costs),
+        } => prepare_simulation(
+            alloc, library, store, driver, file, items, processors, costs,
+        ),
         Asked::Swarm {
             file,
             items,

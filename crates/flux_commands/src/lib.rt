@@ -3,13 +3,14 @@
 //! `prepare_words` reads the words, the documents and the files, and makes all of the text that a command prints, or the
 //! refusal of it; `ready_words` makes a program ready that is to be served. They promise what was asked for, that what is
 //! prepared is what the command prints, that each refusal has its cause, that counts rise where reading failed alone, and
-//! that what is due is answered. A run's flows are driven as the caller likes: alone, or by threads.
+//! that what is due is answered. A run's flows are driven as the caller's `Driver` does.
 #![tactic(auto)]
 
 mod asking;
 mod audited;
 mod commands;
 mod documents;
+mod drivers;
 mod files;
 mod loaded;
 mod prepared;
@@ -21,8 +22,8 @@ mod statuses;
 mod texts;
 
 pub use asking::prepare_words;
+pub use drivers::Driver;
 pub use prepared::Prepared;
 pub use refusals::Refusal;
-pub use running::{drive_alone, drive_by_threads};
 pub use services::{Ready, Service, ready_words};
 pub use statuses::Status;

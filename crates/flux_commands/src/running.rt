@@ -7,10 +7,11 @@ ghost use Rattle.flux_cells.specs.Kept.{cells_of};
 ghost use Rattle.flow_core.specs.States.{setup_in};
 ghost use Rattle.flux_runs.specs.Opening.{CanRun};
 ghost use Rattle.flux_commands.specs.BuiltIn.{meaning_in};
-ghost use Rattle.flux_commands.specs.Driving.{IsDriven, DrivesTo, CanDrive};
+ghost use Rattle.flux_commands.specs.Driving.{IsDriven};
 ghost use Rattle.flux_commands.specs.steps.Running.{IsRun};
 
-use flow_core::{Core, Gate};
+use crate::drivers::Driver;
+use flow_core::Core;
 use flow_model::Journal;
 use flux_cells::Cells;
 use flux_hoist::Checked;
@@ -20,11 +21,8 @@ use flux_runs::{Printing, open, print};
 use flux_values::{Bytes, List, Memory};
 use flux_words::Runtime;
 use nodes_all::All;
-use rt_all::Chosen;
 use std::alloc::Global;
-use std::marker::{Send, Sync};
-use std::sync::{Arc, Wait};
-use std::thread::Threads;
+use std::sync::Arc;
 
 /// How items are run, and what is printed of the run.
 #[derive(Drop)]
@@ -33,57 +31,25 @@ pub struct Wanted {
     pub printing: Printing,
 }
 
-/// A core without entries, driven to its end on the thread that calls.
-pub fn drive_alone<L: Library, G: Gate>(
-    core: Core<L>,
-    runtime: Runtime,
-    gate: &G,
-) -> Result<Core<L>, Memory>
-    requires { core.entries ≡ [] }
-    ensures { IfOk result (DrivesTo L.meaning runtime core) }
-{
-    match Chosen::by(runtime).drive_alone(core, gate) {
-        Ok(core) => Ok(core),
-        Err(_) => Err(Memory),
-    }
-}
-
-/// A core without entries, driven to its end by threads where the runtime starts some.
-pub fn drive_by_threads<L: Library + Send + Sync, G: Gate + Sync, Rt: Threads + Wait + Sync>(
-    rt: &Rt,
-    core: Core<L>,
-    runtime: Runtime,
-    gate: &G,
-) -> Result<Core<L>, Memory>
-    requires { core.entries ≡ [] }
-    ensures { IfOk result (DrivesTo L.meaning runtime core) }
-{
-    match Chosen::by(runtime).drive_by_threads(rt, core, gate) {
-        Ok(core) => Ok(core),
-        Err(_) => Err(Memory),
-    }
-}
-
 /// The journal of a core that is driven to its end, and its cells then.
-fn drive<D: Fn(Core<All>, Runtime) -> Result<Core<All>, Memory>>(
+fn drive<D: Driver>(
     core: Core<All>,
     runtime: Runtime,
     driver: &D,
 ) -> Result<(Journal, Cells), Memory>
-    requires empty { core.entries ≡ [] }
-    requires drives { CanDrive (D.pre driver.now) (D.post driver.now) }
+    requires { core.entries ≡ [] }
     ensures driven { IfOk result (λ ended. IsDriven (setup_in meaning_in core) runtime ended.0.entries) }
     ensures cells { IfOk result (λ ended. cells_of ended.1
         ≡ cells_after (setup_in meaning_in core) ended.0.entries) }
 {
-    match driver(core, runtime) {
+    match driver.drive(core, runtime) {
         Ok(core) => Ok(core.into_parts()),
         Err(_) => Err(Memory),
     }
 }
 
 /// What is printed of the run of items.
-pub fn run_items<D: Fn(Core<All>, Runtime) -> Result<Core<All>, Memory>>(
+pub fn run_items<D: Driver>(
     alloc: Global,
     library: Arc<All>,
     checked: Checked,
@@ -91,8 +57,7 @@ pub fn run_items<D: Fn(Core<All>, Runtime) -> Result<Core<All>, Memory>>(
     wanted: Wanted,
     driver: &D,
 ) -> Result<Bytes, Memory>
-    requires can { CanRun (meaning_in (arc_value library)) checked.program items }
-    requires drives { CanDrive (D.pre driver.now) (D.post driver.now) }
+    requires { CanRun (meaning_in (arc_value library)) checked.program items }
     ensures { IfOk result (IsRun (meaning_in (arc_value library)) checked.program items wanted) }
 {
     let flows = items.len() as u32;

@@ -1,6 +1,7 @@
 pub mod Steps
 pub mod Answered
 pub mod Told
+pub mod Driven
 pub mod Serves
 pub mod ServedBy
 pub mod ServedDone

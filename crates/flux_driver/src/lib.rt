@@ -6,6 +6,7 @@
 //! written, or a program that is ready is served.
 #![tactic(auto)]
 
+mod drivers;
 mod outermost;
 mod serving;
 mod telling;

@@ -1,6 +1,1 @@
 mod Assembled
-mod GivenCosts
-mod Areas
-mod Ends
-mod Made
-mod Ready

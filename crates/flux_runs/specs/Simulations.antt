@@ -5,11 +5,11 @@ use Rattle.flux_model.specs.declared.programs.Program.{Program}
 use Rattle.flow_model.specs.declared.journals.Entry.{Entry}
 use Rattle.flow_model.specs.Setup.{Setup}
 use Rattle.flow_model.specs.Legal.{IsLegal, IsWhole}
-use Rattle.flux_simulate.specs.declared.runs.Run.{Run}
-use Rattle.flux_simulate.specs.Ticks.{timed}
-use Rattle.flux_simulate.specs.Runs.{IsOneRunACall, NeverMoreRuns, sum_of_costs}
-use Rattle.flux_simulate.specs.Rule.{IsByTheRule}
-use Rattle.flux_simulate.specs.Idle.{NeverIdleForNothing}
+use Rattle.flow_orders.specs.declared.runs.Run.{Run}
+use Rattle.flow_orders.specs.Ticks.{timed}
+use Rattle.flow_orders.specs.Runs.{IsOneRunACall, NeverMoreRuns, sum_of_costs}
+use Rattle.flow_orders.specs.Rule.{IsByTheRule}
+use Rattle.flow_orders.specs.Idle.{NeverIdleForNothing}
 
 -- what the calls of so many nodes cost: what is given for them in order, and 1 for each node behind that; what is given
 -- for no node is passed over

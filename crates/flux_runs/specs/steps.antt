@@ -1,3 +1,2 @@
 -- Mirrors of what the code does step by step. No public clause cites them.
 pub mod Parts
-pub mod Work

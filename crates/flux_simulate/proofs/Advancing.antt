@@ -7,11 +7,11 @@ use Rattle.flux_values.specs.Meanings.{LibraryMeaning}
 use Rattle.flow_model.specs.Setup.{Setup}
 use Rattle.flow_model.specs.Events.{IsLive}
 use Rattle.flow_core.specs.States.{CoreState, setup_in, IsKept}
-use Rattle.flux_simulate.specs.declared.runs.Run.{Run}
+use Rattle.flow_orders.specs.declared.runs.Run.{Run}
 use Rattle.flux_simulate.specs.declared.clock.Clock.{Clock}
-use Rattle.flux_simulate.specs.Ticks.{Timed, timed, until}
-use Rattle.flux_simulate.specs.Runs.{running_at}
-use Rattle.flux_simulate.specs.Rule.{IsSettled}
+use Rattle.flow_orders.specs.Ticks.{Timed, timed, until}
+use Rattle.flow_orders.specs.Runs.{running_at}
+use Rattle.flow_orders.specs.Rule.{IsSettled}
 use Rattle.flux_simulate.specs.steps.Changes.{StopsNoLater}
 use Rattle.flux_simulate.specs.steps.Ticking.{IsOver, IsOn, AllLast, Ticks, IsCallUnder, Finishes, Rests}
 use Rattle.flux_simulate.proofs.Journals.{at_tick-none}

@@ -12,11 +12,11 @@ use Rattle.flow_model.specs.declared.journals.Event.TheVariants.{Take, Wait, Ent
 use Rattle.flux_laws.specs.Growth.{item_size, flow_size, sum_below}
 use Rattle.flow_core.specs.States.{CoreState, setup_in, IsKept}
 use Rattle.flow_waits.proofs.Counting.{few-entries}
-use Rattle.flux_simulate.specs.declared.runs.Run.{Run}
+use Rattle.flow_orders.specs.declared.runs.Run.{Run}
 use Rattle.flux_simulate.specs.declared.clock.Clock.{Clock}
-use Rattle.flux_simulate.specs.Costs.{cost_of}
-use Rattle.flux_simulate.specs.Ticks.{timed}
-use Rattle.flux_simulate.specs.Runs.{end_of, ends_by, ends_in, sum_of_costs}
+use Rattle.flow_orders.specs.Costs.{cost_of}
+use Rattle.flow_orders.specs.Ticks.{timed}
+use Rattle.flow_orders.specs.Runs.{end_of, ends_by, ends_in, sum_of_costs}
 use Rattle.flux_simulate.specs.steps.Calls.{AreSmall}
 use Rattle.flux_simulate.specs.steps.Ticking.{IsOn, Lasts, AllLast, Ticks}
 use Rattle.flux_simulate.proofs.Tallies.{all-map, all-both, sum-same, sum-most}

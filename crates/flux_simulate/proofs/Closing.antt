@@ -12,12 +12,12 @@ use Rattle.flux_laws.specs.Going.{IsBlocked}
 use Rattle.flux_laws.proofs.Ends.{none_live_is_whole}
 use Rattle.flux_laws.proofs.Living.{not_all_blocked}
 use Rattle.flow_core.specs.States.{CoreState, setup_in, IsKept}
-use Rattle.flux_simulate.specs.declared.runs.Run.{Run}
+use Rattle.flow_orders.specs.declared.runs.Run.{Run}
 use Rattle.flux_simulate.specs.declared.clock.Clock.{Clock}
-use Rattle.flux_simulate.specs.Ticks.{Timed, timed, until, last_tick}
-use Rattle.flux_simulate.specs.Runs.{running_at, running_of, NeverMoreRuns, IsOneRunACall, sum_of_costs}
-use Rattle.flux_simulate.specs.Rule.{IsSettled, AreSettled, IsByTheRule}
-use Rattle.flux_simulate.specs.Idle.{NeverIdleForNothing}
+use Rattle.flow_orders.specs.Ticks.{Timed, timed, until, last_tick}
+use Rattle.flow_orders.specs.Runs.{running_at, running_of, NeverMoreRuns, IsOneRunACall, sum_of_costs}
+use Rattle.flow_orders.specs.Rule.{IsSettled, AreSettled, IsByTheRule}
+use Rattle.flow_orders.specs.Idle.{NeverIdleForNothing}
 use Rattle.flux_simulate.specs.steps.Ticking.{AllLast, runs_of, Ticks, Rests}
 use Rattle.flux_simulate.proofs.Settling.{at-now, of-now, stands, few-now, settled-now}
 use Rattle.flux_simulate.proofs.Bounds.{took-cost}

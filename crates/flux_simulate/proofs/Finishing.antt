@@ -16,11 +16,11 @@ use Rattle.flow_state.proofs.Sets.{get-replaced, get-replaced_other}
 use Rattle.flow_core.specs.States.{CoreState, setup_in, begun_by}
 use Rattle.flow_core.specs.Moves.{with_entry, with_begun}
 use Rattle.flow_waits.specs.steps.Waking.{has}
-use Rattle.flux_simulate.specs.declared.runs.Run.{Run}
+use Rattle.flow_orders.specs.declared.runs.Run.{Run}
 use Rattle.flux_simulate.specs.declared.clock.Clock.{Clock}
-use Rattle.flux_simulate.specs.Ticks.{Timed, timed, until, at_tick}
-use Rattle.flux_simulate.specs.Runs.{CallEnd, end_of, ends_in}
-use Rattle.flux_simulate.specs.Rule.{IsCallBelow}
+use Rattle.flow_orders.specs.Ticks.{Timed, timed, until, at_tick}
+use Rattle.flow_orders.specs.Runs.{CallEnd, end_of, ends_in}
+use Rattle.flow_orders.specs.Rule.{IsCallBelow}
 use Rattle.flux_simulate.specs.steps.Changes.{StopsNoLater}
 use Rattle.flux_simulate.specs.steps.Calls.{EndsBegun}
 use Rattle.flux_simulate.specs.steps.Ticking.{IsTimed, IsOver, IsOn, AreRuns, ArePast, Lasts, AllLast, one_if, runs_of, IsOfNode, RunOrWait, Ticks, IsCallUnder, Finishes}

@@ -8,7 +8,7 @@ use Rattle.flux_laws.specs.Growth.{item_size}
 use Rattle.flow_state.specs.States.{SetupState, setup_by}
 use Rattle.flow_core.specs.States.{CoreState, setup_in}
 use Rattle.flow_core.specs.Runs.{GoesOn, LeavesOthers}
-use Rattle.flux_simulate.specs.Costs.{AreCosts}
+use Rattle.flow_orders.specs.Costs.{AreCosts}
 use Rattle.flux_simulate.specs.steps.Calls.{AreSmall}
 use Rattle.flux_simulate.specs.steps.Ticking.{GoesFurther}
 

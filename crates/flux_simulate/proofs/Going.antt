@@ -24,9 +24,9 @@ use Rattle.flow_waits.specs.steps.Waking.{has, IsMore}
 use Rattle.flow_waits.proofs.Orders.{before-from_zero}
 use Rattle.flow_waits.proofs.Turning.{passing}
 use Rattle.flux_simulate.specs.declared.clock.Clock.{Clock}
-use Rattle.flux_simulate.specs.Ticks.{Timed, timed, until}
-use Rattle.flux_simulate.specs.Runs.{CallEnd, ends_in}
-use Rattle.flux_simulate.specs.Rule.{GoesAlone, IsLowestAlone}
+use Rattle.flow_orders.specs.Ticks.{Timed, timed, until}
+use Rattle.flow_orders.specs.Runs.{CallEnd, ends_in}
+use Rattle.flow_orders.specs.Rule.{GoesAlone, IsLowestAlone}
 use Rattle.flux_simulate.specs.steps.Calls.{HasStarted}
 use Rattle.flux_simulate.specs.steps.Ticking.{AreRuns, ArePast, one_if, runs_of, IsOfNode, RunOrWait, Ticks, Goes}
 use Rattle.flux_simulate.proofs.Journals.{timed-more, entries-of, until-later, ends-more, no-ends}

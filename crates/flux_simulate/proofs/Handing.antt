@@ -5,12 +5,12 @@ use Rattle.flow_model.specs.declared.journals.Entry.{Entry}
 use Rattle.flow_model.specs.Setup.{Setup}
 use Rattle.flow_core.specs.States.{CoreState, setup_in, IsKept}
 use Rattle.flow_core.specs.Runs.{GoesToEnd}
-use Rattle.flux_simulate.specs.declared.runs.Run.{Run}
+use Rattle.flow_orders.specs.declared.runs.Run.{Run}
 use Rattle.flux_simulate.specs.declared.clock.Clock.{Clock}
-use Rattle.flux_simulate.specs.Ticks.{timed, last_tick}
-use Rattle.flux_simulate.specs.Runs.{NeverMoreRuns, IsOneRunACall, sum_of_costs}
-use Rattle.flux_simulate.specs.Rule.{IsByTheRule}
-use Rattle.flux_simulate.specs.Idle.{NeverIdleForNothing}
+use Rattle.flow_orders.specs.Ticks.{timed, last_tick}
+use Rattle.flow_orders.specs.Runs.{NeverMoreRuns, IsOneRunACall, sum_of_costs}
+use Rattle.flow_orders.specs.Rule.{IsByTheRule}
+use Rattle.flow_orders.specs.Idle.{NeverIdleForNothing}
 use Rattle.flux_simulate.specs.steps.Calls.{AreSmall}
 use Rattle.flux_simulate.specs.steps.Ticking.{AllLast, Rests, GoesFurther}
 use Rattle.flux_simulate.proofs.Closing.{whole, one-run, by-the-rule, never-more, never-idle, bounded}

@@ -11,9 +11,9 @@ use Rattle.flow_model.specs.declared.journals.Event.TheVariants.{Take, Wait, Ent
 use Rattle.flow_model.specs.Setup.{Setup}
 use Rattle.flow_waits.specs.Turns.{IsPassing}
 use Rattle.flux_laws.proofs.Members.{end_or_front, IsEnd, InFront}
-use Rattle.flux_simulate.specs.Ticks.{Timed, timed, chosen, until, at_tick}
-use Rattle.flux_simulate.specs.Runs.{CallEnd, ends_by, ends_in}
-use Rattle.flux_simulate.specs.Rule.{IsTurnAt, ComeInTurn}
+use Rattle.flow_orders.specs.Ticks.{Timed, timed, chosen, until, at_tick}
+use Rattle.flow_orders.specs.Runs.{CallEnd, ends_by, ends_in}
+use Rattle.flow_orders.specs.Rule.{IsTurnAt, ComeInTurn}
 
 -- ---- one entry more
 

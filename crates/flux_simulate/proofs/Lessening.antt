@@ -9,7 +9,7 @@ use Rattle.flow_state.specs.declared.inputs.Inputs.{Inputs}
 use Rattle.flow_state.specs.States.{SetupState}
 use Rattle.flow_core.specs.States.{CoreState, setup_in, IsKept}
 use Rattle.flow_waits.proofs.Counting.{most_entries, few-entries}
-use Rattle.flux_simulate.specs.declared.runs.Run.{Run}
+use Rattle.flow_orders.specs.declared.runs.Run.{Run}
 use Rattle.flux_simulate.specs.steps.Changes.{IsOut}
 use Rattle.flux_simulate.specs.steps.Calls.{begun_count, HasStarted}
 use Rattle.flux_simulate.specs.steps.Ticking.{one_if, GoesFurther}

@@ -8,7 +8,7 @@ use Rattle.flux_values.specs.Meanings.{LibraryMeaning}
 use Rattle.flux_laws.specs.Growth.{IsNoWait}
 use Rattle.flow_state.specs.declared.inputs.Inputs.{Inputs}
 use Rattle.flow_core.specs.States.{CoreState, setup_in, begun_by}
-use Rattle.flux_simulate.specs.declared.runs.Run.{Run}
+use Rattle.flow_orders.specs.declared.runs.Run.{Run}
 use Rattle.flux_simulate.specs.declared.clock.Clock.{Clock}
 use Rattle.flux_simulate.specs.steps.Ticking.{one_if, Lasts, AllLast, AllStandStill, Goes, Begins}
 use Rattle.flux_simulate.proofs.Journals.{turns-none}

@@ -5,10 +5,10 @@ use Rattle.std.proofs.lemmas.Bool.{ne_eqb, and_left, and_right}
 use Rattle.flow_model.specs.declared.journals.Entry.{Entry}
 use Rattle.flow_model.specs.Setup.{Setup}
 use Rattle.flow_model.specs.Events.{IsLive}
-use Rattle.flux_simulate.specs.declared.runs.Run.{Run}
-use Rattle.flux_simulate.specs.Ticks.{Timed, until}
-use Rattle.flux_simulate.specs.Runs.{covers, running_at, running_of, starting_from}
-use Rattle.flux_simulate.specs.Rule.{IsPassedOver, IsSettled}
+use Rattle.flow_orders.specs.declared.runs.Run.{Run}
+use Rattle.flow_orders.specs.Ticks.{Timed, until}
+use Rattle.flow_orders.specs.Runs.{covers, running_at, running_of, starting_from}
+use Rattle.flow_orders.specs.Rule.{IsPassedOver, IsSettled}
 use Rattle.flux_simulate.specs.steps.Ticking.{ArePast}
 use Rattle.flux_simulate.proofs.Tallies.{count_one, sum-moved, sum-behind, covers-before}
 

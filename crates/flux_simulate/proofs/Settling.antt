@@ -12,11 +12,11 @@ use Rattle.flux_laws.specs.Going.{IsAtCall}
 use Rattle.flow_state.specs.declared.inputs.Inputs.{Inputs}
 use Rattle.flow_core.specs.States.{CoreState, setup_in, begun_by, IsKept}
 use Rattle.flow_waits.specs.steps.Waking.{has}
-use Rattle.flux_simulate.specs.declared.runs.Run.{Run}
+use Rattle.flow_orders.specs.declared.runs.Run.{Run}
 use Rattle.flux_simulate.specs.declared.clock.Clock.{Clock}
-use Rattle.flux_simulate.specs.Ticks.{timed, until}
-use Rattle.flux_simulate.specs.Runs.{covers, running_at, running_of, starting_from}
-use Rattle.flux_simulate.specs.Rule.{IsSettled}
+use Rattle.flow_orders.specs.Ticks.{timed, until}
+use Rattle.flow_orders.specs.Runs.{covers, running_at, running_of, starting_from}
+use Rattle.flow_orders.specs.Rule.{IsSettled}
 use Rattle.flux_simulate.specs.steps.Ticking.{IsOn, one_if, runs_of, Rests}
 use Rattle.flux_simulate.proofs.Journals.{until-all}
 use Rattle.flux_simulate.proofs.Tallies.{count_one, all-map, all-both, count-none, covers-on, ended-at, ended-of, ended-from, on-at, on-of}

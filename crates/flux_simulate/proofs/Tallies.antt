@@ -3,8 +3,8 @@ use Rattle.std.proofs.Common.{◌≡◌, ◌<◌, ◌≤◌, ◌+◌, ◌*◌, �
 use Rattle.std.specs.List.{count_by, sum_by, AllByRecursion}
 use Rattle.std.proofs.lemmas.Bool.{eqb-false, eq-eqb, ne_eqb, le-leb, lt-leb, lt-ltb, le-ltb, cases_Bool, and_from, and_left, and_right}
 use Rattle.std.proofs.lemmas.List.Sums.{sum_by-cons, sum_by-append, sum_by_push}
-use Rattle.flux_simulate.specs.declared.runs.Run.{Run}
-use Rattle.flux_simulate.specs.Runs.{covers, running_at, running_of, starting_from}
+use Rattle.flow_orders.specs.declared.runs.Run.{Run}
+use Rattle.flow_orders.specs.Runs.{covers, running_at, running_of, starting_from}
 use Rattle.flux_simulate.specs.steps.Ticking.{IsOver, runs_of}
 
 -- ---- what each keeps

@@ -10,8 +10,8 @@ use Rattle.flow_model.specs.declared.journals.Event.{Event}
 use Rattle.flow_model.specs.Setup.{Setup}
 use Rattle.flux_laws.specs.Growth.{IsNoWait}
 use Rattle.flux_laws.proofs.Members.{all-more}
-use Rattle.flux_simulate.specs.Ticks.{timed}
-use Rattle.flux_simulate.specs.Rule.{IsTurnAt, ComeInTurn}
+use Rattle.flow_orders.specs.Ticks.{timed}
+use Rattle.flow_orders.specs.Rule.{IsTurnAt, ComeInTurn}
 use Rattle.flux_simulate.specs.steps.Ticking.{IsTimed}
 use Rattle.flux_simulate.proofs.Journals.{timed-more, turns-more}
 

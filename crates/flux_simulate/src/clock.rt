@@ -3,8 +3,8 @@
 ghost use Rattle.std.specs.Prelude.{◌≡◌, ◌∷◌, ◌++◌, [], OnOk, OnErr};
 
 use crate::processors::Running;
-use crate::runs::Run;
 use crate::waiting::Waiting;
+use flow_orders::Run;
 use flux_values::{List, Memory};
 use std::alloc::Global;
 

@@ -3,7 +3,7 @@
 ghost use Rattle.std.specs.Prelude.{◌≡◌, ◌<◌, ◌∷◌, ◌++◌, [], length, OnOk, OnErr, MatchOption, IsTrue, ◌↔◌};
 ghost use Rattle.flux_simulate.specs.steps.Changes.{StopsBefore, IsFirstOf, TakesNext, TakesDue};
 
-use crate::runs::Run;
+use flow_orders::Run;
 use flux_values::Memory;
 use std::alloc::Global;
 use std::marker::Model;
@@ -16,7 +16,7 @@ pub struct Running {
 
 impl Model for Running {
     ghost use Rattle.std.specs.Prelude.{List};
-    ghost use Rattle.flux_simulate.specs.declared.runs.Run.{Run};
+    ghost use Rattle.flow_orders.specs.declared.runs.Run.{Run};
 
     ghost Value = { List Run };
 

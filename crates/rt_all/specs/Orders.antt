@@ -5,8 +5,8 @@ use Rattle.flow_model.specs.declared.journals.Entry.{Entry}
 use Rattle.flow_model.specs.Setup.{Setup}
 use Rattle.flux_words.specs.declared.values.Runtime.{Runtime}
 use Rattle.flux_words.specs.declared.values.Runtime.TheVariants as words
-use Rattle.rt_event.specs.Round.{IsRound}
-use Rattle.rt_script.specs.Follow.{IsFollow}
+use Rattle.flow_orders.specs.Round.{IsRound}
+use Rattle.flow_orders.specs.Follow.{IsFollow}
 use Rattle.rt_all.specs.declared.chosen.Chosen.{Chosen}
 use Rattle.rt_all.specs.declared.chosen.Chosen.TheVariants.{Event, Script, PerFlow, Pool}
 
@@ -34,7 +34,3 @@ IsOrderAlone (Event runtime) setup old new = IsRound setup old new
 IsOrderAlone (Script runtime) setup old new = IsFollow setup old runtime.numbers new
 IsOrderAlone (PerFlow runtime) setup old new = IsRound setup old new
 IsOrderAlone (Pool runtime) setup old new = IsRound setup old new
-
--- the order of the runtime that the words name
-abbrev pub IsOrderOf : Runtime → Setup → List Entry → List Entry → Type 0
-IsOrderOf runtime = IsOrder (chosen_by runtime)

@@ -11,10 +11,11 @@ use Rattle.flow_model.specs.Waits.{IsLast}
 use Rattle.flux_laws.specs.Growth.{is_end, has_ended}
 use Rattle.flux_laws.proofs.OwnEvents.{events_by-append, by_itself}
 use Rattle.flux_laws.proofs.Lasting.{last-unique}
-use Rattle.flow_waits.specs.Turns.{IsPassing, IsInLine, MakesMove}
+use Rattle.flow_orders.specs.Turns.{IsInLine, MakesMove}
+use Rattle.flow_waits.specs.Turns.{IsPassing}
 use Rattle.flow_waits.proofs.Turning.{ended-over}
 use Rattle.flow_waits.proofs.Ending.{live-is}
-use Rattle.rt_event.specs.Round.{EndsTurn}
+use Rattle.flow_orders.specs.Round.{EndsTurn}
 use Rattle.rt_event.specs.steps.Owners.{IsOver, MakesOwn}
 
 any-push : (p : Event → Bool) (list : List Event) (event : Event)

@@ -11,12 +11,12 @@ use Rattle.flux_laws.proofs.Ends.{none_live_is_whole}
 use Rattle.flow_core.specs.States.{CoreState, setup_in}
 use Rattle.flow_core.specs.Runs.{SameSetting, GoesOnLegally, GoesToEnd}
 use Rattle.flow_core.proofs.Sequels.{same-setup, same-then, goes-on, legally-same}
-use Rattle.flow_waits.specs.Turns.{IsBefore, IsFirstFrom, IsInLine}
+use Rattle.flow_orders.specs.Turns.{IsBefore, IsFirstFrom, IsInLine}
 use Rattle.flow_waits.specs.steps.Covers.{Pools, IsReady, Covers, Lags, StayAwake}
 use Rattle.flow_waits.proofs.Orders.{before-later}
 use Rattle.flow_waits.proofs.Counting.{most_entries}
 use Rattle.flow_waits.proofs.Schedules.{IsScheduling, scheduling-none, scheduling-more, scheduling-few, scheduled, move-longer}
-use Rattle.rt_event.specs.Round.{IsOnTurn, LooksFrom, HasTurn, IsOwnersTurn, IsRound}
+use Rattle.flow_orders.specs.Round.{IsOnTurn, LooksFrom, HasTurn, IsOwnersTurn, IsRound}
 use Rattle.rt_event.specs.steps.Owners.{KeepsOn, Stays, IsOwner, Leads, IsOver, MakesOwn, MakesTurn}
 use Rattle.rt_event.proofs.Ends.{still-live, still-awake}
 

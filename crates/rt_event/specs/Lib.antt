@@ -1,4 +1,3 @@
-pub mod Round
 pub mod Parts
 pub mod Posts
 pub mod steps

@@ -3,7 +3,7 @@
 ghost use Rattle.std.specs.Prelude.{◌≡◌, ◌<◌, ◌≤◌, length, IfOk, IfErr, OnOk, OnErr};
 ghost use Rattle.flow_core.specs.States.{setup_in};
 ghost use Rattle.flow_core.specs.Runs.{LeavesOthers, GoesOnLegally, GoesToEnd};
-ghost use Rattle.rt_event.specs.Round.{IsRound};
+ghost use Rattle.flow_orders.specs.Round.{IsRound};
 ghost use Rattle.rt_event.specs.steps.Owners.{Stays, Leads, MakesTurn};
 
 use crate::shifts::drive_with_helpers;

@@ -11,8 +11,8 @@ use Rattle.flux_laws.proofs.Added.{moves_are_legal}
 use Rattle.flow_core.specs.States.{CoreState, setup_in}
 use Rattle.flow_core.specs.Runs.{SameSetting, GoesOnLegally, GoesToEnd}
 use Rattle.flow_core.proofs.Sequels.{same-setup, same-then, same-itself, goes-on, legally-same}
-use Rattle.flow_waits.specs.Drains.{DrainsTo}
-use Rattle.rt_script.specs.Follow.{IsTurn, AreTurns, IsFollow}
+use Rattle.flow_orders.specs.Drains.{DrainsTo}
+use Rattle.flow_orders.specs.Follow.{IsTurn, AreTurns, IsFollow}
 
 -- one turn more
 pub turns-more : (setup : Setup) (before between after : List Entry) (flows : List FlowNo) (flow : FlowNo)

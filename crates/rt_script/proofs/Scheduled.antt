@@ -7,11 +7,11 @@ use Rattle.flow_model.specs.declared.journals.Event.{Event}
 use Rattle.flow_model.specs.Setup.{Setup}
 use Rattle.flux_laws.specs.Going.{IsLowest}
 use Rattle.flux_laws.specs.Moves.{IsMove}
-use Rattle.flow_waits.specs.Turns.{MakesMove, EachStands}
-use Rattle.flow_waits.specs.Schedules.{IsAllowed, IsScheduled}
-use Rattle.flow_waits.specs.Drains.{IsLowestsTurn, DrainsTo}
+use Rattle.flow_orders.specs.Turns.{MakesMove, EachStands}
+use Rattle.flow_orders.specs.Schedules.{IsAllowed, IsScheduled}
+use Rattle.flow_orders.specs.Drains.{IsLowestsTurn, DrainsTo}
 use Rattle.flow_waits.proofs.Schedules.{each-none, each-more, each-append}
-use Rattle.rt_script.specs.Follow.{IsTurn, AreTurns, IsFollow, IsListedTurn, FollowsAreScheduled}
+use Rattle.flow_orders.specs.Follow.{IsTurn, AreTurns, IsFollow, IsListedTurn, FollowsAreScheduled}
 use Rattle.rt_script.proofs.Following.{turns-more}
 
 module _ (setup : Setup) (old : List Entry) (numbers : List FlowNo) where

@@ -3,7 +3,7 @@
 ghost use Rattle.std.specs.Prelude.{◌≡◌, IfOk, IfErr, OnOk, OnErr};
 ghost use Rattle.flow_core.specs.States.{setup_in};
 ghost use Rattle.flow_core.specs.Runs.{LeavesOthers, GoesOnLegally, GoesToEnd};
-ghost use Rattle.rt_script.specs.Follow.{IsTurn, IsFollow};
+ghost use Rattle.flow_orders.specs.Follow.{IsTurn, IsFollow};
 
 use flow_core::{Core, Gate, Runtime, Stopped};
 use flow_waits::{drain_by, take_turn};

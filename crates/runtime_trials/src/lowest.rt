@@ -3,7 +3,7 @@
 ghost use Rattle.std.specs.Prelude.{◌≡◌, IfOk, IfErr, OnErr};
 ghost use Rattle.flow_core.specs.States.{setup_in};
 ghost use Rattle.flow_core.specs.Runs.{GoesOnLegally, GoesToEnd};
-ghost use Rattle.flow_waits.specs.Drains.{DrainsTo};
+ghost use Rattle.flow_orders.specs.Drains.{DrainsTo};
 
 use flow_core::{Core, Gate, Runtime, Stopped};
 use flow_waits::drain_by;

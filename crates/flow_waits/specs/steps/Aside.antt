@@ -10,7 +10,7 @@ use Rattle.flow_model.specs.Setup.{Setup}
 use Rattle.flow_model.specs.Legal.{IsLegal}
 use Rattle.flow_core.specs.States.{CoreState, setup_in, begun_by}
 use Rattle.flow_waits.specs.Idle.{IsFirstIdle}
-use Rattle.flow_waits.specs.Turns.{IsBefore}
+use Rattle.flow_orders.specs.Turns.{IsBefore}
 use Rattle.flow_waits.specs.steps.Waking.{has, IsMore, IsLess}
 use Rattle.flow_waits.specs.steps.Covers.{Pools, IsReady, Covers}
 

@@ -12,7 +12,7 @@ use Rattle.flux_laws.specs.Going.{IsBlocked}
 use Rattle.flux_laws.specs.Hoisted.{is_writer}
 use Rattle.flux_table.specs.declared.locks.Waiter.{Waiter}
 use Rattle.flow_state.specs.declared.stops.Stop.{Stop}
-use Rattle.flow_waits.specs.Turns.{IsBefore, IsFirstFrom, IsInLine}
+use Rattle.flow_orders.specs.Turns.{IsBefore, IsFirstFrom, IsInLine}
 use Rattle.flow_waits.specs.steps.Staying.{IsFresh}
 use Rattle.flow_waits.specs.steps.Waking.{has, IsMore, IsLess, IsEarliest, Rooms, room_at, IsMoreAt, IsLessAt}
 

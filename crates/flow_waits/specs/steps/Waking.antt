@@ -4,7 +4,7 @@ use Rattle.std.specs.List.{list_any}
 use Rattle.std.specs.Map.{lookup}
 use Rattle.flow_model.specs.declared.journals.Key.{Key}
 use Rattle.flow_model.specs.Keys.{same_key}
-use Rattle.flow_waits.specs.Turns.{IsBefore}
+use Rattle.flow_orders.specs.Turns.{IsBefore}
 
 -- ---- numbers
 

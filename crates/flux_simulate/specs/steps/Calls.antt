@@ -9,8 +9,8 @@ use Rattle.flux_laws.specs.Growth.{item_size}
 use Rattle.flow_state.specs.declared.inputs.Inputs.{Inputs}
 use Rattle.flow_core.specs.States.{CoreState, setup_in, begun_by}
 use Rattle.flow_core.specs.Moves.{FinishesCall}
-use Rattle.flux_simulate.specs.declared.runs.Run.{Run}
-use Rattle.flux_simulate.specs.Costs.{cost_of, AreCosts}
+use Rattle.flow_orders.specs.declared.runs.Run.{Run}
+use Rattle.flow_orders.specs.Costs.{cost_of, AreCosts}
 
 -- a flow's begun call is finished
 pub record EndsBegun {L : Type 0} (meaning : L → LibraryMeaning) (old new : CoreState L) (flow : FlowNo)

@@ -1,7 +1,7 @@
 -- What becomes of the calls that run and of those that wait. No promise cites it.
 use Rattle.std.specs.Prelude.{◌≡◌, ℕ, ◌<◌, ◌≤◌, ◌⊎◌, List, ◌∷◌, ◌++◌, Option, Some, None}
 use Rattle.std.specs.List.{slice_index_or, AllByRecursion}
-use Rattle.flux_simulate.specs.declared.runs.Run.{Run}
+use Rattle.flow_orders.specs.declared.runs.Run.{Run}
 
 -- ---- which run stops first
 

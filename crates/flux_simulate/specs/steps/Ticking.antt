@@ -17,12 +17,12 @@ use Rattle.flow_core.specs.States.{CoreState, setup_in, begun_by}
 use Rattle.flow_core.specs.Runs.{GoesOn}
 use Rattle.flow_waits.specs.steps.Aside.{Parted, AreAside}
 use Rattle.flow_waits.specs.steps.Waking.{has}
-use Rattle.flux_simulate.specs.declared.runs.Run.{Run}
+use Rattle.flow_orders.specs.declared.runs.Run.{Run}
 use Rattle.flux_simulate.specs.declared.clock.Clock.{Clock}
-use Rattle.flux_simulate.specs.Costs.{cost_of}
-use Rattle.flux_simulate.specs.Ticks.{Timed, timed, until, at_tick}
-use Rattle.flux_simulate.specs.Runs.{running_at, starting_from, end_of, ends_in}
-use Rattle.flux_simulate.specs.Rule.{ComeInTurn, IsSettled}
+use Rattle.flow_orders.specs.Costs.{cost_of}
+use Rattle.flow_orders.specs.Ticks.{Timed, timed, until, at_tick}
+use Rattle.flow_orders.specs.Runs.{running_at, starting_from, end_of, ends_in}
+use Rattle.flow_orders.specs.Rule.{ComeInTurn, IsSettled}
 
 -- ---- the journal so far
 

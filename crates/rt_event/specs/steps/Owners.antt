@@ -5,9 +5,9 @@ use Rattle.flow_model.specs.declared.journals.Event.{Event}
 use Rattle.flux_model.specs.declared.items.FlowNo.{FlowNo}
 use Rattle.flow_model.specs.Setup.{Setup}
 use Rattle.flow_model.specs.Events.{IsLive}
-use Rattle.flow_waits.specs.Turns.{IsInLine, MakesMove}
+use Rattle.flow_orders.specs.Turns.{IsInLine, MakesMove}
 use Rattle.flow_waits.specs.steps.Covers.{Pools, IsReady, Covers, IsChosen}
-use Rattle.rt_event.specs.Round.{EndsTurn}
+use Rattle.flow_orders.specs.Round.{EndsTurn}
 
 -- a flow that is on turn is live, stands in no line and is looked at, last of all
 pub record IsKeptOn (setup : Setup) (entries : List Entry) (pools : Pools) (from : ℕ) (flow : FlowNo) : Type 0 where

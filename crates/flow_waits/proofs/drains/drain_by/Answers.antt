@@ -2,7 +2,7 @@ use Rattle.std.proofs.Common.{subst, arith, ℕ}
 use Rattle.flow_model.specs.Events.{IsLive}
 use Rattle.flow_core.specs.States.{setup_in}
 use Rattle.flow_core.proofs.Sequels.{same-setup, same-then, same-itself}
-use Rattle.flow_waits.specs.Drains.{IsLowestsTurn}
+use Rattle.flow_orders.specs.Drains.{IsLowestsTurn}
 use Rattle.flow_waits.proofs.Schedules.{scheduling-none}
 use Rattle.flow_waits.proofs.Driving.{draining-few, drained, turn-drains, turn-longer, turn-legal}
 use Rattle.flow_waits.proofs.drains.drain_by.Goals as goal

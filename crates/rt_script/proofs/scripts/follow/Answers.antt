@@ -2,7 +2,7 @@ use Rattle.std.proofs.Common.{◌≡◌, sym, ap, subst, take, get_or, length, �
 use Rattle.std.proofs.lemmas.List.{take_more}
 use Rattle.std.proofs.lemmas.Result.{on_ok_weaker}
 use Rattle.flow_core.specs.States.{setup_in}
-use Rattle.rt_script.specs.Follow.{IsFollow}
+use Rattle.flow_orders.specs.Follow.{IsFollow}
 use Rattle.rt_script.proofs.Following.{IsFollowing, following-more, followed, take-all}
 use Rattle.rt_script.proofs.scripts.follow.Goals as goal
 

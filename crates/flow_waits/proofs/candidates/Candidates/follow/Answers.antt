@@ -3,7 +3,7 @@ use Rattle.std.proofs.lemmas.Result.{on_ok_weaker}
 use Rattle.flux_values.specs.declared.answers.Mode.TheVariants.{Reader, Writer}
 use Rattle.flow_model.specs.declared.journals.Entry.{Entry}
 use Rattle.flow_core.specs.States.{setup_in}
-use Rattle.flow_waits.specs.Turns.{IsInLine}
+use Rattle.flow_orders.specs.Turns.{IsInLine}
 use Rattle.flow_waits.specs.steps.Aside.{beside}
 use Rattle.flow_waits.proofs.Membership.{less_kept}
 use Rattle.flow_waits.proofs.Told.{told-take, told-drop, told-other, told-wait, waiting, last-own, last-event}

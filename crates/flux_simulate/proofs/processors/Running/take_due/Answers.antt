@@ -1,5 +1,5 @@
 use Rattle.std.proofs.Common.{subst, sym, ap, length, arith}
-use Rattle.flux_simulate.specs.declared.runs.Run.{Run}
+use Rattle.flow_orders.specs.declared.runs.Run.{Run}
 use Rattle.flux_simulate.specs.steps.Changes.{IsFirstOf, TakesNext}
 use Rattle.flux_simulate.proofs.Placing.{taken-out, same-place}
 use Rattle.flux_simulate.proofs.processors.Running.take_due.Goals as goal

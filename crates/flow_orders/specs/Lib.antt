@@ -1,0 +1,11 @@
+pub mod Turns
+pub mod Schedules
+pub mod Drains
+pub mod Round
+pub mod Follow
+pub mod Orders
+pub mod Costs
+pub mod Ticks
+pub mod Runs
+pub mod Rule
+pub mod Idle

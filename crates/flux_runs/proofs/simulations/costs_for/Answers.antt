@@ -1,7 +1,0 @@
-use Rattle.flux_runs.proofs.GivenCosts.{cost_more}
-use Rattle.flux_runs.proofs.simulations.costs_for.Goals as goal
-
-pub loop-node-preserved : goal.loop-node-preserved
-loop-node-preserved c =
-    cost_more c.loop-node.node c.cost_of.result c.args.given.now c.loop-node.costs c.add.new.self c.loop-node.invariant
-    c.cost_of.ensures c.in_ok-add.ensures.added

@@ -1,0 +1,5 @@
+mod GivenCosts
+mod Areas
+mod Ends
+mod Made
+mod Ready

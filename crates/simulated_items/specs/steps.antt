@@ -1,0 +1,2 @@
+-- Mirrors of what the code does step by step. No public clause cites them.
+pub mod Work

@@ -1,0 +1,9 @@
+//! Items on simulated processors: from a checked program and its items to the three lines that are printed.
+//!
+//! `simulate_items` lets the items' flows run on so many processors, where the calls of each node cost so much. What the lines
+//! say is `IsSimulationText` of `flux_runs`.
+#![tactic(auto)]
+
+mod simulations;
+
+pub use simulations::simulate_items;
