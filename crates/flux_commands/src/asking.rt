@@ -8,6 +8,7 @@ ghost use Rattle.flux_commands.specs.Commands.{folder_of};
 ghost use Rattle.flux_commands.specs.Answers.{IsAnswer};
 ghost use Rattle.flux_commands.specs.Asked.{HasAsked};
 ghost use Rattle.flux_commands.specs.Refusals.{status_of, line_of};
+ghost use Rattle.flux_commands.specs.Driving.{CanDrive};
 ghost use Rattle.flux_commands.specs.steps.Preparing.{AsksAll, IsRefusedAll};
 ghost use Rattle.flux_commands.specs.Prepared.{PreparesAll, PreparesWords, prepared_status};
 ghost use Rattle.flux_commands.specs.Counts.{CountsBoth};
@@ -15,12 +16,14 @@ ghost use Rattle.flux_commands.specs.Due.{AnswersDue, AnswersWords};
 
 use crate::commands::prepare;
 use crate::documents::{load_docs, share};
-use crate::drivers::Driver;
 use crate::prepared::Prepared;
 use crate::refusals::Refusal;
+use crate::simulators::Simulator;
+use flow_core::Core;
 use flux_outside::{Folder, Store};
-use flux_values::Bytes;
-use flux_words::{Asked, read_words};
+use flux_values::{Bytes, Memory};
+use flux_words::{Asked, Runtime, read_words};
+use nodes_all::All;
 use std::alloc::Global;
 
 /// The folder of documents, where one is named.
@@ -38,14 +41,22 @@ fn dir_of<'a>(wanted: &Asked<'a>) -> Option<&'a [u8]>
 }
 
 /// What a command prints: all of it is made before any of it is written.
-fn prepare_asked<'a, S: Store, F: Folder, D: Driver>(
+fn prepare_asked<
+    'a,
+    S: Store,
+    F: Folder,
+    D: Fn(Core<All>, Runtime) -> Result<Core<All>, Memory>,
+    M: Simulator,
+>(
     alloc: Global,
     store: &mut S,
     folder: &mut F,
     driver: &D,
+    simulator: &M,
     wanted: Asked<'a>,
 ) -> Result<Prepared, Refusal<'a>>
-    requires { IsServe (asked wanted) → ⊥ }
+    requires driver { CanDrive (D.pre driver.now) (D.post driver.now) }
+    requires printed { IsServe (asked wanted) → ⊥ }
     ensures kept { S.files store.new ≡ S.files store.old }
     ensures kept_folders { F.folders folder.new ≡ F.folders folder.old }
     ensures later { S.faults store.old ≤ S.faults store.new }
@@ -66,18 +77,26 @@ fn prepare_asked<'a, S: Store, F: Folder, D: Driver>(
 {
     let docs = load_docs(alloc, folder, dir_of(&wanted))?;
     let library = share(alloc, docs)?;
-    prepare(alloc, library, store, driver, wanted)
+    prepare(alloc, library, store, driver, simulator, wanted)
 }
 
 /// What the words print.
-pub fn prepare_words<'a, S: Store, F: Folder, D: Driver>(
+pub fn prepare_words<
+    'a,
+    S: Store,
+    F: Folder,
+    D: Fn(Core<All>, Runtime) -> Result<Core<All>, Memory>,
+    M: Simulator,
+>(
     alloc: Global,
     store: &mut S,
     folder: &mut F,
     driver: &D,
+    simulator: &M,
     words: &'a [Bytes],
 ) -> Result<Prepared, Refusal<'a>>
-    requires { (command : Command) → Spells words.now command → IsServe command → ⊥ }
+    requires driver { CanDrive (D.pre driver.now) (D.post driver.now) }
+    requires printed { (command : Command) → Spells words.now command → IsServe command → ⊥ }
     ensures kept { S.files store.new ≡ S.files store.old }
     ensures kept_folders { F.folders folder.new ≡ F.folders folder.old }
     ensures later { S.faults store.old ≤ S.faults store.new }
@@ -98,7 +117,7 @@ pub fn prepare_words<'a, S: Store, F: Folder, D: Driver>(
         (prepared_status result) }
 {
     match read_words(alloc, words)? {
-        Some(wanted) => prepare_asked(alloc, store, folder, driver, wanted),
+        Some(wanted) => prepare_asked(alloc, store, folder, driver, simulator, wanted),
         None => Err(Refusal::Usage),
     }
 }

@@ -8,17 +8,19 @@ ghost use Rattle.flux_commands.specs.BuiltIn.{meaning_in};
 ghost use Rattle.flux_commands.specs.Told.{Files};
 ghost use Rattle.flux_commands.specs.Printed.{help_text};
 ghost use Rattle.flux_commands.specs.steps.Refusals.{Counts, IsRefused};
+ghost use Rattle.flux_commands.specs.Driving.{CanDrive};
 ghost use Rattle.flux_commands.specs.steps.Preparing.{run_of, simulate_of, AsksFiles, IsPrepared, IsFirm};
 ghost use Rattle.flux_commands.specs.Prepared.{prepared_status};
 
 use crate::audited::{audit_text, swarm_text};
-use crate::drivers::Driver;
 use crate::files::{JOURNAL_FILE_LIMIT, PROGRAM_FILE_LIMIT, load};
 use crate::loaded::{Loaded, load_files, load_program, load_texts};
 use crate::prepared::Prepared;
 use crate::refusals::Refusal;
 use crate::running::{Wanted, run_items};
+use crate::simulators::Simulator;
 use crate::texts::read_text;
+use flow_core::Core;
 use flux_hoist::{print_plan, report};
 use flux_library::Library;
 use flux_load::make;
@@ -108,7 +110,7 @@ fn prepare_format<'a, L: Library, S: Store>(
 }
 
 /// The journal that `run` prints.
-fn prepare_run<'a, S: Store, D: Driver>(
+fn prepare_run<'a, S: Store, D: Fn(Core<All>, Runtime) -> Result<Core<All>, Memory>>(
     alloc: Global,
     library: Arc<All>,
     store: &mut S,
@@ -118,6 +120,7 @@ fn prepare_run<'a, S: Store, D: Driver>(
     runtime: Runtime,
     journal: JournalFormat,
 ) -> Result<Prepared, Refusal<'a>>
+    requires { CanDrive (D.pre driver.now) (D.post driver.now) }
     ensures kept { S.files store.new ≡ S.files store.old }
     ensures later { S.faults store.old ≤ S.faults store.new }
     ensures asked { (docs : Option (List ℕ)) → AsksFiles (meaning_in (arc_value library))
@@ -169,7 +172,7 @@ fn prepare_audit<'a, L: Library, S: Store>(
 }
 
 /// The summary that `load` prints.
-fn prepare_load<'a, D: Driver>(
+fn prepare_load<'a, D: Fn(Core<All>, Runtime) -> Result<Core<All>, Memory>>(
     alloc: Global,
     library: Arc<All>,
     driver: &D,
@@ -177,6 +180,7 @@ fn prepare_load<'a, D: Driver>(
     first: u32,
     runtime: Runtime,
 ) -> Result<Prepared, Refusal<'a>>
+    requires { CanDrive (D.pre driver.now) (D.post driver.now) }
     ensures done { (told : Files) → IfOk result (IsPrepared (meaning_in (arc_value library))
         (load count first runtime) told) }
     ensures refused { (told : Files) → IfErr result (IsRefused (meaning_in (arc_value library))
@@ -194,11 +198,11 @@ fn prepare_load<'a, D: Driver>(
 }
 
 /// The three lines that `simulate` prints.
-fn prepare_simulation<'a, S: Store, D: Driver>(
+fn prepare_simulation<'a, L: Library, S: Store, M: Simulator>(
     alloc: Global,
-    library: Arc<All>,
+    library: Arc<L>,
     store: &mut S,
-    driver: &D,
+    simulator: &M,
     file: &'a [u8],
     items: &'a [u8],
     processors: Processors,
@@ -206,20 +210,20 @@ fn prepare_simulation<'a, S: Store, D: Driver>(
 ) -> Result<Prepared, Refusal<'a>>
     ensures kept { S.files store.new ≡ S.files store.old }
     ensures later { S.faults store.old ≤ S.faults store.new }
-    ensures asked { (docs : Option (List ℕ)) → AsksFiles (meaning_in (arc_value library))
+    ensures asked { (docs : Option (List ℕ)) → AsksFiles (L.meaning (arc_value library))
         (simulate_of file.now items.now processors.count costs.list docs) (S.files store.old)
         (S.asked store.old) (S.asked store.new) }
-    ensures done { (docs : Option (List ℕ)) → IfOk result (IsPrepared (meaning_in (arc_value library))
+    ensures done { (docs : Option (List ℕ)) → IfOk result (IsPrepared (L.meaning (arc_value library))
         (simulate_of file.now items.now processors.count costs.list docs) (S.files store.old)) }
-    ensures refused { (docs : Option (List ℕ)) → IfErr result (IsRefused (meaning_in (arc_value library))
+    ensures refused { (docs : Option (List ℕ)) → IfErr result (IsRefused (L.meaning (arc_value library))
         (simulate_of file.now items.now processors.count costs.list docs) (S.files store.old)) }
     ensures counts { Counts result (S.faults store.old) (S.faults store.new) }
-    ensures firm { (docs : Option (List ℕ)) → IsFirm (meaning_in (arc_value library))
+    ensures firm { (docs : Option (List ℕ)) → IsFirm (L.meaning (arc_value library))
         (simulate_of file.now items.now processors.count costs.list docs) (S.files store.old)
         (prepared_status result) }
 {
     let loaded = load_files(alloc, &*library, store, file, items)?;
-    let text = driver.simulate(
+    let text = simulator.simulate(
         alloc,
         library,
         loaded.checked,
@@ -268,14 +272,16 @@ fn prepare_help(alloc: Global) -> Result<Bytes, Memory>
 }
 
 /// What a command prints, with a library.
-pub fn prepare<'a, S: Store, D: Driver>(
+pub fn prepare<'a, S: Store, D: Fn(Core<All>, Runtime) -> Result<Core<All>, Memory>, M: Simulator>(
     alloc: Global,
     library: Arc<All>,
     store: &mut S,
     driver: &D,
+    simulator: &M,
     wanted: Asked<'a>,
 ) -> Result<Prepared, Refusal<'a>>
-    requires { IsServe (asked wanted) → ⊥ }
+    requires driver { CanDrive (D.pre driver.now) (D.post driver.now) }
+    requires printed { IsServe (asked wanted) → ⊥ }
     ensures kept { S.files store.new ≡ S.files store.old }
     ensures later { S.faults store.old ≤ S.faults store.new }
     ensures asked { AsksFiles (meaning_in (arc_value library)) (asked wanted.entry)
@@ -320,7 +326,7 @@ pub fn prepare<'a, S: Store, D: Driver>(
             costs,
             docs: _,
         } => prepare_simulation(
-            alloc, library, store, driver, file, items, processors, costs,
+            alloc, library, store, simulator, file, items, processors, costs,
         ),
         Asked::Swarm {
             file,

@@ -7,10 +7,9 @@ ghost use Rattle.flux_cells.specs.Kept.{cells_of};
 ghost use Rattle.flow_core.specs.States.{setup_in};
 ghost use Rattle.flux_runs.specs.Opening.{CanRun};
 ghost use Rattle.flux_commands.specs.BuiltIn.{meaning_in};
-ghost use Rattle.flux_commands.specs.Driving.{IsDriven};
+ghost use Rattle.flux_commands.specs.Driving.{IsDriven, CanDrive};
 ghost use Rattle.flux_commands.specs.steps.Running.{IsRun};
 
-use crate::drivers::Driver;
 use flow_core::Core;
 use flow_model::Journal;
 use flux_cells::Cells;
@@ -32,24 +31,25 @@ pub struct Wanted {
 }
 
 /// The journal of a core that is driven to its end, and its cells then.
-fn drive<D: Driver>(
+fn drive<D: Fn(Core<All>, Runtime) -> Result<Core<All>, Memory>>(
     core: Core<All>,
     runtime: Runtime,
     driver: &D,
 ) -> Result<(Journal, Cells), Memory>
-    requires { core.entries ≡ [] }
+    requires empty { core.entries ≡ [] }
+    requires drives { CanDrive (D.pre driver.now) (D.post driver.now) }
     ensures driven { IfOk result (λ ended. IsDriven (setup_in meaning_in core) runtime ended.0.entries) }
     ensures cells { IfOk result (λ ended. cells_of ended.1
         ≡ cells_after (setup_in meaning_in core) ended.0.entries) }
 {
-    match driver.drive(core, runtime) {
+    match driver(core, runtime) {
         Ok(core) => Ok(core.into_parts()),
         Err(_) => Err(Memory),
     }
 }
 
 /// What is printed of the run of items.
-pub fn run_items<D: Driver>(
+pub fn run_items<D: Fn(Core<All>, Runtime) -> Result<Core<All>, Memory>>(
     alloc: Global,
     library: Arc<All>,
     checked: Checked,
@@ -57,7 +57,8 @@ pub fn run_items<D: Driver>(
     wanted: Wanted,
     driver: &D,
 ) -> Result<Bytes, Memory>
-    requires { CanRun (meaning_in (arc_value library)) checked.program items }
+    requires can { CanRun (meaning_in (arc_value library)) checked.program items }
+    requires drives { CanDrive (D.pre driver.now) (D.post driver.now) }
     ensures { IfOk result (IsRun (meaning_in (arc_value library)) checked.program items wanted) }
 {
     let flows = items.len() as u32;

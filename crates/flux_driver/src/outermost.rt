@@ -2,19 +2,21 @@
 
 ghost use Rattle.std.specs.Prelude.{◌≡◌, [], IfOk, IsErr};
 ghost use Rattle.flux_words.specs.Commands.{Command, Spells, IsServe, NeedsThreads};
-ghost use Rattle.flux_commands.specs.BuiltIn.{built_in};
+ghost use Rattle.flux_commands.specs.BuiltIn.{built_in, meaning_in};
 ghost use Rattle.flux_driver.specs.Seen.{Seen, seen_by, door_by, link_by};
 ghost use Rattle.flux_driver.specs.Top.{HasDone};
+ghost use Rattle.flux_commands.specs.Driving.{CanDrive, DrivesTo};
 
-use crate::drivers::{Alone, ByThreads};
+use crate::drivers::{TickByTick, drive_alone, drive_by_threads};
 use crate::serving::serve_ready;
 use crate::telling::{print, refuse, tell_end};
-use flow_core::Gate;
-use flux_commands::{Driver, Status, prepare_words, ready_words};
+use flow_core::{Core, Gate};
+use flux_commands::{Status, prepare_words, ready_words};
 use flux_doors::{Door, Link};
 use flux_outside::{Folder, Sink, Store};
 use flux_values::{Bytes, List, Memory};
-use flux_words::{needs_threads, spells_serve};
+use flux_words::{Runtime, needs_threads, spells_serve};
+use nodes_all::All;
 use std::alloc::Global;
 use std::marker::Sync;
 use std::sync::Wait;
@@ -32,20 +34,30 @@ pub struct World<S: Store, F: Folder, O: Sink, E: Sink, D> {
 }
 
 /// Does what the words say, and answers how it ended. A run's flows are driven as the caller likes.
-fn act<S: Store, F: Folder, O: Sink, E: Sink, D: Door, R: Driver>(
-    alloc: Global,
-    words: &[Bytes],
-    world: &mut World<S, F, O, E, D>,
-    driver: &R,
-) -> Status
-    requires { (command : Command) → Spells words.now command → IsServe command → ⊥ }
+fn act<
+    S: Store,
+    F: Folder,
+    O: Sink,
+    E: Sink,
+    D: Door,
+    R: Fn(Core<All>, Runtime) -> Result<Core<All>, Memory>,
+>(alloc: Global, words: &[Bytes], world: &mut World<S, F, O, E, D>, driver: &R) -> Status
+    requires driver { CanDrive (R.pre driver.now) (R.post driver.now) }
+    requires printed { (command : Command) → Spells words.now command → IsServe command → ⊥ }
     ensures door { world.new.door ≡ world.old.door }
     ensures done { let seen = seen_by S.files S.asked S.faults F.folders F.asked F.faults O.written O.faults
         E.written E.faults (door_by (link_by D.Link.had D.Link.left D.Link.written D.Link.faults)
         D.to_come D.taken_back D.open_at D.faults D.late) in
         HasDone built_in words.now (seen world.old) result (seen world.new) }
 {
-    match prepare_words(alloc, &mut world.store, &mut world.folder, driver, words) {
+    match prepare_words(
+        alloc,
+        &mut world.store,
+        &mut world.folder,
+        driver,
+        &TickByTick,
+        words,
+    ) {
         Ok(prepared) => print(&mut world.out, &mut world.err, &prepared),
         Err(refusal) => refuse(alloc, &mut world.err, refusal),
     }
@@ -67,7 +79,15 @@ pub fn top_alone<S: Store, F: Folder, O: Sink, E: Sink, D: Door, G: Gate>(
         D.to_come D.taken_back D.open_at D.faults D.late) in
         HasDone built_in words.now (seen world.old) result (seen world.new) }
 {
-    act(alloc, words, world, &Alone { gate })
+    act(
+        alloc,
+        words,
+        world,
+        &|core: Core<All>, runtime: Runtime|
+            requires { core.entries ≡ [] }
+            ensures { IfOk result (DrivesTo meaning_in runtime core) }
+        { drive_alone(core, runtime, gate) },
+    )
 }
 
 /// Serves the program that the words name, and answers how it ended. It has the whole clause of `top`.
@@ -140,7 +160,15 @@ pub fn top<
     if spells_serve(words) {
         return serve_words(rt, alloc, words, world, gate);
     }
-    act(alloc, words, world, &ByThreads { rt, gate })
+    act(
+        alloc,
+        words,
+        world,
+        &|core: Core<All>, runtime: Runtime|
+            requires { core.entries ≡ [] }
+            ensures { IfOk result (DrivesTo meaning_in runtime core) }
+        { drive_by_threads(rt, core, runtime, gate) },
+    )
 }
 
 /// Does what the words say in the world, and answers how it ended: that there was no memory where there was none for the

@@ -36,8 +36,8 @@ returns-in_err-loaded-clause-counts g c = λ faults.
 
 -- ---- they are run
 
-pub run_items-requires : goal.run_items-requires
-run_items-requires g c =
+pub run_items-requires-clause-can : goal.run_items-requires-clause-can
+run_items-requires-clause-can g c =
     let meaning = meaning_in (arc_value c.args.library) in
     let own = rw (c.deref.ensures, c.as_bytes.ensures, c.as_bytes-2.ensures, c.in_ok-program.ensures.program, c.in_ok-program.ensures.items) at (c.in_ok-loaded.ensures.loaded None) in
     loaded_can meaning None (made program_text) (made (items_text c.args.count c.args.first)) c.in_ok-loaded.loaded own

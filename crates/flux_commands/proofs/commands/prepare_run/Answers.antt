@@ -33,8 +33,8 @@ returns-in_err-loaded-clause-firm g c = λ docs.
 
 -- ---- the items are run
 
-pub run_items-requires : goal.run_items-requires
-run_items-requires g c =
+pub run_items-requires-clause-can : goal.run_items-requires-clause-can
+run_items-requires-clause-can g c =
     let meaning = meaning_in (arc_value c.args.library) in
     let told = g.S.Store.files c.args.store.now in
     let own = rw c.deref.ensures at c.in_ok-loaded.ensures.loaded in

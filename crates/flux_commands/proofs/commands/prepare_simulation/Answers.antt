@@ -1,6 +1,5 @@
 use Rattle.std.specs.Arc.{arc_value}
 use Rattle.flux_commands.specs.declared.statuses.Status.{Status}
-use Rattle.flux_commands.specs.BuiltIn.{meaning_in}
 use Rattle.flux_commands.specs.Origins.{named}
 use Rattle.flux_commands.specs.steps.Refusals.{IsRefused}
 use Rattle.flux_commands.specs.steps.Preparing.{simulate_of, IsFirm}
@@ -13,12 +12,12 @@ use Rattle.flux_commands.proofs.commands.prepare_simulation.Goals as goal
 pub returns-in_err-loaded-clause-asked : goal.returns-in_err-loaded-clause-asked
 returns-in_err-loaded-clause-asked g c = λ docs.
     let asks = rw c.deref.ensures at c.load_files.ensures.asked in
-    simulate_asks (meaning_in (arc_value c.args.library)) (g.S.Store.files c.args.store.now) c.args.file.now
+    simulate_asks (g.L.Meaning.meaning (arc_value c.args.library)) (g.S.Store.files c.args.store.now) c.args.file.now
     c.args.items.now (record { processors = c.args.processors.count; costs = c.args.costs.list; docs = docs }) _ _ asks
 
 pub returns-in_err-loaded-clause-refused : goal.returns-in_err-loaded-clause-refused
 returns-in_err-loaded-clause-refused g c = λ docs.
-    let meaning = meaning_in (arc_value c.args.library) in
+    let meaning = g.L.Meaning.meaning (arc_value c.args.library) in
     let told = g.S.Store.files c.args.store.now in
     let refused = rw c.deref.ensures at c.in_err-loaded.ensures.refused in
     passed (IsRefused meaning (simulate_of c.args.file.now c.args.items.now c.args.processors.count c.args.costs.list docs) told)
@@ -28,7 +27,7 @@ returns-in_err-loaded-clause-refused g c = λ docs.
 
 pub returns-in_err-loaded-clause-firm : goal.returns-in_err-loaded-clause-firm
 returns-in_err-loaded-clause-firm g c = λ docs.
-    let meaning = meaning_in (arc_value c.args.library) in
+    let meaning = g.L.Meaning.meaning (arc_value c.args.library) in
     let told = g.S.Store.files c.args.store.now in
     let refused = rw c.deref.ensures at c.in_err-loaded.ensures.refused in
     passed_status (λ (s : Status). IsFirm meaning
@@ -40,14 +39,14 @@ returns-in_err-loaded-clause-firm g c = λ docs.
 
 pub simulate-requires-clause-can : goal.simulate-requires-clause-can
 simulate-requires-clause-can g c =
-    let meaning = meaning_in (arc_value c.args.library) in
+    let meaning = g.L.Meaning.meaning (arc_value c.args.library) in
     let told = g.S.Store.files c.args.store.now in
     let own = rw c.deref.ensures at c.in_ok-loaded.ensures.loaded in
     loaded_can meaning told (named c.args.file.now) (named c.args.items.now) c.in_ok-loaded.loaded own
 
 pub simulate-requires-clause-small : goal.simulate-requires-clause-small
 simulate-requires-clause-small g c =
-    let meaning = meaning_in (arc_value c.args.library) in
+    let meaning = g.L.Meaning.meaning (arc_value c.args.library) in
     let told = g.S.Store.files c.args.store.now in
     let own = rw c.deref.ensures at c.in_ok-loaded.ensures.loaded in
     loaded_small meaning told (named c.args.file.now) (named c.args.items.now) c.in_ok-loaded.loaded own
@@ -55,18 +54,18 @@ simulate-requires-clause-small g c =
 pub returns-in_err-text-clause-asked : goal.returns-in_err-text-clause-asked
 returns-in_err-text-clause-asked g c = λ docs.
     let asks = rw c.deref.ensures at c.load_files.ensures.asked in
-    simulate_asks (meaning_in (arc_value c.args.library)) (g.S.Store.files c.args.store.now) c.args.file.now
+    simulate_asks (g.L.Meaning.meaning (arc_value c.args.library)) (g.S.Store.files c.args.store.now) c.args.file.now
     c.args.items.now (record { processors = c.args.processors.count; costs = c.args.costs.list; docs = docs }) _ _ asks
 
 pub returns-clause-asked : goal.returns-clause-asked
 returns-clause-asked g c = λ docs.
     let asks = rw c.deref.ensures at c.load_files.ensures.asked in
-    simulate_asks (meaning_in (arc_value c.args.library)) (g.S.Store.files c.args.store.now) c.args.file.now
+    simulate_asks (g.L.Meaning.meaning (arc_value c.args.library)) (g.S.Store.files c.args.store.now) c.args.file.now
     c.args.items.now (record { processors = c.args.processors.count; costs = c.args.costs.list; docs = docs }) _ _ asks
 
 pub returns-clause-done : goal.returns-clause-done
 returns-clause-done g c = λ docs.
-    let meaning = meaning_in (arc_value c.args.library) in
+    let meaning = g.L.Meaning.meaning (arc_value c.args.library) in
     let told = g.S.Store.files c.args.store.now in
     let own = rw c.deref.ensures at c.in_ok-loaded.ensures.loaded in
     loaded_simulated meaning told (named c.args.file.now) (named c.args.items.now) c.in_ok-loaded.loaded own
@@ -74,7 +73,7 @@ returns-clause-done g c = λ docs.
 
 pub returns-clause-firm : goal.returns-clause-firm
 returns-clause-firm g c = λ docs tells stands.
-    let meaning = meaning_in (arc_value c.args.library) in
+    let meaning = g.L.Meaning.meaning (arc_value c.args.library) in
     let told = g.S.Store.files c.args.store.now in
     let own = rw c.deref.ensures at c.in_ok-loaded.ensures.loaded in
     loaded_reads meaning told (named c.args.file.now) (named c.args.items.now) c.in_ok-loaded.loaded own tells

@@ -11,7 +11,7 @@ use Rattle.flux_commands.proofs.running.run_items.Goals as goal
 pub print-requires : goal.print-requires
 print-requires g c =
     let opened = c.in_ok-opened.ensures in
-    subst (λ (p : Program). length p.classes ≤ COUNT_LIMIT) (sym (c.deref.ensures ∙ opened.program_)) c.requires.sound.numbered.few_classes
+    subst (λ (p : Program). length p.classes ≤ COUNT_LIMIT) (sym (c.deref.ensures ∙ opened.program_)) c.requires.can.sound.numbered.few_classes
 
 pub returns : goal.returns
 returns g c =

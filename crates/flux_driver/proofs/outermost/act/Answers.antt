@@ -14,7 +14,7 @@ returns-in-Ok-clause-done g c =
     (g.S.Store.faults c.args.world.now.store) (g.S.Store.faults c.prepare_words.new.store) (g.F.Folder.faults c.args.world.now.folder) (g.F.Folder.faults c.prepare_words.new.folder)
     (told_same files (g.S.Store.files c.prepare_words.new.store) folders (g.F.Folder.folders c.prepare_words.new.folder) c.prepare_words.ensures.kept c.prepare_words.ensures.kept_folders)
     c.prepare_words.ensures.later c.prepare_words.ensures.later_folder
-    c.in-Ok.prepared c.in-Ok.ensures.asked c.in-Ok.ensures.done c.in-Ok.ensures.counts c.in-Ok.ensures.complete (λ file serving spelled. c.requires (serve file serving) spelled tt) c.print.result _ _ _ _ _
+    c.in-Ok.prepared c.in-Ok.ensures.asked c.in-Ok.ensures.done c.in-Ok.ensures.counts c.in-Ok.ensures.complete (λ file serving spelled. c.requires.printed (serve file serving) spelled tt) c.print.result _ _ _ _ _
     c.print.ensures.later.0 c.print.ensures.later.1 c.print.ensures.put
 
 pub returns-in-Err-clause-done : goal.returns-in-Err-clause-done
