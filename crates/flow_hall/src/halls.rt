@@ -4,7 +4,6 @@ ghost use Rattle.std.specs.Prelude.{◌≡◌, IfOk, IfErr};
 ghost use Rattle.flow_hall.specs.Turns.{IsFirstSeat, Wins, IsTurnOf, moved, given};
 ghost use Rattle.flow_core.specs.Runs.{GoesOn};
 
-use crate::pauses::Pause;
 use crate::rules::{GivesTurn, HallRule, Joining, Splitting, TakesTurn};
 use crate::seats::{HallSeat, HallTurn, Held};
 use crate::views::View;
@@ -15,6 +14,7 @@ use std::alloc::Global;
 use std::marker::Model;
 use std::snapshot::Snapshot;
 use std::sync::Wait;
+use thread_pauses::Pause;
 
 /// A core that threads take in turn.
 pub struct Hall<L: Library> {

@@ -8,12 +8,10 @@
 
 mod halls;
 mod laws;
-mod pauses;
 mod rules;
 mod seats;
 mod views;
 
 pub use halls::Hall;
 pub use laws::rule_fits;
-pub use pauses::Pause;
 pub use seats::{HallSeat, HallTurn, Held};

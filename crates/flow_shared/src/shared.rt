@@ -10,12 +10,12 @@ use crate::seats::{Held, SharedSeat, SharedTurn};
 use crate::views::View;
 use atomic_table::{Refused, Table};
 use flow_core::{Core, Stopped};
-use flow_hall::Pause;
 use flux_library::Library;
 use std::alloc::Global;
 use std::marker::Model;
 use std::snapshot::Snapshot;
 use std::sync::Wait;
+use thread_pauses::Pause;
 
 /// A core that threads take in turn, with one journal for all of them.
 pub struct Shared<L: Library> {

@@ -13,7 +13,6 @@ use crate::dues::Due;
 use crate::lanes::Lane;
 use crate::turns::{Next, go};
 use flow_core::{Core, Gate, Job};
-use flow_hall::Pause;
 use flow_shared::{Shared, SharedSeat};
 use flow_workers::{Stage, take_answer};
 use flux_doors::Link;
@@ -24,6 +23,7 @@ use std::marker::{Send, Sync};
 use std::sync::Wait;
 use std::thread;
 use std::thread::Threads;
+use thread_pauses::Pause;
 
 /// Lets the flow of a link go on: in one turn up to its call, which is run outside the turn, or to its `end`, after which its
 /// reply is written.

@@ -9,7 +9,7 @@ ghost use Rattle.rt_event.specs.Posts.{IsPost};
 use crate::parts::{Next, Part, parts};
 use crate::posts::{Post, posts};
 use flow_core::{Core, Gate, Job, Stopped};
-use flow_hall::{Hall, HallSeat, Pause};
+use flow_hall::{Hall, HallSeat};
 use flow_workers::{settle, stop, take_answer};
 use flux_library::Library;
 use std::alloc::Global;
@@ -17,6 +17,7 @@ use std::marker::{Send, Sync};
 use std::sync::Wait;
 use std::thread;
 use std::thread::Threads;
+use thread_pauses::Pause;
 
 /// Drives a core to its end by the loop and so many helpers.
 pub fn drive_with_helpers<L: Library + Send + Sync, G: Gate + Sync, R: Threads + Wait + Sync>(

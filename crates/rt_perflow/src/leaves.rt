@@ -5,7 +5,7 @@ ghost use Rattle.rt_perflow.specs.Posts.{IsPost};
 
 use crate::posts::{Post, posts};
 use flow_core::Gate;
-use flow_hall::{Hall, HallSeat, Pause};
+use flow_hall::{Hall, HallSeat};
 use flow_workers::{Stage, stop, visit};
 use flux_library::Library;
 use std::alloc::Global;
@@ -13,6 +13,7 @@ use std::marker::{Send, Sync};
 use std::sync::Wait;
 use std::thread;
 use std::thread::Threads;
+use thread_pauses::Pause;
 
 /// So many flows run at once, at most.
 const GROUP: u32 = 64;

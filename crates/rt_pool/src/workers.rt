@@ -5,7 +5,7 @@ ghost use Rattle.rt_pool.specs.Posts.{IsPost};
 
 use crate::posts::{Post, posts};
 use flow_core::Gate;
-use flow_hall::{Hall, HallSeat, Pause};
+use flow_hall::{Hall, HallSeat};
 use flow_queue::{FlowQueue, QueuePass};
 use flow_workers::{Stage, stop, visit};
 use flux_library::Library;
@@ -15,6 +15,7 @@ use std::marker::{Send, Sync};
 use std::sync::Wait;
 use std::thread;
 use std::thread::Threads;
+use thread_pauses::Pause;
 
 /// A worker makes so many visits of the hall for one flow, at most, before it takes another number. Between visits of a
 /// flow that waits it lets others go first, and behind the last four it sleeps, for up to 64 microseconds.
