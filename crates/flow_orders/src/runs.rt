@@ -3,7 +3,7 @@
 use flux_model::{FlowNo, NodeNo};
 
 /// A call of a flow's node, and when it ran on a processor: from `start` on, until `stop`, in ticks from 0.
-#[derive(Clone, Copy, Debug, PartialEq, Eq)]
+#[derive(Clone, Copy)]
 pub struct Run {
     pub flow: FlowNo,
     pub node: NodeNo,

@@ -12,7 +12,7 @@ use flux_model::FlowNo;
 use flux_values::Memory;
 
 /// What a flow made of its turn.
-#[derive(Clone, Copy, Debug, PartialEq, Eq)]
+#[derive(Clone, Copy)]
 pub enum Turn {
     /// Nothing: it has had its `end`.
     Ended,

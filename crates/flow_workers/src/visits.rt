@@ -12,7 +12,7 @@ use std::alloc::Global;
 use std::sync::Wait;
 
 /// How a flow stands behind a visit.
-#[derive(Clone, Copy, Debug, PartialEq, Eq)]
+#[derive(Clone, Copy)]
 pub enum Stage {
     /// It has had its `end`.
     Ended,

@@ -54,7 +54,7 @@ pub fn drive_by_threads<L: Library + Send + Sync, G: Gate + Sync, Rt: Threads + 
 }
 
 /// Simulates in whole ticks.
-#[derive(Clone, Copy, Debug)]
+#[derive(Clone, Copy)]
 pub struct TickByTick;
 
 impl Simulator for TickByTick {

@@ -18,7 +18,6 @@ use std::sync::Wait;
 use std::thread::Threads;
 
 /// One of the program's runtimes.
-#[derive(Debug)]
 pub enum Chosen {
     Event(EventLoop),
     Script(Script),

@@ -27,7 +27,7 @@ pub fn lowest_call<L: Library>(core: &Core<L>, first: u32, stride: u32) -> Optio
 }
 
 /// A helper. It serves each flow whose number leaves its own one, modulo the number of helpers.
-#[derive(Clone, Copy, Debug, Drop)]
+#[derive(Clone, Copy, Drop)]
 pub struct Helper {
     /// All flows that it serves below this one have ended. It serves this one too.
     first: u32,

@@ -18,7 +18,7 @@ use std::thread::Threads;
 
 /// Drives a core by an event loop with a number of helpers, from 0 to 16, which run the calls. Without helpers the loop runs
 /// them itself.
-#[derive(Clone, Copy, Debug, PartialEq, Eq)]
+#[derive(Clone, Copy)]
 pub struct EventLoop {
     pub helpers: u8,
     pub ghost few: { helpers ≤ 16 },

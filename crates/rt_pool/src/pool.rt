@@ -14,7 +14,7 @@ use std::sync::Wait;
 use std::thread::Threads;
 
 /// Drives a core by a number of workers, from 1 to 16.
-#[derive(Clone, Copy, Debug, PartialEq, Eq)]
+#[derive(Clone, Copy)]
 pub struct Pool {
     pub workers: u8,
     pub ghost some: { 1 ≤ workers },

@@ -22,7 +22,7 @@ use thread_pauses::Pause;
 const VISITS_IN_A_ROW: u32 = 20;
 
 /// What a worker does next.
-#[derive(Clone, Copy, Debug, PartialEq, Eq)]
+#[derive(Clone, Copy)]
 enum Next {
     /// It goes on at once.
     Goes,

@@ -15,7 +15,6 @@ use std::sync::Wait;
 use std::thread::Threads;
 
 /// Drives a core by a list of flows' numbers.
-#[derive(Debug)]
 pub struct Script {
     pub numbers: List<FlowNo>,
 }
