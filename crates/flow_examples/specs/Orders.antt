@@ -4,7 +4,7 @@ use Rattle.flow_model.specs.declared.journals.Entry.{Entry}
 use Rattle.flow_model.specs.declared.journals.Event.TheVariants.{Enter}
 use Rattle.flow_model.specs.Setup.{Setup}
 use Rattle.flux_words.specs.declared.values.Runtime.TheVariants.{Event, Script}
-use Rattle.flow_orders.specs.Orders.{IsOrderOf}
+use Rattle.flux_runs.specs.Orders.{IsOrderOf}
 use Rattle.flow_examples.specs.Small.{no, concrete, none_held, two, by}
 use Rattle.flow_examples.specs.Legality.{failing, failed}
 

@@ -41,8 +41,3 @@ IsListedTurn setup old numbers since flow event =
     × AreTurns setup old done (old ++ since))
     ⊎ ((listed : List Entry) × (later : List Entry) × (since ≡ listed ++ later)
     × AreTurns setup old numbers (old ++ listed) × IsLowest setup (old ++ since) flow.0)
-
--- the journal of a script goes on by this rule
-abbrev pub FollowsAreScheduled : Type 0
-FollowsAreScheduled = (setup : Setup) (old : List Entry) (numbers : List FlowNo) (new : List Entry)
-    → IsFollow setup old numbers new → IsScheduled (IsListedTurn setup old numbers) setup old new

@@ -3,7 +3,6 @@ pub mod Schedules
 pub mod Drains
 pub mod Round
 pub mod Follow
-pub mod Orders
 pub mod Costs
 pub mod Ticks
 pub mod Runs

@@ -1,7 +1,7 @@
-//! The orders in which flows go on: by turns on the program's runtimes, and on simulated processors.
+//! The orders in which flows go on: by turns, as the event loop or a script lets them, and on simulated processors.
 //!
-//! Here stands what the orders are, and nothing that keeps them: the runtimes and the simulator are proved to, and whoever
-//! only says in which order a journal came needs none of them. `specs/Orders` names the order of each runtime.
+//! Here stands what the orders are. That they are kept is proved of the runtimes and of the simulator, each in its own crate;
+//! whoever only says in which order a journal came needs none of these.
 #![tactic(auto)]
 
 mod runs;

@@ -29,7 +29,7 @@ use Rattle.flow_waits.specs.Idle.{IsIdle, AllAreBlocked}
 use Rattle.flow_orders.specs.Turns.{IsBefore}
 use Rattle.flow_waits.specs.steps.Staying.{IsFresh}
 use Rattle.flow_waits.specs.steps.Waking.{has, IsMore, IsLess, IsEarliest, Rooms, IsMoreAt}
-use Rattle.flow_waits.specs.steps.Covers.{Pools, rooms_for, IsReady, IsParked, IsBehind, IsInRoom, IsCovered, Covers, Lags, HasRoom, IsPassedOver, Parks, WakesFirst, Wakes, served_of, WakesLine}
+use Rattle.flow_waits.specs.steps.Covers.{Pools, rooms_for, IsReady, IsParked, IsBehind, IsInRoom, IsCovered, Covers, Lags, HasRoom, FallsAsleep, Parks, WakesFirst, Wakes, served_of, WakesLine}
 use Rattle.flow_waits.specs.steps.Aside.{beside, AreAside, IsIdleChosen, CallsKeepCovers}
 use Rattle.flow_waits.proofs.Ending.{live-is}
 use Rattle.flow_waits.proofs.Membership.{none_has, more_cases, less_there, less_kept}
@@ -140,7 +140,7 @@ parks-beside old new aside flow stop parks away = record {
         omega (arith, fewer, a, b)
 
 -- one that is passed over, beside others
-pub passed-kept : (old new : Pools) (aside : List ℕ) (flow : ℕ) → IsPassedOver old new flow
+pub passed-kept : (old new : Pools) (aside : List ℕ) (flow : ℕ) → FallsAsleep old new flow
     → (other : ℕ) → flow ≢ other → IsReady (beside old aside) other → IsReady (beside new aside) other
 passed-kept old new aside flow passed other apart ready = by (either aside old.ready other ready)
   where
@@ -148,7 +148,7 @@ passed-kept old new aside flow passed other apart ready = by (either aside old.r
     by (inl is) = left aside new.ready other is
     by (inr is) = right aside new.ready other (less_kept old.ready new.ready flow passed.less other apart is)
 
-pub passed-there : (old new : Pools) (aside : List ℕ) (flow : ℕ) → IsPassedOver old new flow
+pub passed-there : (old new : Pools) (aside : List ℕ) (flow : ℕ) → FallsAsleep old new flow
     → (other : ℕ) → IsReady (beside new aside) other → IsReady (beside old aside) other
 passed-there old new aside flow passed other ready = by (either aside new.ready other ready)
   where

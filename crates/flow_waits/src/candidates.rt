@@ -9,7 +9,7 @@ ghost use Rattle.flow_model.specs.Events.{IsLive};
 ghost use Rattle.flow_core.specs.States.{setup_in};
 ghost use Rattle.flow_waits.specs.steps.Waking.{has};
 ghost use Rattle.flow_waits.specs.steps.Aside.{beside};
-ghost use Rattle.flow_waits.specs.steps.Covers.{Covers, IsChosen, Lags, StayAwake, IsPassedOver, Parks, WakesFirst, Wakes, served_of, WakesLine};
+ghost use Rattle.flow_waits.specs.steps.Covers.{Covers, IsChosen, Lags, StayAwake, FallsAsleep, Parks, WakesFirst, Wakes, served_of, WakesLine};
 
 mod idle;
 
@@ -130,7 +130,7 @@ impl Candidates {
 
     /// No longer looks at a flow that stands in a line.
     fn pass_over(&mut self, flow: u32)
-        ensures { IsPassedOver self.old self.new flow }
+        ensures { FallsAsleep self.old self.new flow }
     {
         self.ready.remove(flow);
     }

@@ -5,7 +5,7 @@ use Rattle.flow_model.specs.declared.journals.Entry.{Entry}
 use Rattle.flow_model.specs.Legal.{IsLegal, IsWhole}
 use Rattle.flow_model.specs.Setup.{Setup}
 use Rattle.flux_words.specs.declared.values.Runtime.{Runtime}
-use Rattle.flow_orders.specs.Orders.{IsOrderOf}
+use Rattle.flux_runs.specs.Orders.{IsOrderOf}
 use Rattle.nodes_all.specs.declared.all.All.{All}
 use Rattle.flow_core.specs.States.{CoreState, setup_in}
 use Rattle.flow_core.specs.Runs.{SameSetup}

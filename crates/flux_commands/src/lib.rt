@@ -3,8 +3,8 @@
 //! `prepare_words` reads the words, the documents and the files, and makes all of the text that a command prints, or the
 //! refusal of it; `ready_words` makes a program ready that is to be served. They promise what was asked for, that what is
 //! prepared is what the command prints, that each refusal has its cause, that counts rise where reading failed alone, and
-//! that what is due is answered. No runtime is known here: the caller hands in
-//! what drives a run's flows, alone or by threads, and what simulates.
+//! that what is due is answered. No runtime's code is named here: the caller hands in what drives a run's flows, alone or by
+//! threads, and what simulates.
 #![tactic(auto)]
 
 mod asking;

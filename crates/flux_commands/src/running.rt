@@ -14,7 +14,6 @@ use flow_core::Core;
 use flow_model::Journal;
 use flux_cells::Cells;
 use flux_hoist::Checked;
-use flux_library::Library;
 use flux_model::Item;
 use flux_runs::{Printing, open, print};
 use flux_values::{Bytes, List, Memory};

@@ -1,12 +1,11 @@
 -- A core that a chosen runtime has driven to its end is driven in the order that the words name.
-use Rattle.std.proofs.Common.{◌≡◌, List, [], refl, subst}
+use Rattle.std.proofs.Common.{◌≡◌, List, [], refl}
 use Rattle.flux_values.specs.Meanings.{LibraryMeaning}
 use Rattle.flow_model.specs.declared.journals.Entry.{Entry}
-use Rattle.flow_model.specs.Legal.{IsLegal, IsWhole}
 use Rattle.flow_model.specs.Setup.{Setup}
 use Rattle.flux_words.specs.declared.values.Runtime.{Runtime}
 use Rattle.flux_words.specs.declared.values.Runtime.TheVariants as words
-use Rattle.flow_orders.specs.Orders.{IsOrderOf}
+use Rattle.flux_runs.specs.Orders.{IsOrderOf}
 use Rattle.flow_core.specs.States.{CoreState, setup_in}
 use Rattle.flow_core.specs.Runs.{GoesToEnd}
 use Rattle.rt_all.specs.Orders.{chosen_by, IsOrder}

@@ -49,7 +49,7 @@ use Rattle.flux_words.specs.Behind.{Manner}
 use Rattle.flux_words.specs.Commands.{run, Spells}
 use Rattle.flux_runs.specs.Setups.{setup_of}
 use Rattle.flux_runs.specs.Printed.{printed_in}
-use Rattle.flow_orders.specs.Orders.{IsOrderOf}
+use Rattle.flux_runs.specs.Orders.{IsOrderOf}
 use Rattle.flux_commands.specs.declared.files.TheConstants.{PROGRAM_FILE_LIMIT, ITEMS_FILE_LIMIT}
 use Rattle.flux_commands.specs.declared.statuses.Status.{Status}
 use Rattle.flux_commands.specs.declared.statuses.Status.TheVariants as statuses

@@ -1,4 +1,5 @@
 pub mod Setups
+pub mod Orders
 pub mod Opening
 pub mod Summaries
 pub mod Printed

@@ -1,7 +1,7 @@
 //! The runtimes of the program, as one.
 //!
-//! Which runtime the words name, and in which order it lets flows go on, stands here and nowhere else: one more runtime
-//! is one more of `Chosen`, with its order in `specs/Orders` and in `Orders` of `flow_orders`.
+//! Which runtime the words name stands here, and by `specs/Orders` the order of each: one more runtime is one more of `Chosen`,
+//! with its order. What the order of the words is, without the runtimes, says `Orders` of `flux_runs`.
 #![tactic(auto)]
 
 mod chosen;

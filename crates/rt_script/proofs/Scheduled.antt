@@ -11,7 +11,8 @@ use Rattle.flow_orders.specs.Turns.{MakesMove, EachStands}
 use Rattle.flow_orders.specs.Schedules.{IsAllowed, IsScheduled}
 use Rattle.flow_orders.specs.Drains.{IsLowestsTurn, DrainsTo}
 use Rattle.flow_waits.proofs.Schedules.{each-none, each-more, each-append}
-use Rattle.flow_orders.specs.Follow.{IsTurn, AreTurns, IsFollow, IsListedTurn, FollowsAreScheduled}
+use Rattle.flow_orders.specs.Follow.{IsTurn, AreTurns, IsFollow, IsListedTurn}
+use Rattle.rt_script.specs.Laws.{FollowsAreScheduled}
 use Rattle.rt_script.proofs.Following.{turns-more}
 
 module _ (setup : Setup) (old : List Entry) (numbers : List FlowNo) where

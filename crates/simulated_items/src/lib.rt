@@ -1,7 +1,7 @@
 //! Items on simulated processors: from a checked program and its items to the three lines that are printed.
 //!
-//! `simulate_items` lets the items' flows run on so many processors, where the calls of each node cost so much. What the lines
-//! say is `IsSimulationText` of `flux_runs`.
+//! `simulate_items` lets the items' flows run on so many processors, where the calls of the first nodes cost so
+//! much as is given, and those of the others 1. What the lines say is `IsSimulationText` of `flux_runs`.
 #![tactic(auto)]
 
 mod simulations;

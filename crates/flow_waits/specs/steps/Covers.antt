@@ -86,24 +86,24 @@ pub record Lags (setup : Setup) (entries : List Entry) (pools : Pools) (from : �
 abbrev pub StayReady : Pools → Pools → Type 0
 StayReady old new = (flow : ℕ) → IsReady old flow → IsReady new flow
 
--- but for flows that are blocked and stand in a line
+-- each flow that was looked at still is, unless it is blocked and stands in a line
 abbrev pub StayAwake : Setup → List Entry → Pools → Pools → Type 0
 StayAwake setup entries old new = (flow : ℕ) → IsReady old flow → (IsInLine setup entries flow → ⊥)
     → IsReady new flow
 
 -- a flow is no longer looked at
-pub record IsPassedOver (old new : Pools) (flow : ℕ) : Type 0 where
+pub record FallsAsleep (old new : Pools) (flow : ℕ) : Type 0 where
   pub less : IsLess old.ready new.ready flow
   pub readers_ : new.readers ≡ old.readers
   pub writers_ : new.writers ≡ old.writers
 
--- a blocked flow has a place in a room, unless it stands in a line
+-- a flow has a place in a room now, unless it stands in a line, which the flag tells
 abbrev pub HasRoom : Pools → Pools → ℕ → Key → Mode → Bool → Type 0
 HasRoom old new flow key mode true = (new.readers ≡ old.readers) × (new.writers ≡ old.writers)
 HasRoom old new flow key mode false = IsMoreAt (rooms_for old mode) (rooms_for new mode) key flow
     × ((other : Mode) → mode ≢ other → rooms_for new other ≡ rooms_for old other)
 
--- and is no longer looked at
+-- a blocked flow is no longer looked at, and has such a place
 pub record Parks (old new : Pools) (flow : ℕ) (stop : Stop) : Type 0 where
   pub less : IsLess old.ready new.ready flow
   pub fewer : IsReady old flow → length new.ready < length old.ready
@@ -115,11 +115,12 @@ pub record MovesFirst (ready more : List ℕ) (rooms fewer : Rooms) (key : Key) 
   pub added : IsMore ready more flow
   pub left : IsLessAt rooms fewer key flow
 
--- if there is one
+-- so is the first flow of the room of a key, if there is one
 abbrev pub WakesFirst : List ℕ → List ℕ → Rooms → Rooms → Key → ℕ → Type 0
 WakesFirst ready more rooms fewer key from = ((room_at rooms key ≡ []) × (more ≡ ready) × (fewer ≡ rooms))
     ⊎ ((flow : ℕ) × MovesFirst ready more rooms fewer key from flow)
 
+-- and the rooms of the other mode stay
 pub record Wakes (old new : Pools) (key : Key) (mode : Mode) (from : ℕ) : Type 0 where
   pub first : WakesFirst old.ready new.ready (rooms_for old mode) (rooms_for new mode) key from
   pub others : (other : Mode) → mode ≢ other → rooms_for new other ≡ rooms_for old other
