@@ -1,3 +1,1 @@
-mod Owns
 pub mod Crossing
-pub mod Settled

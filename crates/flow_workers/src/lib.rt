@@ -1,14 +1,9 @@
-//! What a worker does at a hall, whatever runtime it serves.
+//! A worker's visit at a hall, for one flow, whatever runtime it serves.
 //!
-//! A worker visits the hall for one flow at a time: in a turn the flow goes on, up to its call, a wait or its end; the
-//! call is run outside the turn; and a second turn takes the answer. `settle` ends a drive: a core without live flows is
-//! driven, and every other one was stopped.
+//! In a turn the flow goes on, up to its call, a wait or its end; the call is run outside the turn; and a second turn takes the
+//! answer. Where a thread had no memory, `stop` halts the core.
 #![tactic(auto)]
 
-mod outings;
-mod settling;
 mod visits;
 
-pub use outings::{Outing, go_on, take_answer};
-pub use settling::settle;
-pub use visits::{Stage, stop, visit};
+pub use visits::{stop, visit};

@@ -1,28 +1,15 @@
 //! A worker's visit at the hall, for one flow.
 
 ghost use Rattle.std.specs.Prelude.{◌≡◌, ◌<◌, length};
-ghost use Rattle.flow_workers.specs.Outings.{IsCallIn};
+ghost use Rattle.flow_outings.specs.Outings.{IsCallIn};
 
-use crate::outings::{Outing, go_on, take_answer};
 use flow_core::{Gate, Job};
 use flow_hall::{Hall, HallSeat};
+use flow_outings::{Outing, Stage, go_on, take_answer};
 use flux_library::Library;
 use flux_model::FlowNo;
 use std::alloc::Global;
 use std::sync::Wait;
-
-/// How a flow stands behind a visit.
-#[derive(Clone, Copy)]
-pub enum Stage {
-    /// It has had its `end`.
-    Ended,
-    /// Its next take is blocked.
-    Waits,
-    /// It may go on.
-    Went,
-    /// The core is halted, and all workers end.
-    Halted,
-}
 
 /// Lets a flow go on: in one turn up to its call, which is run outside the turn, and whose answer a second turn takes.
 pub fn visit<L: Library, G: Gate, R: Wait>(

@@ -9,7 +9,7 @@ use Rattle.std.proofs.lemmas.List.{get_or-set_other, length-set, append-nil}
 use Rattle.flow_model.specs.declared.journals.Entry.{Entry}
 use Rattle.flow_core.specs.States.{CoreState}
 use Rattle.flow_core.specs.Runs.{GoesOn}
-use Rattle.flow_workers.specs.Outings.{AddsOwn}
+use Rattle.flow_outings.specs.Outings.{AddsOwn}
 use Rattle.flux_model.specs.declared.items.FlowNo.{FlowNo}
 use Rattle.flow_shared.specs.Journals.{BeginsWith}
 use Rattle.flow_shared.specs.States.{SharedState, SeatState}

@@ -5,7 +5,7 @@ ghost use Rattle.flow_core.specs.Runs.{GoesOn};
 ghost use Rattle.flux_serve.specs.steps.Turns.{LeadsTo};
 
 use flow_core::{Core, Job};
-use flow_workers::{Outing, Stage, go_on};
+use flow_outings::{Outing, Stage, go_on};
 use flux_batches::copy_of_reply;
 use flux_library::Library;
 use flux_model::FlowNo;

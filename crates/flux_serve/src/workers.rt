@@ -2,7 +2,7 @@
 
 ghost use Rattle.std.specs.Prelude.{◌≡◌, ℕ, ◌<◌, ◌≤◌, length, slice_index_or, true, IfSome};
 ghost use Rattle.flow_core.specs.Runs.{GoesOn};
-ghost use Rattle.flow_workers.specs.Outings.{IsCallIn};
+ghost use Rattle.flow_outings.specs.Outings.{IsCallIn};
 ghost use Rattle.flow_shared.specs.Journals.{BeginsWith};
 ghost use Rattle.flow_shared.specs.States.{SeatState};
 ghost use Rattle.flux_batches.specs.Links.{seen_by};
@@ -13,8 +13,8 @@ use crate::dues::Due;
 use crate::lanes::Lane;
 use crate::turns::{Next, go};
 use flow_core::{Core, Gate, Job};
+use flow_outings::{Stage, take_answer};
 use flow_shared::{Shared, SharedSeat};
-use flow_workers::{Stage, take_answer};
 use flux_doors::Link;
 use flux_library::Library;
 use std::alloc::Global;

@@ -1,7 +1,7 @@
 -- The parts of a drive with helpers.
 use Rattle.std.specs.Prelude.{⊤}
 use Rattle.flow_state.specs.States.{SetupState}
-use Rattle.flow_workers.specs.Outings.{IsCallIn}
+use Rattle.flow_outings.specs.Outings.{IsCallIn}
 use Rattle.rt_event.specs.declared.parts.Next.{Next}
 use Rattle.rt_event.specs.declared.parts.Next.TheVariants.{Goes, Rests, Runs, Ends}
 

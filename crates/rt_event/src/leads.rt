@@ -8,7 +8,7 @@ use crate::helpers::lowest_call;
 use crate::parts::{Next, call_of};
 use crate::ready::Ready;
 use flow_core::Core;
-use flow_workers::{Outing, go_on};
+use flow_outings::{Outing, go_on};
 use flux_library::Library;
 use flux_values::Memory;
 

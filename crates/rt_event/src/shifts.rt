@@ -2,7 +2,7 @@
 
 ghost use Rattle.std.specs.Prelude.{◌≡◌, IfOk, IfErr};
 ghost use Rattle.flow_core.specs.Runs.{GoesOnLegally, GoesToEnd};
-ghost use Rattle.flow_workers.specs.Outings.{IsCallIn};
+ghost use Rattle.flow_outings.specs.Outings.{IsCallIn};
 ghost use Rattle.rt_event.specs.Parts.{RunsIn};
 ghost use Rattle.rt_event.specs.Posts.{IsPost};
 
@@ -10,7 +10,8 @@ use crate::parts::{Next, Part, parts};
 use crate::posts::{Post, posts};
 use flow_core::{Core, Gate, Job, Stopped};
 use flow_hall::{Hall, HallSeat};
-use flow_workers::{settle, stop, take_answer};
+use flow_outings::{settle, take_answer};
+use flow_workers::stop;
 use flux_library::Library;
 use std::alloc::Global;
 use std::marker::{Send, Sync};

@@ -6,7 +6,7 @@ ghost use Rattle.flow_core.specs.Runs.{GoesOnLegally, GoesToEnd};
 use crate::leaves::groups;
 use flow_core::{Core, Gate, Stopped};
 use flow_hall::Hall;
-use flow_workers::settle;
+use flow_outings::settle;
 use flux_library::Library;
 use std::marker::{Send, Sync};
 use std::sync::Wait;

@@ -1,7 +1,7 @@
 use Rattle.std.proofs.Common.{true, sym, ap, subst, ◌∙◌}
 use Rattle.flow_core.specs.States.{CoreState}
 use Rattle.flow_core.specs.Runs.{GoesOn}
-use Rattle.flow_workers.proofs.Settled.{goes-flag}
+use Rattle.flow_outings.proofs.Settled.{goes-flag}
 use Rattle.flow_workers.proofs.visits.stop.Goals as goal
 
 pub give-requires-clause-on : goal.give-requires-clause-on

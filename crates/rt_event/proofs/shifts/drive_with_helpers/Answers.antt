@@ -1,5 +1,5 @@
 use Rattle.std.proofs.Common.{◌∙◌}
-use Rattle.flow_workers.proofs.Settled.{goes-none, settled-ok, settled-err}
+use Rattle.flow_outings.proofs.Settled.{goes-none, settled-ok, settled-err}
 use Rattle.rt_event.proofs.shifts.drive_with_helpers.Goals as goal
 
 pub returns-in_default-clause-ok : goal.returns-in_default-clause-ok

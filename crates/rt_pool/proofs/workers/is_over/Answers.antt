@@ -1,6 +1,6 @@
 use Rattle.std.proofs.Common.{sym, subst}
 use Rattle.flow_core.specs.Runs.{GoesOn}
-use Rattle.flow_workers.proofs.Settled.{goes-none}
+use Rattle.flow_outings.proofs.Settled.{goes-none}
 use Rattle.rt_pool.proofs.workers.is_over.Goals as goal
 
 pub give-requires-clause-on : goal.give-requires-clause-on

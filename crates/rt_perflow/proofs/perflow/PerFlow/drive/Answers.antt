@@ -1,5 +1,5 @@
 use Rattle.std.proofs.Common.{sym, ◌∙◌}
-use Rattle.flow_workers.proofs.Settled.{goes-none, settled-ok, settled-err}
+use Rattle.flow_outings.proofs.Settled.{goes-none, settled-ok, settled-err}
 use Rattle.rt_perflow.proofs.perflow.PerFlow.drive.Goals as goal
 
 pub returns-in-Ok-clause-ok : goal.returns-in-Ok-clause-ok

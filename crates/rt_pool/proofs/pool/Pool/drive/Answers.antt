@@ -1,5 +1,5 @@
 use Rattle.std.proofs.Common.{◌∙◌}
-use Rattle.flow_workers.proofs.Settled.{goes-none, settled-ok, settled-err}
+use Rattle.flow_outings.proofs.Settled.{goes-none, settled-ok, settled-err}
 use Rattle.rt_pool.proofs.pool.Pool.drive.Goals as goal
 
 pub returns-then-flows-eq0-clause-ok : goal.returns-then-flows-eq0-clause-ok

@@ -1,7 +1,7 @@
 use Rattle.std.proofs.Common.{subst}
-use Rattle.flow_workers.specs.Outings.{AddsOwn}
-use Rattle.flow_workers.proofs.Owns.{adds-finished}
-use Rattle.flow_workers.proofs.outings.finish.Goals as goal
+use Rattle.flow_outings.specs.Outings.{AddsOwn}
+use Rattle.flow_outings.proofs.Owns.{adds-finished}
+use Rattle.flow_outings.proofs.outings.finish.Goals as goal
 
 pub returns : goal.returns
 returns g c =

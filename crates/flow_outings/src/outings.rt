@@ -2,7 +2,7 @@
 
 ghost use Rattle.std.specs.Prelude.{◌≡◌, ◌<◌, length, IsSome, IfOk};
 ghost use Rattle.flow_core.specs.States.{begun_by};
-ghost use Rattle.flow_workers.specs.Outings.{AddsOwn, ComesTo, IsAnsweredBy};
+ghost use Rattle.flow_outings.specs.Outings.{AddsOwn, ComesTo, IsAnsweredBy};
 
 use flow_core::{CallDone, Core, Job, Step};
 use flux_library::Library;

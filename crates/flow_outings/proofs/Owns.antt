@@ -18,7 +18,7 @@ use Rattle.flow_core.specs.declared.cores.Finish.TheVariants as finishes
 use Rattle.flow_core.specs.States.{CoreState}
 use Rattle.flow_core.specs.Runs.{GoesOn, LeavesOthers}
 use Rattle.flow_core.specs.Moves.{with_entry, HasStepped, HasFinished}
-use Rattle.flow_workers.specs.Outings.{AddsOwn}
+use Rattle.flow_outings.specs.Outings.{AddsOwn}
 
 abbrev Owns : FlowNo → List Entry → Type 0
 Owns flow = AllByRecursion (λ entry. entry.flow ≡ flow)

@@ -1,5 +1,5 @@
-use Rattle.flow_workers.proofs.Owns.{adds-then, adds-step}
-use Rattle.flow_workers.proofs.outings.step_on.Goals as goal
+use Rattle.flow_outings.proofs.Owns.{adds-then, adds-step}
+use Rattle.flow_outings.proofs.outings.step_on.Goals as goal
 
 pub returns-in-Waits-clause-own : goal.returns-in-Waits-clause-own
 returns-in-Waits-clause-own g c =

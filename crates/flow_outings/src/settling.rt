@@ -1,7 +1,7 @@
 //! The end of a drive.
 
 ghost use Rattle.std.specs.Prelude.{IfOk, IfErr};
-ghost use Rattle.flow_workers.specs.Settling.{IsSetBack, EndsWhole};
+ghost use Rattle.flow_outings.specs.Settling.{IsSetBack, EndsWhole};
 
 use flow_core::{Core, Stopped, none_live_is_whole};
 use flux_library::Library;

@@ -6,7 +6,7 @@ use Rattle.flux_values.specs.Meanings.{LibraryMeaning}
 use Rattle.flow_core.specs.States.{CoreState}
 use Rattle.flow_core.specs.Runs.{GoesOn, GoesOnLegally, GoesToEnd}
 use Rattle.flow_core.specs.declared.runtimes.Stopped.{Stopped}
-use Rattle.flow_workers.specs.Settling.{IsSetBack, EndsWhole}
+use Rattle.flow_outings.specs.Settling.{IsSetBack, EndsWhole}
 
 module _ {L : Type 0} where
   pub goes-none : (core : CoreState L) → GoesOn core core

@@ -10,8 +10,8 @@ use Rattle.flow_state.specs.States.{SetupState}
 use Rattle.flow_state.specs.Calls.{library_name}
 use Rattle.flow_core.specs.States.{CoreState, JobState, DoneState, begun_by}
 use Rattle.flow_core.specs.Runs.{SameSetup}
-use Rattle.flow_workers.specs.declared.outings.Outing.{Outing}
-use Rattle.flow_workers.specs.declared.outings.Outing.TheVariants.{Ended, Waits, Calls, Went, Halted}
+use Rattle.flow_outings.specs.declared.outings.Outing.{Outing}
+use Rattle.flow_outings.specs.declared.outings.Outing.TheVariants.{Ended, Waits, Calls, Went, Halted}
 
 module _ {L : Type 0} where
   -- the same setup; some entries more, or none, which are all of one flow; and the begun calls of the others

@@ -1,0 +1,2 @@
+mod Owns
+pub mod Settled
