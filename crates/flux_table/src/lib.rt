@@ -6,6 +6,7 @@
 
 mod lines;
 mod locks;
+mod queues;
 mod tables;
 
 pub use locks::{Held, Waiter};

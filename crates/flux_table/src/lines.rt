@@ -11,6 +11,7 @@ ghost use Rattle.flux_table.specs.Changes.{line_without};
 ghost use Rattle.flux_table.specs.Lines.{has, HasAgainst};
 
 use crate::locks::Waiter;
+use crate::queues::Queue;
 use flux_model::{FlowNo, Mode, conflict};
 use flux_values::Memory;
 use std::alloc::Global;
@@ -21,7 +22,7 @@ use std::marker::Model;
 /// and those of the writers, so that the lowest is found without a walk.
 #[derive(Drop)]
 pub struct Line {
-    order: Vec<Waiter>,
+    order: Queue,
     waiting: BTreeSet<FlowNo>,
     writers: BTreeSet<FlowNo>,
 }
@@ -33,9 +34,9 @@ impl Model for Line {
 
     ghost Value = { List Waiter };
 
-    ghost view = { λ l. l.order.items };
+    ghost view = { λ l. l.order };
 
-    ghost invariant = { λ l. IsKept l.order.items l.waiting l.writers };
+    ghost invariant = { λ l. IsKept l.order l.waiting l.writers };
 }
 
 impl Line {
@@ -44,7 +45,7 @@ impl Line {
         ensures { result ≡ [] }
     {
         Line {
-            order: Vec::new(alloc),
+            order: Queue::new(alloc),
             waiting: BTreeSet::new(alloc),
             writers: BTreeSet::new(alloc),
         }
@@ -89,8 +90,8 @@ impl Line {
         }
         take_out(&mut self.waiting, flow);
         take_out(&mut self.writers, flow);
-        if let Some(place) = place_of(&self.order, flow) {
-            let _ = self.order.remove(place);
+        if let Some(place) = place_of(self.order.as_slice(), flow) {
+            self.order.remove(place);
         }
     }
 
@@ -100,7 +101,7 @@ impl Line {
         ensures { IsLowestOf (λ other. StandsAgainst (line_before self.now flow.0) other mode) result }
     {
         if self.waiting.contains(&flow) {
-            return stander_against(&self.order, flow, mode);
+            return stander_against(self.order.as_slice(), flow, mode);
         }
         match mode {
             Mode::Reader => lowest_of(&self.writers),
@@ -172,23 +173,23 @@ fn take_out(flows: &mut BTreeSet<FlowNo>, flow: FlowNo)
 
 /// Puts a flow at the end of a line, and among its writers where it is one.
 fn push_writer(
-    line: &mut Vec<Waiter>,
+    line: &mut Queue,
     writers: &mut BTreeSet<FlowNo>,
     waiter: Waiter,
 ) -> Result<(), Memory>
-    requires nowhere { StandsNowhere line.old.items waiter.flow.0 }
-    requires once { StandOnce line.old.items }
-    requires writers { HasAgainst writers.old line.old.items Reader }
-    ensures ok { OnOk result (line.new.items ≡ line.old.items ++ waiter ∷ []) }
-    ensures err { OnErr result (line.new.items ≡ line.old.items) }
-    ensures writers { HasAgainst writers.new line.new.items Reader }
+    requires nowhere { StandsNowhere line.old waiter.flow.0 }
+    requires once { StandOnce line.old }
+    requires writers { HasAgainst writers.old line.old Reader }
+    ensures ok { OnOk result (line.new ≡ line.old ++ waiter ∷ []) }
+    ensures err { OnErr result (line.new ≡ line.old) }
+    ensures writers { HasAgainst writers.new line.new Reader }
 {
     add(writers, waiter, Mode::Reader)?;
     match line.push(waiter) {
         Ok(()) => Ok(()),
-        Err(_) => {
+        Err(refused) => {
             take_out(writers, waiter.flow);
-            Err(Memory)
+            Err(refused)
         }
     }
 }

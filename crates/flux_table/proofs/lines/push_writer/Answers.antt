@@ -6,7 +6,7 @@ use Rattle.flux_table.proofs.lines.push_writer.Goals as goal
 
 pub returns-in-Err-clause-writers : goal.returns-in-Err-clause-writers
 returns-in-Err-clause-writers c =
-    let line = c.args.line.now.items in
-    subst (λ l. HasAgainst c.take_out.new.flows l Reader) (sym c.in-Err.ensures.items)
+    let line = c.args.line.now in
+    subst (λ l. HasAgainst c.take_out.new.flows l Reader) (sym c.in-Err.ensures.err)
     (against_undone c.take_out.new.flows line c.args.waiter Reader c.requires.nowhere c.requires.once
     (λ once. c.take_out.ensures (line ++ c.args.waiter ∷ []) Reader once (c.in_ok-add.ensures.ok line c.requires.writers)))

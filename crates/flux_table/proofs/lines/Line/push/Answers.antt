@@ -11,7 +11,7 @@ push_writer-requires-clause-nowhere c = subst (λ l. StandsNowhere l c.args.wait
 
 pub invariant_of-self-in-Ok : goal.invariant_of-self-in-Ok
 invariant_of-self-in-Ok c = let a = c.in-Ok.ensures in
-    let line = c.self.inside.order.items in
+    let line = c.self.inside.order in
     let nowhere = subst (λ l. StandsNowhere l c.args.waiter.flow.0) (sym c.self.view_is) c.requires in
     record {
       once = subst StandOnce (sym c.in-Ok.ensures.ok) (once_more line c.args.waiter c.self.invariant.once nowhere);
@@ -21,7 +21,7 @@ invariant_of-self-in-Ok c = let a = c.in-Ok.ensures in
 
 pub invariant_of-self-in-Err : goal.invariant_of-self-in-Err
 invariant_of-self-in-Err c =
-    let line = c.self.inside.order.items in
+    let line = c.self.inside.order in
     let nowhere = subst (λ l. StandsNowhere l c.args.waiter.flow.0) (sym c.self.view_is) c.requires in
     record {
       once = subst StandOnce (sym c.in-Err.ensures.err) c.self.invariant.once;
