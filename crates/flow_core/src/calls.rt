@@ -4,6 +4,7 @@ ghost use Rattle.std.specs.Prelude.{◌≡◌, IfOk, option_map};
 ghost use Rattle.std.specs.Arc.{arc_value};
 ghost use Rattle.flow_state.specs.Calls.{library_name, IsReady, IsAnswerOf};
 
+use flow_model::SharedAnswer;
 use flow_state::Inputs;
 use flux_library::Library;
 use flux_model::{Body, FlowNo, NodeNo, Program};
@@ -103,11 +104,12 @@ impl<L: Library> Model for Job<L> {
     ghost invariant = { λ j. IsReady (L.meaning (arc_value j.library)) (arc_value j.program) j.begun };
 }
 
-/// A call that was run. It keeps that its answer is the library's for its own inputs.
+/// A call that was run. It keeps that its answer is the library's for its own inputs. The journal's entry shares
+/// its arguments and its answer.
 pub struct CallDone<L: Library> {
     flow: FlowNo,
     begun: Begun,
-    answer: Answer,
+    answer: SharedAnswer,
     program: Arc<Program>,
     library: Arc<L>,
 }
@@ -214,7 +216,7 @@ impl<L: Library> Job<L> {
         Ok(CallDone {
             flow: self.flow,
             begun: self.begun.share()?,
-            answer,
+            answer: SharedAnswer::new(alloc, answer)?,
             program: Arc::try_clone(&self.program)?,
             library: Arc::try_clone(&self.library)?,
         })
@@ -238,6 +240,15 @@ impl<L: Library> CallDone<L> {
 impl<L: Library> CallDone<L> {
     /// The library's answer, for the node's library name and the inputs.
     pub fn answer(&self) -> &Answer
+        ensures same { result.now ≡ self.now.answer }
+        ensures right { IsAnswerOf (L.meaning self.now.library) self.now.program self.now.inputs
+            self.now.answer }
+    {
+        self.answer.as_answer()
+    }
+
+    /// The answer, which an entry may share.
+    pub(crate) fn shared_answer(&self) -> &SharedAnswer
         ensures same { result.now ≡ self.now.answer }
         ensures right { IsAnswerOf (L.meaning self.now.library) self.now.program self.now.inputs
             self.now.answer }

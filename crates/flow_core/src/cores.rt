@@ -115,7 +115,7 @@ impl<L: Library> Core<L> {
         if !self.fields.has_begun(flow, inputs)? {
             return Ok(Finish::Late);
         }
-        self.fields.answer(flow, inputs, done.answer())?;
+        self.fields.answer(flow, inputs, done.shared_answer())?;
         Ok(Finish::Went)
     }
 

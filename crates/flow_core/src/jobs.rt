@@ -2,19 +2,31 @@
 
 ghost use Rattle.std.specs.Prelude.{◌≡◌, ◌<◌, ◌↔◌, Some, None, length, IsTrue, IsSome, IfOk, OnOk, OnErr, option_map};
 ghost use Rattle.flux_laws.specs.Going.{IsAtCall};
-ghost use Rattle.flow_state.specs.Calls.{IsNextCall, IsAnswerOf};
+ghost use Rattle.flow_model.specs.declared.journals.Event.TheVariants as events;
+ghost use Rattle.flow_state.specs.Calls.{IsNextCall, IsAnswerOf, made_of};
 ghost use Rattle.flow_core.specs.States.{setup_in, begun_by};
 ghost use Rattle.flow_core.specs.Moves.{FinishesCall, HasBegun, job_of};
 ghost use Rattle.flow_core.specs.steps.Fields.{core_of, AreFields};
 
 use crate::calls::{Begun, Job};
-use crate::copies::call_entry;
 use crate::fields::{Fields, take_back, write};
 use crate::sameness::same_inputs;
+use flow_model::{CallMade, Entry, Event, SharedAnswer};
 use flow_state::Inputs;
 use flux_library::Library;
 use flux_model::FlowNo;
-use flux_values::{Answer, Memory};
+use flux_values::Memory;
+
+/// The event of a call, which shares the call's arguments and its answer.
+fn call_event(inputs: &Inputs, answer: &SharedAnswer) -> Result<Event, Memory>
+    ensures { IfOk result (λ event. event ≡ events.Call (made_of inputs.now answer.now)) }
+{
+    Ok(Event::Call(CallMade {
+        node: inputs.node,
+        args: inputs.args.share()?,
+        answer: answer.share()?,
+    }))
+}
 
 impl<L: Library> Fields<L> {
     /// The job of a call that comes next.
@@ -80,8 +92,13 @@ impl<L: Library> Fields<L> {
         }
     }
 
-    /// Adds a flow's begun call with its answer.
-    pub fn answer(&mut self, flow: FlowNo, inputs: &Inputs, answer: &Answer) -> Result<(), Memory>
+    /// Adds a flow's begun call with its answer. The entry shares what it is given, and copies nothing.
+    pub fn answer(
+        &mut self,
+        flow: FlowNo,
+        inputs: &Inputs,
+        answer: &SharedAnswer,
+    ) -> Result<(), Memory>
         requires fields { AreFields L.meaning self.old }
         requires flow { flow.0 < length self.old.state.setup.items }
         requires begun { begun_by (core_of self.old) flow.0 ≡ Some inputs.now }
@@ -92,9 +109,8 @@ impl<L: Library> Fields<L> {
             inputs.now answer.now) }
         ensures err { OnErr result (core_of self.new ≡ core_of self.old) }
     {
-        let args = inputs.args.as_slice();
-        let entry = call_entry(self.state.alloc(), flow, inputs.node, args, answer)?;
-        write(&mut self.journal, entry)?;
+        let event = call_event(inputs, answer)?;
+        write(&mut self.journal, Entry { flow, event })?;
         match self.state.answer(flow, inputs, answer) {
             Ok(()) => {
                 self.begun[flow.0 as usize] = None;

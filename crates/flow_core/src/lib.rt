@@ -7,7 +7,6 @@
 #![tactic(auto)]
 
 mod calls;
-mod copies;
 mod cores;
 mod fields;
 mod gates;

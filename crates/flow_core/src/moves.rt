@@ -6,6 +6,8 @@ ghost use Rattle.flow_model.specs.Events.{IsNext};
 ghost use Rattle.flow_model.specs.Waits.{Blocks};
 ghost use Rattle.flux_laws.specs.Moves.{MayStep};
 ghost use Rattle.flux_table.specs.Blockers.{IsLowestOf};
+ghost use Rattle.flow_state.specs.declared.coming.Coming.TheVariants as comings;
+ghost use Rattle.flow_state.specs.Coming.{Comes};
 ghost use Rattle.flow_core.specs.States.{setup_in};
 ghost use Rattle.flow_core.specs.Moves.{HasStepped};
 ghost use Rattle.flow_core.specs.steps.Fields.{core_of, AreFields};
@@ -19,16 +21,17 @@ use flux_model::{FlowNo, Mode};
 use flux_values::Memory;
 
 impl<L: Library> Fields<L> {
-    /// Makes a flow's next event.
-    fn go(&mut self, flow: FlowNo, event: Event) -> Result<Step<L>, Memory>
+    /// Makes a flow's next event, which is what comes.
+    fn go(&mut self, flow: FlowNo, coming: Coming, event: Event) -> Result<Step<L>, Memory>
         requires fields { AreFields L.meaning self.old }
+        requires comes { Comes (setup_in L.meaning (core_of self.old)) self.old.state.entries flow.0 coming }
         requires may { MayStep (setup_in L.meaning (core_of self.old)) self.old.state.entries flow event }
         ensures fields { AreFields L.meaning self.new }
         ensures ok { IfOk result (HasStepped L.meaning (core_of self.old) (core_of self.new) flow) }
         ensures err { OnErr result (core_of self.new ≡ core_of self.old) }
     {
         write(&mut self.journal, Entry { flow, event })?;
-        match self.state.make(flow) {
+        match self.state.make(flow, coming) {
             Ok(()) => Ok(Step::Went),
             Err(memory) => {
                 take_back(&mut self.journal);
@@ -71,15 +74,15 @@ impl<L: Library> Fields<L> {
     /// Lets a flow take a key, or wait for it.
     fn take(&mut self, flow: FlowNo, key: Key, mode: Mode) -> Result<Step<L>, Memory>
         requires fields { AreFields L.meaning self.old }
-        requires next { IsNext (setup_in L.meaning (core_of self.old)) self.old.state.entries flow.0
-            (events.Take key mode) }
+        requires comes { Comes (setup_in L.meaning (core_of self.old)) self.old.state.entries flow.0
+            (comings.Take key mode) }
         ensures fields { AreFields L.meaning self.new }
         ensures ok { IfOk result (HasStepped L.meaning (core_of self.old) (core_of self.new) flow) }
         ensures err { OnErr result (core_of self.new ≡ core_of self.old) }
     {
         match self.state.blocker(flow, key, mode) {
             Some(holder) => self.wait(flow, key, mode, holder),
-            None => self.go(flow, Event::Take(key, mode)),
+            None => self.go(flow, Coming::Take(key, mode), Event::Take(key, mode)),
         }
     }
 
@@ -94,15 +97,16 @@ impl<L: Library> Fields<L> {
         if self.is_calling(flow) {
             return Ok(Step::Calling);
         }
-        match self.state.next(flow) {
+        let coming = self.state.next(flow);
+        match coming {
             Coming::Ended => Ok(Step::Ended),
             Coming::Call(_) => Ok(Step::Job(self.begin(flow)?)),
             Coming::Take(key, mode) => self.take(flow, key, mode),
-            Coming::Enter(node) => self.go(flow, Event::Enter(node)),
-            Coming::Choose(number) => self.go(flow, Event::Choose(number)),
-            Coming::Exit(node, outcome) => self.go(flow, Event::Exit(node, outcome)),
-            Coming::Drop(key) => self.go(flow, Event::Drop(key)),
-            Coming::End(outcome) => self.go(flow, Event::End(outcome)),
+            Coming::Enter(node) => self.go(flow, coming, Event::Enter(node)),
+            Coming::Choose(number) => self.go(flow, coming, Event::Choose(number)),
+            Coming::Exit(node, outcome) => self.go(flow, coming, Event::Exit(node, outcome)),
+            Coming::Drop(key) => self.go(flow, coming, Event::Drop(key)),
+            Coming::End(outcome) => self.go(flow, coming, Event::End(outcome)),
         }
     }
 }

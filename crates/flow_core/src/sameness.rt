@@ -65,7 +65,7 @@ fn same_cells(a: &[Cell], b: &[Cell]) -> Result<bool, Memory>
 fn same_call(a: &Inputs, b: &Inputs) -> bool
     ensures { IsTrue result ↔ ((a.now.node ≡ b.now.node) × (a.now.args ≡ b.now.args)) }
 {
-    a.node == b.node && a.args == b.args
+    a.node == b.node && a.args.as_slice() == b.args.as_slice()
 }
 
 /// Whether two calls are of the same node, on the same values and cells.

@@ -1,7 +1,8 @@
 //! The journal of what flows did.
 
+use crate::carried::{Carried, SharedAnswer};
 use flux_model::{ClassNo, FlowNo, NodeNo};
-use flux_values::{Answer, List, Mode, Value};
+use flux_values::{List, Mode};
 
 /// What is locked: a class, for a session class with the session's number.
 #[derive(Clone, Copy, Debug, PartialEq, Eq, PartialOrd, Ord, Hash)]
@@ -10,12 +11,11 @@ pub struct Key {
     pub id: Option<u64>,
 }
 
-/// A call of a node, with what it answered.
-#[derive(Debug)]
+/// A call of a node, with what it answered: contracts see a list of values and an answer.
 pub struct CallMade {
     pub node: NodeNo,
-    pub args: List<Value>,
-    pub answer: Answer,
+    pub args: Carried,
+    pub answer: SharedAnswer,
 }
 
 impl Drop for CallMade {
@@ -32,7 +32,6 @@ pub enum Outcome {
     Bad(u16),
 }
 
-#[derive(Debug)]
 pub enum Event {
     Take(Key, Mode),
     Wait(Key, Mode),
@@ -61,7 +60,6 @@ impl Drop for Event {
 }
 
 /// An event with its flow.
-#[derive(Debug)]
 pub struct Entry {
     pub flow: FlowNo,
     pub event: Event,
@@ -74,7 +72,6 @@ impl Drop for Entry {
 }
 
 /// What the flows did, in order.
-#[derive(Debug)]
 pub struct Journal {
     pub entries: List<Entry>,
 }

@@ -5,6 +5,8 @@
 //! code that meets it.
 #![tactic(auto)]
 
+mod carried;
 mod journals;
 
+pub use carried::{Carried, SharedAnswer};
 pub use journals::{CallMade, Entry, Event, Journal, Key, Outcome};

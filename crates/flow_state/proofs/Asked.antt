@@ -147,12 +147,27 @@ module _ {L : Type 0} (meaning : L → LibraryMeaning) (r : Fields L) (is : AreF
         by (inr (inr e)) = next-goes_on setup entries legal flow.0 within (Take waits.key waits.mode) waits.next
             (ended-is e)
 
-    -- where an event is next, neither a call nor nothing comes
-    pub never-made : (event : Event) → IsNext setup entries flow.0 event
-        → ((node : NodeNo) × (next ≡ nexts.Call node)) ⊎ (next ≡ nexts.Ended) → ⊥
-    never-made event there (inl (node, e)) =
-        not-both setup entries flow.0 event node (values_at place.local) there (call-is_next node e)
-    never-made event there (inr e) = next-goes_on setup entries legal flow.0 within event there (ended-is e)
+    -- the flow's next event is the one that comes there
+    pub event-coming : (event : Event) → IsNext setup entries flow.0 event
+        → IsEventComing setup (plans_of r) items flow.0 event
+    event-coming event there = record { next = next; coming = coming; event_ = by (sort-of keys next) }
+      where
+        by : IsSort keys next → event_for keys next ≡ Some event
+        by (inl (own, e)) =
+            e ∙ ap Some (next-unique setup entries flow.0 own event (event-is_next own e) there)
+        by (inr (inl (node, e))) = absurd (not-both setup entries flow.0 event node (values_at place.local) there
+            (call-is_next node e))
+        by (inr (inr e)) = absurd (next-goes_on setup entries legal flow.0 within event there (ended-is e))
+
+    -- and where its next event is a call, one comes there
+    pub call-coming : (node : NodeNo) (args : List Value) → CallIsNext setup entries flow.0 node args
+        → (own : NodeNo) × (next ≡ nexts.Call own)
+    call-coming node args there = by (sort-of keys next)
+      where
+        by : IsSort keys next → (own : NodeNo) × (next ≡ nexts.Call own)
+        by (inl (event, e)) = absurd (not-both setup entries flow.0 event node args (event-is_next event e) there)
+        by (inr (inl call)) = call
+        by (inr (inr e)) = absurd (call-goes_on setup entries legal flow.0 within node args there (ended-is e))
 
     -- ---- a take
 
@@ -166,9 +181,6 @@ module _ {L : Type 0} (meaning : L → LibraryMeaning) (r : Fields L) (is : AreF
 
       pub take-is_next : IsNext setup entries flow.0 (Take key mode)
       take-is_next = event-is_next (Take key mode) take-event
-
-      pub take-coming : IsEventComing setup (plans_of r) items flow.0 (Take key mode)
-      take-coming = record { next = next; coming = coming; event_ = take-event }
 
       pub asks-rightly : MayTake (holders_of r.table) (lines_of r.table) flow.0 key mode
       asks-rightly = let after = is.after in may-take setup entries legal r.table after.table flow.0 key mode within
@@ -189,10 +201,6 @@ module _ {L : Type 0} (meaning : L → LibraryMeaning) (r : Fields L) (is : AreF
           free other (subst (λ (k : Key). Blocks entries other flow.0 k mode) ks
           (subst (λ (m : Mode). Blocks entries other flow.0 waits.key m) ms waits.blocked))
 
-      pub free-take : (IsBlocked setup entries flow.0 → ⊥) → (other : ℕ) → Blocks entries other flow.0 key mode → ⊥
-      free-take free other blocks =
-          free (other, record { key = key; mode = mode; next = take-is_next; blocked = blocks })
-
     -- ---- a drop
 
     pub drop-event : (class : ClassNo) → next ≡ nexts.Drop class → (key : Key)
@@ -201,12 +209,6 @@ module _ {L : Type 0} (meaning : L → LibraryMeaning) (r : Fields L) (is : AreF
         let same : keys class ≡ key = let e = sym (place-key_for setup (plans_of r) entries legal flow.0 place own
         class) ∙ is_key in cc in
         ap (event_for keys) drops ∙ ap (λ (k : Key). Some (Drop k)) same
-
-    pub drop-coming : (class : ClassNo) → next ≡ nexts.Drop class → (key : Key)
-        → key_for setup (item_of setup flow.0) class ≡ Some key
-        → IsEventComing setup (plans_of r) items flow.0 (Drop key)
-    drop-coming class drops key is_key =
-        record { next = next; coming = coming; event_ = drop-event class drops key is_key }
 
     -- ---- and nothing else
 

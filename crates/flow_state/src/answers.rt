@@ -11,14 +11,19 @@ ghost use Rattle.flow_state.specs.steps.Fields.{state_of, plans_of, AreFields};
 
 use crate::fields::Fields;
 use crate::inputs::Inputs;
+use flow_model::SharedAnswer;
 use flux_library::Library;
 use flux_model::FlowNo;
-use flux_plan::Next;
-use flux_values::{Answer, Memory};
+use flux_values::Memory;
 
 impl<L: Library> Fields<L> {
     /// Makes the call that comes next for a flow.
-    pub fn answer(&mut self, flow: FlowNo, inputs: &Inputs, answer: &Answer) -> Result<(), Memory>
+    pub fn answer(
+        &mut self,
+        flow: FlowNo,
+        inputs: &Inputs,
+        answer: &SharedAnswer,
+    ) -> Result<(), Memory>
         requires fields { AreFields L.meaning self.old }
         requires flow { flow.0 < length self.old.setup.items }
         requires next { IsNextCall (setup_at L.meaning (state_of self.old)) self.old.made flow.0
@@ -30,10 +35,8 @@ impl<L: Library> Fields<L> {
             (made_of inputs.now answer.now)) }
         ensures err { OnErr result (state_of self.new ≡ state_of self.old) }
     {
-        let Next::Call(_) = self.next(flow) else {
-            unreachable!()
-        };
-        if answer.puts.is_empty() {
+        self.rests(flow);
+        if answer.as_answer().puts.is_empty() {
             self.answer_alone(flow, inputs, answer)
         } else {
             self.answer_with_puts(flow, inputs, answer)
@@ -41,7 +44,12 @@ impl<L: Library> Fields<L> {
     }
 
     /// The same for an answer without puts.
-    fn answer_alone(&mut self, flow: FlowNo, inputs: &Inputs, answer: &Answer) -> Result<(), Memory>
+    fn answer_alone(
+        &mut self,
+        flow: FlowNo,
+        inputs: &Inputs,
+        answer: &SharedAnswer,
+    ) -> Result<(), Memory>
         requires fields { AreFields L.meaning self.old }
         requires flow { flow.0 < length self.old.setup.items }
         requires next { IsNextCall (setup_at L.meaning (state_of self.old)) self.old.made flow.0
@@ -67,7 +75,7 @@ impl<L: Library> Fields<L> {
         &mut self,
         flow: FlowNo,
         inputs: &Inputs,
-        answer: &Answer,
+        answer: &SharedAnswer,
     ) -> Result<(), Memory>
         requires fields { AreFields L.meaning self.old }
         requires flow { flow.0 < length self.old.setup.items }
@@ -86,7 +94,8 @@ impl<L: Library> Fields<L> {
         let mut ahead = self.places[flow.0 as usize].local.copy()?;
         self.setup.answered(flow, &mut ahead, answer)?;
         let program = &self.setup.program;
-        self.cells.apply(keys.as_slice(), &answer.puts, program)?;
+        self.cells
+            .apply(keys.as_slice(), &answer.as_answer().puts, program)?;
         let place = &mut self.places[flow.0 as usize];
         place.local = ahead;
         self.made.add_call(flow, inputs, answer);

@@ -1,12 +1,13 @@
 //! What calls are given.
 
+use flow_model::Carried;
 use flux_model::NodeNo;
-use flux_values::{Cell, List, Value};
+use flux_values::{Cell, List};
 
 /// What a call of a node is given: values, and the cells that the node uses, in order.
 pub struct Inputs {
     pub node: NodeNo,
-    pub args: List<Value>,
+    pub args: Carried,
     pub cells: List<Cell>,
 }
 

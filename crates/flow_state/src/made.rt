@@ -7,9 +7,8 @@ ghost use Rattle.flow_state.specs.steps.Tales.{told};
 
 use crate::inputs::Inputs;
 use crate::tales::{Last, Tale};
-use flow_model::Entry;
+use flow_model::{Entry, SharedAnswer};
 use flux_model::FlowNo;
-use flux_values::Answer;
 use std::marker::Model;
 use std::snapshot::Snapshot;
 
@@ -50,7 +49,7 @@ impl Made {
     }
 
     /// A call more, with its answer.
-    pub fn add_call(&mut self, flow: FlowNo, inputs: &Inputs, answer: &Answer)
+    pub fn add_call(&mut self, flow: FlowNo, inputs: &Inputs, answer: &SharedAnswer)
         ensures { self.new ≡ self.old
             ++ record { flow = flow; event = events.Call (made_of inputs.now answer.now) } ∷ [] }
     {

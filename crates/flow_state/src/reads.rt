@@ -17,7 +17,6 @@ use crate::inputs::Inputs;
 use crate::keys::{cells_in, keys_in};
 use flow_model::Key;
 use flux_library::Library;
-use flux_library::answers::copies;
 use flux_model::{Body, FlowNo, Hold, NodeNo, Program};
 use flux_plan::Next;
 use flux_values::{Cell, List, Memory, Sig};
@@ -94,7 +93,7 @@ impl<L: Library> Fields<L> {
         let place = &self.places[flow.0 as usize];
         Ok(Inputs {
             node,
-            args: copies(self.alloc, place.local.args())?,
+            args: place.local.share_args()?,
             cells: self.cells_for(place.session, node)?,
         })
     }

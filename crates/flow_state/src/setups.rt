@@ -5,11 +5,12 @@ ghost use Rattle.std.specs.Arc.{arc_value};
 ghost use Rattle.flux_plan.specs.Moves.{next_in, IsReached, Advances, IsAnswered};
 ghost use Rattle.flow_state.specs.steps.Places.{matches_by, plan_of_item, HasPlan, MayAdvance, MayAnswer};
 
+use flow_model::SharedAnswer;
 use flux_cells::Cells;
 use flux_library::Library;
 use flux_model::{FlowNo, Item, Program};
-use flux_plan::{Local, Next, VerifiedPlan, advance, answered, next};
-use flux_values::{Answer, List, Memory};
+use flux_plan::{Local, Next, VerifiedPlan, advance, answered, next, rests};
+use flux_values::{List, Memory};
 use std::sync::Arc;
 
 /// What flows run in: a program with a plan for each of its source lines, an item for each flow, the cells at the
@@ -64,6 +65,21 @@ impl<L: Library> Setup<L> {
         next(&self.program, self.plan(flow), local, &*self.library)
     }
 
+    /// Does nothing. Its clause: something comes next at the flow's place.
+    pub fn rests(&self, flow: FlowNo, local: &Local)
+        requires { let matches = matches_by (L.meaning (arc_value self.now.library))
+            (arc_value self.now.program) in
+            HasPlan (arc_value self.now.plans) self.now.items flow.0
+            (λ plan. IsReached plan matches local.now) }
+        ensures { let matches = matches_by (L.meaning (arc_value self.now.library))
+            (arc_value self.now.program) in
+            HasPlan (arc_value self.now.plans) self.now.items flow.0
+            (λ plan. IsSome (next_in plan matches local.now)) }
+    {
+        let _ = local;
+        rests(self.plan(flow));
+    }
+
     /// Makes the event that comes next at a flow's place.
     pub fn advance(&self, flow: FlowNo, local: &mut Local) -> Result<(), Memory>
         requires { let matches = matches_by (L.meaning (arc_value self.now.library))
@@ -80,7 +96,12 @@ impl<L: Library> Setup<L> {
     }
 
     /// Takes the answer of the call that comes next at a flow's place.
-    pub fn answered(&self, flow: FlowNo, local: &mut Local, answer: &Answer) -> Result<(), Memory>
+    pub fn answered(
+        &self,
+        flow: FlowNo,
+        local: &mut Local,
+        answer: &SharedAnswer,
+    ) -> Result<(), Memory>
         requires { HasPlan (arc_value self.now.plans) self.now.items flow.0
             (λ plan. MayAnswer plan local.old) }
         ensures ok { OnOk result (HasPlan (arc_value self.now.plans) self.now.items flow.0

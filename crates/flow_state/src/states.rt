@@ -23,12 +23,12 @@ use crate::fields::Fields;
 use crate::inputs::Inputs;
 use crate::setups::Setup;
 use crate::stops::Stop;
-use flow_model::Key;
+use flow_model::{Key, SharedAnswer};
 use flux_cells::Cells;
 use flux_library::Library;
 use flux_model::{FlowNo, Mode};
 use flux_table::Waiter;
-use flux_values::{Answer, Memory};
+use flux_values::Memory;
 use std::alloc::Global;
 use std::marker::Model;
 
@@ -207,13 +207,14 @@ impl<L: Library> State<L> {
 }
 
 impl<L: Library> State<L> {
-    /// Makes a flow's next event, which is neither a call nor blocked.
-    pub fn make(&mut self, flow: FlowNo) -> Result<(), Memory>
-        requires { MayMake (setup_at L.meaning self.old) self.old.entries flow }
+    /// Makes a flow's next event, as `next` told it, which is neither a call nor blocked.
+    pub fn make(&mut self, flow: FlowNo, coming: Coming) -> Result<(), Memory>
+        requires comes { Comes (setup_at L.meaning self.old) self.old.entries flow.0 coming }
+        requires may { MayMake (setup_at L.meaning self.old) self.old.entries flow }
         ensures ok { OnOk result (Makes L.meaning self.old self.new flow) }
         ensures err { OnErr result (self.new ≡ self.old) }
     {
-        self.fields.make(flow)
+        self.fields.make(flow, coming)
     }
 
     /// Lets a flow stand at the key of its next take, which is blocked and has no wait yet.
@@ -235,7 +236,12 @@ impl<L: Library> State<L> {
     }
 
     /// Makes the call that comes next for a flow, with the library's answer.
-    pub fn answer(&mut self, flow: FlowNo, inputs: &Inputs, answer: &Answer) -> Result<(), Memory>
+    pub fn answer(
+        &mut self,
+        flow: FlowNo,
+        inputs: &Inputs,
+        answer: &SharedAnswer,
+    ) -> Result<(), Memory>
         requires next { IsNextCall (setup_at L.meaning self.old) self.old.entries flow.0 inputs.now }
         requires right { IsAnswerOf (L.meaning self.old.setup.library) self.old.setup.program inputs.now
             answer.now }

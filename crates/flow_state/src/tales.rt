@@ -1,8 +1,7 @@
 //! Lists of entries that take no memory: each is its last entry with those before it, as clauses see them.
 
-use flow_model::Entry;
+use flow_model::{Carried, Entry, SharedAnswer};
 use flux_model::{FlowNo, NodeNo};
-use flux_values::{Answer, List, Value};
 use std::marker::Model;
 use std::snapshot::Snapshot;
 
@@ -12,7 +11,7 @@ use std::snapshot::Snapshot;
 pub enum Last {
     Nothing,
     Entry(Snapshot<Tale>, Snapshot<Entry>),
-    Call(Snapshot<Tale>, FlowNo, NodeNo, Snapshot<List<Value>>, Snapshot<Answer>),
+    Call(Snapshot<Tale>, FlowNo, NodeNo, Snapshot<Carried>, Snapshot<SharedAnswer>),
 }
 
 /// Some entries, by their last one.

@@ -55,10 +55,11 @@ fn check_answer<L: Library>(
     requires args { inputs.now.args ≡ made.now.args }
     ensures { IfOk result (IsChecked L.meaning state.old state.new flow (events.Call made.now)) }
 {
-    if !same_answer(answer, &made.answer) {
+    if !same_answer(answer, made.answer.as_answer()) {
         return Ok(Some(Rule::Answer));
     }
-    state.answer(flow, inputs, answer)?;
+    // The journal's own answer, which is the same and can be shared.
+    state.answer(flow, inputs, &made.answer)?;
     Ok(None)
 }
 
@@ -75,7 +76,7 @@ fn check_inputs<L: Library>(
     requires node { inputs.now.node ≡ made.now.node }
     ensures { IfOk result (IsChecked L.meaning state.old state.new flow (events.Call made.now)) }
 {
-    if !same_values(&inputs.args, &made.args) {
+    if !same_values(inputs.args.as_slice(), made.args.as_slice()) {
         return Ok(Some(Rule::Path));
     }
     let answer = answer_of(state.alloc(), state.setup(), inputs)?;

@@ -32,7 +32,7 @@ fn check_plain<L: Library>(
     if !same_coming(state.next(flow), coming) {
         return Ok(Some(Rule::Path));
     }
-    state.make(flow)?;
+    state.make(flow, coming)?;
     Ok(None)
 }
 
@@ -55,7 +55,7 @@ fn check_take<L: Library>(
     if state.ahead(flow, key, mode).is_some() {
         return Ok(Some(Rule::Turn));
     }
-    state.make(flow)?;
+    state.make(flow, Coming::Take(key, mode))?;
     Ok(None)
 }
 

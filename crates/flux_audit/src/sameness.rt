@@ -3,7 +3,7 @@
 ghost use Rattle.std.specs.Prelude.{◌≡◌, ◌↔◌, IsTrue};
 
 use flow_state::Coming;
-use flux_values::{Answer, List, Value};
+use flux_values::{Answer, Value};
 
 pub fn same_coming(a: Coming, b: Coming) -> bool
     ensures { IsTrue result ↔ (a ≡ b) }
@@ -11,7 +11,7 @@ pub fn same_coming(a: Coming, b: Coming) -> bool
     a == b
 }
 
-pub fn same_values(a: &List<Value>, b: &List<Value>) -> bool
+pub fn same_values(a: &[Value], b: &[Value]) -> bool
     ensures { IsTrue result ↔ (a.now ≡ b.now) }
 {
     a == b

@@ -36,7 +36,7 @@ pub fn emission_of(entry: &Entry, flow: FlowNo) -> &[u8]
         return &[];
     }
     match &entry.event {
-        Event::Call(made) => made.answer.emits.as_bytes(),
+        Event::Call(made) => made.answer.as_answer().emits.as_bytes(),
         Event::Take(_, _) | Event::Wait(_, _) | Event::Enter(_) | Event::Choose(_) => &[],
         Event::Exit(_, _) | Event::Drop(_) | Event::End(_) => &[],
     }

@@ -1,5 +1,6 @@
 //! Calls: what stands behind the node's name.
 
+ghost use Rattle.std.specs.Prelude.{◌≡◌, IfOk};
 ghost use Rattle.flux_model.specs.Names.{IsNamed};
 ghost use Rattle.flux_journal.specs.Spelled.{BeginClosed, BeginValues, BeginsResult, IsEmission};
 ghost use Rattle.flux_journal.specs.steps.Reading.{IsPartRead, IsWholeRead, AreMoreRead, BeginsCell, BeginsName, BeginsSet, BeginsRemoved, IsPutOrNone, ArePutsRead, IsEmitted, IsCallAt};
@@ -8,10 +9,10 @@ use crate::cursors::Cursor;
 use crate::cuts::{behind, cut};
 use crate::faults::LineFault;
 use crate::names::find_cell;
-use flow_model::CallMade;
+use flow_model::{CallMade, Carried, SharedAnswer};
 use flux_model::{CallResult, NodeNo, Program, Put};
 use flux_spelling::read_text_within;
-use flux_values::{Answer, Bytes, EMISSION_LIMIT, List, TextBytes, Value};
+use flux_values::{Answer, Bytes, EMISSION_LIMIT, List, Memory, TextBytes, Value};
 use std::alloc::Global;
 
 impl Cursor<'_> {
@@ -177,6 +178,20 @@ fn read_emission(alloc: Global, text: &[u8]) -> Result<Bytes, LineFault>
     }
 }
 
+/// The call that was read.
+fn call_made(
+    alloc: Global,
+    node: NodeNo,
+    args: List<Value>,
+    answer: Answer,
+) -> Result<CallMade, Memory>
+    ensures { IfOk result (λ made. made ≡ record { node = node; args = args; answer = answer }) }
+{
+    let answer = SharedAnswer::new(alloc, answer)?;
+    let args = Carried::new(alloc, args)?;
+    Ok(CallMade { node, args, answer })
+}
+
 /// The call of a node, of what stands behind the node's name.
 pub fn read_call(
     alloc: Global,
@@ -193,13 +208,10 @@ pub fn read_call(
     let result = cursor.result(alloc)?;
     let puts = cursor.puts(alloc, program)?;
     let emits = read_emission(alloc, cursor.rest)?;
-    Ok(CallMade {
-        node,
-        args,
-        answer: Answer {
-            result,
-            puts,
-            emits,
-        },
-    })
+    let answer = Answer {
+        result,
+        puts,
+        emits,
+    };
+    Ok(call_made(alloc, node, args, answer)?)
 }

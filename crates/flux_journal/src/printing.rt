@@ -198,7 +198,7 @@ fn append_logged_event(
     match event {
         Event::Call(made) => {
             append_called(alloc, out, program, made)?;
-            append_sent(out, made.answer.emits.as_bytes())
+            append_sent(out, made.answer.as_answer().emits.as_bytes())
         }
         _ => append_event(alloc, out, program, event),
     }
@@ -334,7 +334,7 @@ fn append_call(
     ensures { OnOk result (out.new ≡ out.old ++ (printed_call program.now made.now ++ codes "\n")) }
 {
     append_called(alloc, out, program, made)?;
-    append_emission(out, made.answer.emits.as_bytes())
+    append_emission(out, made.answer.as_answer().emits.as_bytes())
 }
 
 /// Adds a call without what it emits.
@@ -348,8 +348,9 @@ fn append_called(
 {
     append_pair(out, b"call ", node_name(program, made.node))?;
     append_listed(alloc, out, b" (", made.args.as_slice())?;
-    append_result(alloc, out, &made.answer.result)?;
-    append_puts(alloc, out, made.answer.puts.as_slice())
+    let answer = made.answer.as_answer();
+    append_result(alloc, out, &answer.result)?;
+    append_puts(alloc, out, answer.puts.as_slice())
 }
 
 /// Adds the end of a call's arguments, and its result.

@@ -4,7 +4,6 @@
 //! from its beginning, and when it is the plan of a walk.
 #![tactic(auto)]
 
-mod carried;
 mod handlers;
 mod locals;
 mod machines;
@@ -14,6 +13,6 @@ mod stacks;
 mod verified;
 
 pub use locals::{Local, Next};
-pub use moving::{advance, answered, next};
+pub use moving::{advance, answered, next, rests};
 pub use plans::{Arm, Instr, Plan, Segment, Segments};
 pub use verified::VerifiedPlan;

@@ -8,14 +8,13 @@ ghost use Rattle.flux_plan.specs.Faulty.{IsVerified, IsSized};
 ghost use Rattle.flux_plan.specs.steps.Placed.{AreAllPlaced};
 ghost use Rattle.flux_plan.specs.steps.Turns.{IsFirst};
 
-use crate::carried::Carried;
 use crate::machines::Machine;
 use crate::plans::{Instr, Plan};
 use crate::stacks::Stack;
-use flow_model::Outcome;
+use flow_model::{Carried, Outcome, SharedAnswer};
 use flux_library::Library;
 use flux_model::{ClassNo, Mode, NodeNo};
-use flux_values::{Answer, List, Memory, Value};
+use flux_values::{List, Memory, Value};
 use std::alloc::Global;
 use std::marker::Model;
 
@@ -73,6 +72,13 @@ impl Local {
         ensures { result.now ≡ values_at self.now }
     {
         self.stack.values.as_slice()
+    }
+
+    /// The values at hand, to be shared with a call.
+    pub fn share_args(&self) -> Result<Carried, Memory>
+        ensures { IfOk result (λ args. args ≡ values_at self.now) }
+    {
+        self.stack.values.share()
     }
 
     /// The same place once more.
@@ -133,7 +139,7 @@ impl Local {
     }
 
     /// Takes the answer of the call that comes next.
-    pub fn answer(&mut self, plan: &Plan, answer: &Answer) -> Result<(), Memory>
+    pub fn answer(&mut self, plan: &Plan, answer: &SharedAnswer) -> Result<(), Memory>
         requires verified { IsVerified plan.now }
         requires sized { IsSized plan.now }
         requires placed { AreAllPlaced plan.now (state_in plan.now self.old) }

@@ -2,14 +2,16 @@
 
 ghost use Rattle.std.specs.Prelude.{◌≡◌, Some, IsSome, OnOk, OnErr};
 ghost use Rattle.flow_model.specs.Matching.{patterns_match};
+ghost use Rattle.flux_plan.specs.Machine.{Matches, Position};
 ghost use Rattle.flux_plan.specs.Moves.{next_in, IsEvent, called_in, IsReached, IsReachedBySome, Advances, IsAnswered};
 
 use crate::locals::{Local, Next};
 use crate::machines::Machine;
 use crate::verified::VerifiedPlan;
+use flow_model::SharedAnswer;
 use flux_library::Library;
 use flux_model::Program;
-use flux_values::{Answer, Memory};
+use flux_values::Memory;
 
 /// What a flow does next. A pattern's number points into the program's predicates; one that points at nothing there, or
 /// at a name that the library doesn't have, matches nothing.
@@ -24,6 +26,14 @@ pub fn next<L: Library>(p: &Program, plan: &VerifiedPlan, local: &Local, library
         program: p,
         library,
     })
+}
+
+/// Does nothing. Its clause: something comes next at each place that a run reaches.
+pub fn rests(plan: &VerifiedPlan)
+    ensures { (matches : Matches) (position : Position) → IsReached plan.now matches position
+        → IsSome (next_in plan.now matches position) }
+{
+    let _ = plan.as_plan();
 }
 
 /// Makes the event that comes next, which is no call. It takes memory for the frame of a node that is entered.
@@ -48,8 +58,8 @@ pub fn advance<L: Library>(
     })
 }
 
-/// Takes the answer of the call that comes next.
-pub fn answered(plan: &VerifiedPlan, local: &mut Local, answer: &Answer) -> Result<(), Memory>
+/// Takes the answer of the call that comes next. Good values aren't copied: those of the answer are at hand then.
+pub fn answered(plan: &VerifiedPlan, local: &mut Local, answer: &SharedAnswer) -> Result<(), Memory>
     requires reached { IsReachedBySome plan.now local.old }
     requires call { IsSome (called_in plan.now local.old) }
     ensures ok { OnOk result (IsAnswered plan.now local.old answer.now local.new) }

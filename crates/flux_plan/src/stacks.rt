@@ -10,14 +10,13 @@ ghost use Rattle.flux_plan.specs.steps.Placed.{ArePlaced};
 ghost use Rattle.flux_plan.specs.steps.Stacks.{state_of, IsBlank};
 ghost use Rattle.flux_plan.specs.steps.Turns.{landed, cursor, entered_over, with_place, IsBehind, MovesOn, IsTaken};
 
-use crate::carried::Carried;
 use crate::locals::Next;
 use crate::machines::{Entering, Landing, Machine};
 use crate::plans::{Instr, Plan};
-use flow_model::Outcome;
+use flow_model::{Carried, Outcome, SharedAnswer};
 use flux_library::Library;
 use flux_model::NodeNo;
-use flux_values::{Answer, CallResult, List, Memory, Value};
+use flux_values::{CallResult, Memory};
 use std::alloc::Global;
 
 /// A node that was entered, the place of the instruction that comes next in its segment, and the values with which it
@@ -239,24 +238,21 @@ impl Stack {
         }
     }
 
-    /// Takes the values of a call, or its failure.
-    fn take_result(&mut self, ending: &CallResult) -> Result<(), Memory>
+    /// Takes the values of an answer, or its failure.
+    fn take_result(&mut self, answer: &SharedAnswer) -> Result<(), Memory>
         ensures frames { self.new.frames.items ≡ self.old.frames.items }
-        ensures ok { OnOk result (IsTaken ending.now self.old self.new) }
+        ensures ok { OnOk result (IsTaken answer.now.result self.old self.new) }
         ensures err { OnErr result (state_of self.new ≡ state_of self.old) }
     {
-        match ending {
-            CallResult::Good(values) => {
-                let copied = copies(self.alloc, values.as_slice())?;
-                self.values = Carried::new(self.alloc, copied)?;
-            }
+        match &answer.as_answer().result {
+            CallResult::Good(_) => self.values = Carried::from_answer(answer)?,
             CallResult::Bad(code) => self.outcome = Outcome::Bad(*code),
         }
         Ok(())
     }
 
     /// Takes the answer of the call that comes next. Behind it stands `Exit`.
-    pub fn answer(&mut self, plan: &Plan, answer: &Answer) -> Result<(), Memory>
+    pub fn answer(&mut self, plan: &Plan, answer: &SharedAnswer) -> Result<(), Memory>
         requires verified { IsVerified plan.now }
         requires sized { IsSized plan.now }
         requires placed { ArePlaced plan.now (reverse self.old.frames.items) }
@@ -268,21 +264,11 @@ impl Stack {
             unreachable!()
         };
         let (exit, _) = plan.at(top.node, top.place);
-        self.take_result(&answer.result)?;
+        self.take_result(answer)?;
         let innermost = self.frames.len() - 1;
         go_to(&mut self.frames, innermost, exit);
         Ok(())
     }
-}
-
-fn copies(alloc: Global, values: &[Value]) -> Result<List<Value>, Memory>
-    ensures { IfOk result (λ copied. copied ≡ values.now) }
-{
-    let mut copied = List::new(alloc);
-    for value in values {
-        copied.add(value.copy(alloc)?)?;
-    }
-    Ok(copied)
 }
 
 fn go_to(frames: &mut Vec<Frame>, at: usize, place: u32)

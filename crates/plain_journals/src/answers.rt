@@ -125,9 +125,10 @@ impl Kept {
     /// A call of a node that has a library name.
     fn see(&mut self, key: Option<Key>, name: &[u8], call: &CallMade) -> Result<(), Wrong> {
         let given = argument(call)?;
+        let answer = call.answer.as_answer();
         let answered = Answered {
-            comes: read_result(&call.answer.result),
-            put: put_by(name, call.answer.puts.as_slice())?,
+            comes: read_result(&answer.result),
+            put: put_by(name, answer.puts.as_slice())?,
         };
         let is_right = expected(name, given, self.at(key)) == Some(answered);
         check_that(is_right, Rule::Answer)?;
@@ -203,7 +204,7 @@ pub fn check_answers(alloc: Global, plain: Plain, entries: &[Entry]) -> Result<(
             let name = name.as_bytes();
             let key = cell_key(plain, entry.flow, node, name);
             kept.see(key, name, call)?;
-            check_emission(name, call.args.as_slice(), &call.answer)?;
+            check_emission(name, call.args.as_slice(), call.answer.as_answer())?;
         }
     }
     Ok(())

@@ -169,7 +169,7 @@ impl<'a> Walker<'a> {
             && let [Value::Int(number)] = call.args.as_slice()
             && *number == given
         {
-            Ok(way_of(&call.answer.result, given))
+            Ok(way_of(&call.answer.as_answer().result, given))
         } else {
             Err(Wrong::Breaks(Rule::Walk))
         }

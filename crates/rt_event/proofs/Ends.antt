@@ -60,17 +60,15 @@ over-is (Choose place) passes = λ ends. ends
 over-is (Exit node outcome) passes = λ ends. ends
 over-is (Drop key) passes = λ ends. ends
 
-pub went-own : (setup : Setup) (before after : List Entry) (flow : FlowNo) (ends : Bool) → ends ≡ has_ended after flow.0
-    → (event : Event) × IsPassing event × MakesMove setup before flow event after
-    → IsLive setup before flow.0 → MakesOwn setup before flow after ends
-went-own setup before after flow ends is (event, passes, makes) live = record {
+-- a flow that went on: its turn is over where its entry is an end
+pub went-own : (setup : Setup) (before after : List Entry) (flow : FlowNo) (ends : Bool)
+    → ((event : Event) → after ≡ before ++ record { flow = flow; event = event } ∷ [] → ends ≡ is_end event)
+    → (event : Event) × IsPassing event × MakesMove setup before flow event after → MakesOwn setup before flow after ends
+went-own setup before after flow ends is (event, passes, makes) = record {
   event = event;
   makes = makes;
-  over = subst (λ b. IsOver b event) (sym same) (over-is event passes);
+  over = subst (λ b. IsOver b event) (sym (is event makes.added)) (over-is event passes);
 }
-  where
-    same : ends ≡ is_end event
-    same = is ∙ ap (λ es. has_ended es flow.0) makes.added ∙ ended-more setup before flow event live
 
 -- ---- a flow whose turn isn't over
 

@@ -1,6 +1,10 @@
 //! The event loop.
 
-ghost use Rattle.std.specs.Prelude.{◌≡◌, ◌<◌, ◌≤◌, length, IfOk, IfErr, OnOk, OnErr};
+ghost use Rattle.std.specs.Prelude.{◌≡◌, ◌<◌, ◌≤◌, List, [], ◌∷◌, ◌++◌, length, IfOk, IfErr, OnOk, OnErr};
+ghost use Rattle.flux_model.specs.declared.items.FlowNo.{FlowNo};
+ghost use Rattle.flow_model.specs.declared.journals.Entry.{Entry};
+ghost use Rattle.flow_model.specs.declared.journals.Event.{Event};
+ghost use Rattle.flux_laws.specs.Growth.{is_end};
 ghost use Rattle.flow_core.specs.States.{setup_in};
 ghost use Rattle.flow_core.specs.Runs.{LeavesOthers, GoesOnLegally, GoesToEnd};
 ghost use Rattle.flow_orders.specs.Round.{IsRound};
@@ -8,6 +12,7 @@ ghost use Rattle.rt_event.specs.steps.Owners.{Stays, Leads, MakesTurn};
 
 use crate::shifts::drive_with_helpers;
 use flow_core::{Core, Gate, Runtime, Stopped};
+use flow_model::Event;
 use flow_waits::{Candidates, Turn, take_turn};
 use flux_library::Library;
 use flux_model::FlowNo;
@@ -121,6 +126,17 @@ fn next_owner<L: Library>(
     }
 }
 
+/// Whether the last entry is an `end`.
+fn last_is_end<L: Library>(core: &Core<L>) -> bool
+    ensures { (before : List Entry) (flow : FlowNo) (event : Event)
+        → core.now.entries ≡ before ++ record { flow = flow; event = event } ∷ [] → result ≡ is_end event }
+{
+    let Some(entry) = core.journal().entries.last() else {
+        return false;
+    };
+    matches!(entry.event, Event::End(_))
+}
+
 /// Lets a flow make its next move, and says whether its turn is over.
 fn own_turn<L: Library, G: Gate>(
     core: &mut Core<L>,
@@ -133,7 +149,7 @@ fn own_turn<L: Library, G: Gate>(
     ensures others { LeavesOthers core.old core.new owner }
 {
     match take_turn(core, gate, owner)? {
-        Turn::Went => Ok(core.is_ended(owner)),
+        Turn::Went => Ok(last_is_end(core)),
         _ => Ok(true),
     }
 }

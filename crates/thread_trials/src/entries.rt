@@ -19,7 +19,7 @@ pub fn greatest_in(entries: &[Entry]) -> i64 {
     let mut greatest = 0;
     for entry in entries {
         if let Event::Call(call) = &entry.event {
-            greatest = greatest_put(greatest, call.answer.puts.as_slice());
+            greatest = greatest_put(greatest, call.answer.as_answer().puts.as_slice());
         }
     }
     greatest

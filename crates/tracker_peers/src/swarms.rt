@@ -66,7 +66,7 @@ fn follow(
     let Event::Call(made) = event else {
         return Ok(());
     };
-    if !is_swarm_node(program, made.node) || !is_good(&made.answer.result) {
+    if !is_swarm_node(program, made.node) || !is_good(&made.answer.as_answer().result) {
         return Ok(());
     }
     match made.args.as_slice() {

@@ -1,4 +1,4 @@
-use Rattle.std.proofs.Common.{◌≡◌, refl, subst}
+use Rattle.std.proofs.Common.{◌≡◌, ◌∙◌, refl, sym, subst}
 use Rattle.flow_model.specs.declared.journals.Event.TheVariants as events
 use Rattle.flow_model.specs.declared.journals.CallMade.{CallMade}
 use Rattle.flow_model.specs.Setup.{Setup}
@@ -18,7 +18,7 @@ returns-then-not-same_answer g c =
     let nodes = c.requires.node in
     let args = c.requires.args in
     first_answer setup before c.args.flow c.requires.flow (events.Call made) (next_call setup before c.args.flow.0 inputs made answer nodes args next.next)
-    (λ told. let t = c.if-not-same_answer.ensures.1 (right_answer setup before c.args.flow.0 inputs made answer nodes args next c.requires.right told) in absurd cc)
+    (λ told. let t = c.if-not-same_answer.ensures.1 (right_answer setup before c.args.flow.0 inputs made answer nodes args next c.requires.right told ∙ sym c.as_answer.ensures) in absurd cc)
 
 pub returns : goal.returns
 returns g c =
@@ -27,4 +27,4 @@ returns g c =
     let made = c.args.made.now in
     let adds = c.in_ok-answer.ensures.ok in
     subst (λ (m : CallMade). c.answer.new.self ≡ with_entry c.args.state.now c.args.flow (events.Call m))
-    (same_made setup before c.args.flow.0 c.args.inputs.now made c.args.answer.now c.requires.node c.requires.args (c.if-not-same_answer.ensures.0 refl)) adds.new_
+    (same_made setup before c.args.flow.0 c.args.inputs.now made c.args.made.now.answer c.requires.node c.requires.args refl) adds.new_

@@ -1,4 +1,4 @@
-use Rattle.std.proofs.Common.{refl, sym, subst}
+use Rattle.std.proofs.Common.{◌∙◌, refl, sym, subst}
 use Rattle.flow_model.specs.declared.journals.Event.TheVariants as events
 use Rattle.flow_model.specs.Setup.{Setup}
 use Rattle.flow_state.specs.States.{SetupState, setup_at}
@@ -16,7 +16,7 @@ returns-then-not-same_values g c =
     let next = c.requires.next in
     first_path setup before c.args.flow c.requires.flow (events.Call made) (λ path.
     let same = calls-unique setup before c.args.flow.0 inputs.node made.node inputs.args made.args next.next path in
-    let t = c.if-not-same_values.ensures.1 same.1 in absurd cc)
+    let t = c.if-not-same_values.ensures.1 (c.as_slice.ensures ∙ same.1 ∙ sym c.as_slice-2.ensures) in absurd cc)
 
 pub answer_of-requires : goal.answer_of-requires
 answer_of-requires g c =
@@ -27,4 +27,5 @@ check_answer-requires-clause-right g c =
     subst (λ (s : SetupState _). IsAnswerOf (g.L.Meaning.meaning s.library) s.program c.args.inputs.now c.in_ok-answer.answer) c.setup.ensures c.in_ok-answer.ensures
 
 pub check_answer-requires-clause-args : goal.check_answer-requires-clause-args
-check_answer-requires-clause-args g c = c.if-not-same_values.ensures.0 refl
+check_answer-requires-clause-args g c =
+    sym c.as_slice.ensures ∙ c.if-not-same_values.ensures.0 refl ∙ c.as_slice-2.ensures

@@ -1,13 +1,18 @@
 use Rattle.std.proofs.Common.{refl, subst}
 use Rattle.flow_state.specs.declared.coming.Coming.{Coming}
-use Rattle.flow_state.specs.Coming.{IsComing}
+use Rattle.flow_state.specs.Coming.{IsComing, Comes}
 use Rattle.flow_state.specs.States.{setup_at}
 use Rattle.flow_model.specs.Setup.{Setup}
 use Rattle.flux_audit.proofs.Checking.{first_path, off_path, next_of, may_plain, made_is}
 use Rattle.flux_audit.proofs.entries.check_plain.Goals as goal
 
-pub make-requires : goal.make-requires
-make-requires g c =
+pub make-requires-clause-comes : goal.make-requires-clause-comes
+make-requires-clause-comes g c =
+    subst (λ (x : Coming). Comes (setup_at g.L.Meaning.meaning c.args.state.now) c.args.state.now.entries c.args.flow.0 x)
+    (c.if-not-same_coming.ensures.0 refl) c.next.ensures
+
+pub make-requires-clause-may : goal.make-requires-clause-may
+make-requires-clause-may g c =
     let setup : Setup = setup_at g.L.Meaning.meaning c.args.state.now in
     let before = c.args.state.now.entries in
     may_plain setup before c.args.flow c.args.coming c.requires.plain

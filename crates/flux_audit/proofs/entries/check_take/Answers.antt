@@ -4,7 +4,7 @@ use Rattle.flow_model.specs.Setup.{Setup}
 use Rattle.flow_model.specs.Events.{IsNext}
 use Rattle.flow_state.specs.declared.coming.Coming.{Coming}
 use Rattle.flow_state.specs.declared.coming.Coming.TheVariants as comings
-use Rattle.flow_state.specs.Coming.{IsComing}
+use Rattle.flow_state.specs.Coming.{IsComing, Comes}
 use Rattle.flow_state.specs.States.{setup_at}
 use Rattle.flow_state.specs.Blockers.{IsHeldBy, IsAhead}
 use Rattle.flux_audit.proofs.Checking.{first_path, first_hold, first_turn, off_next, may_take, made_is, lowest_some, lowest_none}
@@ -53,8 +53,13 @@ ahead-requires g c =
     subst (λ (x : Coming). IsComing setup before c.args.flow.0 x) (c.if-not-same_coming.ensures.0 refl) c.next.ensures.is in
     next
 
-pub make-requires : goal.make-requires
-make-requires g c =
+pub make-requires-clause-comes : goal.make-requires-clause-comes
+make-requires-clause-comes g c =
+    subst (λ (x : Coming). Comes (setup_at g.L.Meaning.meaning c.args.state.now) c.args.state.now.entries c.args.flow.0 x)
+    (c.if-not-same_coming.ensures.0 refl) c.next.ensures
+
+pub make-requires-clause-may : goal.make-requires-clause-may
+make-requires-clause-may g c =
     let setup : Setup = setup_at g.L.Meaning.meaning c.args.state.now in
     let before = c.args.state.now.entries in
     let next : IsNext setup before c.args.flow.0 (events.Take c.args.key c.args.mode) =

@@ -5,7 +5,7 @@ use Rattle.flow_core.proofs.fields.Fields.take.Goals as goal
 
 pub go-requires-clause-may : goal.go-requires-clause-may
 go-requires-clause-may g c = record {
-  next = c.requires.next;
+  next = c.requires.comes.is;
   free = free-take (setup_in g.L.Meaning.meaning (core_of c.args.self.now)) c.args.self.now.state.entries
-      c.args.flow.0 c.args.key c.args.mode c.requires.next c.in-None.ensures;
+      c.args.flow.0 c.args.key c.args.mode c.requires.comes.is c.in-None.ensures;
 }

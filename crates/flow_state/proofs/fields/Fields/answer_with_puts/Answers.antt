@@ -32,7 +32,7 @@ returns-clause-fields g c =
     (ap (λ (p : Place). p.stands) (sym same))
     c.in_ok-keys.keys.items c.in_ok-keys.ensures c.apply.new.self
     (c.in_ok-apply.ensures.ok ∙ (λ i. applied (c.deref.ensures i) (c.as_slice.ensures.value i) (cells_of r.cells)
-    c.args.answer.now.puts))
+    (let answer = c.as_answer.ensures i in answer.puts)))
     c.add_call.new.self c.add_call.ensures
 
 pub returns-clause-ok : goal.returns-clause-ok
@@ -51,5 +51,5 @@ returns-clause-ok g c =
     (ap (λ (p : Place). p.stands) (sym same))
     c.in_ok-keys.keys.items c.in_ok-keys.ensures c.apply.new.self
     (c.in_ok-apply.ensures.ok ∙ (λ i. applied (c.deref.ensures i) (c.as_slice.ensures.value i) (cells_of r.cells)
-    c.args.answer.now.puts))
+    (let answer = c.as_answer.ensures i in answer.puts)))
     c.add_call.new.self c.add_call.ensures

@@ -1,4 +1,4 @@
-use Rattle.std.proofs.Common.{refl, ◌∙◌}
+use Rattle.std.proofs.Common.{refl}
 use Rattle.flow_state.proofs.Asked.{not-at_call}
 use Rattle.flow_state.proofs.OnFields.{read-there}
 use Rattle.flow_state.proofs.Called.{known-next, guarded-next, begins-right, ready-of}
@@ -29,16 +29,16 @@ returns-clause-next g c =
     c.index-place.result.now
     (read-there g.L.Meaning.meaning c.args.self.now c.requires.fields c.args.flow c.index-place.result.now
     c.requires.flow c.index-place.ensures)
-    (record { node = c.in-Call.node; args = c.in_ok-copies.field-0; cells = c.in_ok-cells_for.field-0 })
-    refl (c.in_ok-copies.ensures ∙ c.args-2.ensures) c.in_ok-cells_for.ensures
+    (record { node = c.in-Call.node; args = c.in_ok-share_args.field-0; cells = c.in_ok-cells_for.field-0 })
+    refl c.in_ok-share_args.ensures c.in_ok-cells_for.ensures
 
 pub returns-clause-ready : goal.returns-clause-ready
 returns-clause-ready g c =
     ready-of g.L.Meaning.meaning c.args.self.now c.requires.fields c.args.flow
-    (record { node = c.in-Call.node; args = c.in_ok-copies.field-0; cells = c.in_ok-cells_for.field-0 })
+    (record { node = c.in-Call.node; args = c.in_ok-share_args.field-0; cells = c.in_ok-cells_for.field-0 })
     (begins-right g.L.Meaning.meaning c.args.self.now c.requires.fields c.args.flow c.in-Call.node c.in-Call.ensures
     c.index-place.result.now
     (read-there g.L.Meaning.meaning c.args.self.now c.requires.fields c.args.flow c.index-place.result.now
     c.requires.flow c.index-place.ensures)
-    (record { node = c.in-Call.node; args = c.in_ok-copies.field-0; cells = c.in_ok-cells_for.field-0 })
-    refl (c.in_ok-copies.ensures ∙ c.args-2.ensures) c.in_ok-cells_for.ensures)
+    (record { node = c.in-Call.node; args = c.in_ok-share_args.field-0; cells = c.in_ok-cells_for.field-0 })
+    refl c.in_ok-share_args.ensures c.in_ok-cells_for.ensures)
