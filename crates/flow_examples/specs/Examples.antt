@@ -5,6 +5,7 @@ use Rattle.flow_examples.specs.Waiting.{MayWaitWhereHeld, WaitsForItsOwnTake, Wa
 use Rattle.flow_examples.specs.Orders.{OneFlowGoesRound, RoundBeginsWithTheFirst, TurnsLast, ListedComeFirst, LowestComesFirst}
 use Rattle.flow_examples.specs.Idle.{OthersAreBlocked, HolderCanGoOn}
 use Rattle.flow_examples.specs.Legality.{FailedIsWhole, OthersAnswersAreRefused, BegunIsNotWhole}
+use Rattle.flow_examples.specs.Shared.{AnswersAreCarried, NoValueIsMade, NoValueIsLost}
 
 pub record Examples : Type 0 where
   pub handler_follows_drops : HandlerFollowsDrops
@@ -20,6 +21,7 @@ pub record Examples : Type 0 where
   pub failed_is_whole : FailedIsWhole
   pub goes_round : OneFlowGoesRound
   pub others_blocked : OthersAreBlocked
+  pub carried : AnswersAreCarried
 
 pub record Refused : Type 0 where
   pub takes : TakesAreKeptApart
@@ -36,3 +38,5 @@ pub record Refused : Type 0 where
   pub listed : ListedComeFirst
   pub lowest : LowestComesFirst
   pub holder : HolderCanGoOn
+  pub made : NoValueIsMade
+  pub lost : NoValueIsLost

@@ -5,4 +5,5 @@ pub mod Waiting
 pub mod Legality
 pub mod Orders
 pub mod Idle
+pub mod Shared
 pub mod Examples

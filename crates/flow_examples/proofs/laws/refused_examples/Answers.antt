@@ -21,4 +21,6 @@ returns c = record {
   listed = listed_first;
   lowest = lowest_first;
   holder = holder_goes_on;
+  made = λ value same. cc;
+  lost = λ same. cc;
 }

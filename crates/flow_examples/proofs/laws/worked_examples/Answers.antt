@@ -22,4 +22,5 @@ returns c = record {
   failed_is_whole = failed_whole;
   goes_round = goes_round;
   others_blocked = others_blocked;
+  carried = (refl, refl, refl);
 }
