@@ -14,7 +14,7 @@ use flux_values::Bytes;
 use std::alloc::Global;
 
 /// What a first byte begins.
-#[derive(Clone, Copy, Debug)]
+#[derive(Clone, Copy)]
 enum First {
     Number,
     String,

@@ -13,7 +13,7 @@ pub const STRING_LIMIT: usize = 65_536;
 pub const DEPTH_LIMIT: u8 = 8;
 
 /// A bencoded value.
-#[derive(Debug, Drop)]
+#[derive(Drop)]
 pub enum Ben {
     Int(i64),
     Text(Bytes),
@@ -23,14 +23,14 @@ pub enum Ben {
 }
 
 /// A key of a dictionary, with its value.
-#[derive(Debug, Drop)]
+#[derive(Drop)]
 pub struct Field<V> {
     pub key: Bytes,
     pub value: V,
 }
 
 /// Why no value was read.
-#[derive(Clone, Copy, Debug, PartialEq, Eq)]
+#[derive(Clone, Copy, PartialEq, Eq)]
 pub enum BenFault {
     /// No value's spelling begins the bytes. None begins with those up to and with this place, which
     /// is their length where some spelling begins with all of them.

@@ -42,7 +42,7 @@ pub enum Step<L: Library> {
 }
 
 /// What became of a finished call.
-#[derive(Clone, Copy, Debug, PartialEq, Eq)]
+#[derive(Clone, Copy, PartialEq, Eq)]
 pub enum Finish {
     Went,
     /// Nothing: the flow has no such begun call.

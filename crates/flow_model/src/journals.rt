@@ -5,7 +5,7 @@ use flux_model::{ClassNo, FlowNo, NodeNo};
 use flux_values::{List, Mode};
 
 /// What is locked: a class, for a session class with the session's number.
-#[derive(Clone, Copy, Debug, PartialEq, Eq, PartialOrd, Ord, Hash)]
+#[derive(Clone, Copy, PartialEq, Eq, PartialOrd, Ord, Hash)]
 pub struct Key {
     pub class: ClassNo,
     pub id: Option<u64>,
@@ -25,7 +25,7 @@ impl Drop for CallMade {
 }
 
 /// How a node or a flow ended: well, over after a handler, or with a code.
-#[derive(Clone, Copy, Debug, PartialEq, Eq)]
+#[derive(Clone, Copy, PartialEq, Eq)]
 pub enum Outcome {
     Good,
     Over,

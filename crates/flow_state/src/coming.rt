@@ -4,7 +4,7 @@ use flow_model::{Key, Outcome};
 use flux_model::{Mode, NodeNo};
 
 /// A flow's next event; a call is of a node, and has no answer yet.
-#[derive(Clone, Copy, Debug, PartialEq, Eq)]
+#[derive(Clone, Copy, PartialEq, Eq)]
 pub enum Coming {
     Take(Key, Mode),
     Enter(NodeNo),

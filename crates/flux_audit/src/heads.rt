@@ -8,7 +8,7 @@ ghost use Rattle.flux_audit.specs.steps.Lines.{IsOpened};
 use flux_journal::{Head, Lines, is_headed, read_head};
 
 /// The lines of events of a text, and the number of the first of them.
-#[derive(Debug, Drop)]
+#[derive(Drop)]
 pub struct Opened<'a> {
     pub lines: Lines<'a>,
     pub first: u64,

@@ -1,7 +1,7 @@
 //! What an audit answers.
 
 /// A rule of journals, in the order in which they are looked at for one line.
-#[derive(Clone, Copy, Debug, PartialEq, Eq)]
+#[derive(Clone, Copy, PartialEq, Eq)]
 pub enum Rule {
     /// A head line tells the number of flows, and how many lines follow.
     Head,
@@ -24,7 +24,7 @@ pub enum Rule {
 }
 
 /// What an audit answers.
-#[derive(Clone, Copy, Debug, PartialEq, Eq)]
+#[derive(Clone, Copy, PartialEq, Eq)]
 pub enum Verdict {
     /// The text is the journal of a true run, with so many events.
     Yes { events: u64 },

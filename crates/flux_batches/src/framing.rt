@@ -4,7 +4,7 @@ ghost use Rattle.std.specs.Prelude.{◌≡◌, ◌≤◌, [], length, take, true
 ghost use Rattle.flux_batches.specs.Texts.{ends, least_front, has_front, trimmed, limit_of};
 
 /// How the text of a link ends.
-#[derive(Clone, Copy, Debug, PartialEq, Eq)]
+#[derive(Clone, Copy, PartialEq, Eq)]
 pub enum Framing {
     /// With an empty line: a request's head.
     Head,

@@ -16,7 +16,7 @@ use std::collections::VecDeque;
 pub const LINK_LIMIT: usize = 64;
 
 /// Why there is no batch.
-#[derive(Clone, Copy, Debug, PartialEq, Eq)]
+#[derive(Clone, Copy, PartialEq, Eq)]
 pub enum NoBatch {
     /// The door is closed.
     Closed,

@@ -32,7 +32,6 @@ pub fn threads_for(links: usize) -> usize
 }
 
 /// What a link sent.
-#[derive(Debug)]
 pub enum Sent {
     Text(TextBytes),
     /// Reading failed.

@@ -9,7 +9,7 @@ use flow_model::{Entry, Event};
 use flux_model::FlowNo;
 
 /// From the first entry of a flow that emits something to behind the last one.
-#[derive(Clone, Copy, Debug)]
+#[derive(Clone, Copy)]
 pub struct Span {
     pub from: usize,
     pub to: usize,

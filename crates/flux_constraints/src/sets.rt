@@ -14,7 +14,6 @@ use std::cmp::Ordering;
 use std::marker::Model;
 
 /// Classes by rising numbers, each once, with the mode in which it is held.
-#[derive(Debug)]
 pub struct ClassSet {
     holds: Vec<Hold>,
 }

@@ -8,7 +8,7 @@ use flux_outside::{Failed, StoreFault};
 use flux_values::Memory;
 
 /// Why documents were not read.
-#[derive(Clone, Copy, Debug, PartialEq, Eq)]
+#[derive(Clone, Copy, PartialEq, Eq)]
 pub enum DocsFault {
     /// The folder failed, and its count of faults rose.
     Failed,

@@ -7,7 +7,6 @@ use flux_outside::{Calls, Failed, MemorySink, Sink, count_failure};
 use flux_values::{Bytes, List};
 
 /// A link in memory: what it gives, and the sink that takes its reply.
-#[derive(Debug)]
 pub struct MemoryLink {
     input: Bytes,
     given: usize,

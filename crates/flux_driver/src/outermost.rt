@@ -3,7 +3,7 @@
 ghost use Rattle.std.specs.Prelude.{◌≡◌, [], IfOk, IsErr};
 ghost use Rattle.flux_words.specs.Commands.{Command, Spells, IsServe, NeedsThreads};
 ghost use Rattle.flux_commands.specs.BuiltIn.{built_in, meaning_in};
-ghost use Rattle.flux_driver.specs.Seen.{Seen, seen_by, door_by, link_by};
+ghost use Rattle.flux_driver.specs.Seen.{seen_by, door_by, link_by};
 ghost use Rattle.flux_driver.specs.Top.{HasDone};
 ghost use Rattle.flux_commands.specs.Driving.{CanDrive, DrivesTo};
 

@@ -7,7 +7,7 @@ ghost use Rattle.flux_faults.specs.Faults.{name_of, number_of};
 use flux_values::{List, Memory, TextBytes};
 
 /// The kinds of faults, each under its number.
-#[derive(Clone, Copy, Debug, PartialEq, Eq)]
+#[derive(Clone, Copy, PartialEq, Eq)]
 pub enum FaultKind {
     /// The text has more than 1,048,576 bytes.
     TooLong,
@@ -142,14 +142,13 @@ impl FaultKind {
 }
 
 /// A line and a column, both from 1. Columns count bytes.
-#[derive(Clone, Copy, Debug, PartialEq, Eq)]
+#[derive(Clone, Copy, PartialEq, Eq)]
 pub struct Place {
     pub line: u32,
     pub column: u32,
 }
 
 /// A fault at a byte of the text, counted from 0. The path is empty unless the kind is `Cycle`.
-#[derive(Debug)]
 pub struct StaticFault {
     pub kind: FaultKind,
     pub at: u32,
@@ -163,7 +162,7 @@ impl Drop for StaticFault {
 }
 
 /// Why a static part refuses a text.
-#[derive(Debug, Drop)]
+#[derive(Drop)]
 pub enum CheckFault {
     Static(StaticFault),
     Memory,

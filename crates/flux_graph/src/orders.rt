@@ -7,7 +7,6 @@ use flux_model::NodeNo;
 use flux_values::{List, Memory};
 
 /// The nodes of a program, each after all that it leads to.
-#[derive(Debug)]
 pub struct Order {
     pub nodes: List<NodeNo>,
 }
@@ -19,7 +18,7 @@ impl Drop for Order {
 }
 
 /// Why a program has no order.
-#[derive(Debug, Drop)]
+#[derive(Drop)]
 pub enum GraphFault {
     /// A node leads back to itself. The path begins and ends with the lowest-numbered node that is on any cycle.
     Cycle { path: List<NodeNo> },

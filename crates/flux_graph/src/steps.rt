@@ -10,7 +10,7 @@ use flux_values::{List, Memory};
 use std::alloc::Global;
 
 /// What is still to be done with a node.
-#[derive(Clone, Copy, Debug)]
+#[derive(Clone, Copy)]
 pub enum Step {
     Enter(NodeNo),
     Leave(NodeNo),

@@ -11,7 +11,7 @@ use flux_values::List;
 pub const SIZE_LIMIT: u32 = 65_536;
 
 /// A program that was checked, with what was found of it.
-#[derive(Debug, Drop)]
+#[derive(Drop)]
 pub struct Checked {
     pub program: Program,
     /// One signature for each node.

@@ -21,7 +21,7 @@ use std::alloc::Global;
 
 /// What nodes declare, and for each class, by its number, a table that has for each node the lowest-numbered node that
 /// declares the class, of the node itself and all that it leads on to; `readers` in any mode, `writers` as a writer.
-#[derive(Debug, Drop)]
+#[derive(Drop)]
 pub(crate) struct Declarers {
     pub own: List<ClassSet>,
     pub readers: List<List<Option<NodeNo>>>,

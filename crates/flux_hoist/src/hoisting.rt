@@ -15,7 +15,6 @@ use flux_values::{List, Memory};
 use std::alloc::Global;
 
 /// What each node holds, by its number.
-#[derive(Debug)]
 pub struct Sets {
     pub nodes: List<ClassSet>,
 }

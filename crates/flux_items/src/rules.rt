@@ -12,7 +12,6 @@ pub const ITEM_LIMIT: usize = 4096;
 pub const SIZE_LIMIT: u64 = 4_194_304;
 
 /// The sources of a program, by their places: the name, the kinds of the values and the size of each.
-#[derive(Debug)]
 pub struct ItemRules {
     pub names: List<TextBytes>,
     pub kinds: List<List<Kind>>,
@@ -30,7 +29,7 @@ impl Drop for ItemRules {
 }
 
 /// Why a text has no items: what is wrong with its first faulty line, which is counted from 1.
-#[derive(Clone, Copy, Debug, PartialEq, Eq)]
+#[derive(Clone, Copy, PartialEq, Eq)]
 pub enum ItemFault {
     /// The line is of another form.
     BadItem { line: u64 },

@@ -7,7 +7,7 @@ ghost use Rattle.flux_journal.specs.declared.faults.JournalFault.TheVariants as 
 use flux_values::Memory;
 
 /// Why a line has no entry.
-#[derive(Clone, Copy, Debug, PartialEq, Eq)]
+#[derive(Clone, Copy, PartialEq, Eq)]
 pub enum LineFault {
     /// It is no event line of the program.
     BadLine,
@@ -22,7 +22,7 @@ impl From<Memory> for LineFault {
     }
 }
 /// Why a text has no journal.
-#[derive(Clone, Copy, Debug, PartialEq, Eq)]
+#[derive(Clone, Copy, PartialEq, Eq)]
 pub enum JournalFault {
     /// The first line, from 1, that is no event line of the program; or the first of all, where a head
     /// line has another form or another number of lines.

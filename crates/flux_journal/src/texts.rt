@@ -34,7 +34,6 @@ pub fn count_lines(text: &[u8]) -> u64
 }
 
 /// The lines of a text, each without its LF, which the last may lack.
-#[derive(Debug)]
 pub struct Lines<'a> {
     rest: &'a [u8],
 }
@@ -85,7 +84,7 @@ impl<'a> Lines<'a> {
 }
 
 /// The numbers of a head line.
-#[derive(Clone, Copy, Debug, PartialEq, Eq)]
+#[derive(Clone, Copy, PartialEq, Eq)]
 pub struct Head {
     pub flows: u32,
     pub events: u64,

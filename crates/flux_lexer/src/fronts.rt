@@ -10,7 +10,7 @@ use crate::kinds::{TokenKind, single, word_kind};
 use flux_values::TEXT_LIMIT;
 
 /// What begins a text, with its length in bytes.
-#[derive(Clone, Copy, Debug)]
+#[derive(Clone, Copy)]
 pub enum Front {
     /// A blank or a comment.
     Skip(usize),

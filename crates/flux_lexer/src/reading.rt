@@ -16,7 +16,7 @@ use std::alloc::Global;
 pub const PROGRAM_LIMIT: usize = 1_048_576;
 
 /// What has been read: the tokens, and how many bytes.
-#[derive(Debug, Drop)]
+#[derive(Drop)]
 pub struct Lexed {
     pub tokens: List<Token>,
     pub at: usize,

@@ -15,7 +15,6 @@ use std::marker::Model;
 pub const BODY_LIMIT: usize = 1_048_576;
 
 /// Documents: a finite map from names to bodies of at most 1,048,576 bytes each.
-#[derive(Debug)]
 pub struct Docs {
     alloc: Global,
     /// The names are vectors, since such keys can be searched for a slice.

@@ -4,11 +4,10 @@ use crate::programs::SourceNo;
 use flux_values::{List, Value};
 
 /// A flow, by its item's place among the items.
-#[derive(Clone, Copy, Debug, PartialEq, Eq, PartialOrd, Ord, Hash)]
+#[derive(Clone, Copy, PartialEq, Eq, PartialOrd, Ord, Hash)]
 pub struct FlowNo(pub u32);
 
 /// What starts one flow: the values that a source gives.
-#[derive(Debug)]
 pub struct Item {
     pub source: SourceNo,
     pub values: List<Value>,

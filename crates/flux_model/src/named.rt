@@ -4,7 +4,6 @@ use crate::programs::Program;
 use flux_values::List;
 
 /// Places of names, in bytes from 0.
-#[derive(Debug)]
 pub struct Sites {
     /// Of each node, its name in its first naming line.
     pub nodes: List<u32>,
@@ -28,7 +27,7 @@ impl Drop for Sites {
 }
 
 /// A program, and where its names stand.
-#[derive(Debug, Drop)]
+#[derive(Drop)]
 pub struct Named {
     pub program: Program,
     pub sites: Sites,

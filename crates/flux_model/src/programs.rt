@@ -12,19 +12,18 @@ use std::alloc::Global;
 pub const COUNT_LIMIT: usize = 1_048_576;
 
 /// A node of a program, by its place among the nodes.
-#[derive(Clone, Copy, Debug, PartialEq, Eq)]
+#[derive(Clone, Copy, PartialEq, Eq)]
 pub struct NodeNo(pub u32);
 
 /// A source line of a program, by its place among the source lines.
-#[derive(Clone, Copy, Debug, PartialEq, Eq)]
+#[derive(Clone, Copy, PartialEq, Eq)]
 pub struct SourceNo(pub u32);
 
 /// A constraint class of a program, by its place among the classes.
-#[derive(Clone, Copy, Debug, PartialEq, Eq, PartialOrd, Ord, Hash)]
+#[derive(Clone, Copy, PartialEq, Eq, PartialOrd, Ord, Hash)]
 pub struct ClassNo(pub u32);
 
 /// A constraint name with its scope: the whole program, or one session.
-#[derive(Debug)]
 pub struct Class {
     pub name: TextBytes,
     pub session: bool,
@@ -37,14 +36,13 @@ impl Drop for Class {
 }
 
 /// A class, and how it is held.
-#[derive(Clone, Copy, Debug, PartialEq, Eq)]
+#[derive(Clone, Copy, PartialEq, Eq)]
 pub struct Hold {
     pub class: ClassNo,
     pub mode: Mode,
 }
 
 /// What a text declares. The predicates are names of the library.
-#[derive(Debug)]
 pub struct Program {
     pub classes: List<Class>,
     pub nodes: List<Node>,
@@ -63,7 +61,6 @@ impl Drop for Program {
     }
 }
 
-#[derive(Debug)]
 pub struct Node {
     pub name: TextBytes,
     pub body: Body,
@@ -85,7 +82,6 @@ impl Drop for Node {
 }
 
 /// A handler for codes. No codes at all mean every code that no other arm of the node names.
-#[derive(Debug)]
 pub struct HandleArm {
     /// From 1 to 256, where 256 is the failure of a flow none of whose cases matches.
     pub codes: List<u16>,
@@ -99,7 +95,6 @@ impl Drop for HandleArm {
 }
 
 /// What a node does: a call of the library's node of that name, or the first case that matches.
-#[derive(Debug)]
 pub enum Body {
     Concrete(TextBytes),
     Abstract(List<Case>),
@@ -116,7 +111,6 @@ impl Drop for Body {
 
 /// A case of a flow. No pattern at all matches everything, and a pattern without a number matches any value;
 /// a number points into the program's predicates.
-#[derive(Debug)]
 pub struct Case {
     pub patterns: List<Option<u32>>,
     pub members: List<NodeNo>,
@@ -129,7 +123,6 @@ impl Drop for Case {
 }
 
 /// A line that starts one flow at its target for each item of its source.
-#[derive(Debug)]
 pub struct SourceLine {
     pub node: NodeNo,
     pub target: NodeNo,

@@ -6,7 +6,6 @@ ghost use Rattle.flux_model.specs.Types.{same_types};
 use flux_values::{Kind, List, TextBytes};
 
 /// A type as it is spelled, and the kind that the library has for it.
-#[derive(Debug)]
 pub struct TypeText {
     pub words: TextBytes,
     pub kind: Kind,
@@ -18,7 +17,6 @@ impl Drop for TypeText {
     }
 }
 
-#[derive(Debug)]
 pub struct NodeSig {
     pub ins: List<TypeText>,
     pub outs: List<TypeText>,
@@ -31,7 +29,6 @@ impl Drop for NodeSig {
 }
 
 /// One signature for each node of a program.
-#[derive(Debug)]
 pub struct Sigs {
     pub nodes: List<NodeSig>,
 }

@@ -7,7 +7,6 @@ ghost use Rattle.std.specs.Coded.{coded_list, coded_ℕ};
 use std::marker::Model;
 
 /// Names in the order in which they were asked for. It takes no memory, and its methods do nothing when they run.
-#[derive(Debug)]
 pub struct AskedNames {
     pub ghost names: { List (List ℕ) } by { coded_list (coded_list coded_ℕ) },
 }

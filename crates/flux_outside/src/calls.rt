@@ -6,7 +6,6 @@ ghost use Rattle.flux_outside.specs.Calls.{no_calls, one_more, IsToFail};
 use flux_values::List;
 
 /// How many calls were made, and the numbers, from 1, of those that are to fail.
-#[derive(Debug)]
 pub struct Calls {
     fails: List<u64>,
     made: u64,

@@ -11,7 +11,7 @@ use flux_values::Bytes;
 use std::alloc::Global;
 
 /// The next document of a folder.
-#[derive(Debug, Drop)]
+#[derive(Drop)]
 pub enum NextDoc {
     /// Its name and its body.
     Doc(Bytes, Bytes),

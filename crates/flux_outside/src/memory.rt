@@ -11,14 +11,13 @@ use flux_values::{Bytes, List, Memory};
 use std::alloc::Global;
 
 /// One file: its name and its bytes.
-#[derive(Debug, Drop)]
+#[derive(Drop)]
 pub struct FileBytes {
     pub name: Bytes,
     pub body: Bytes,
 }
 
 /// A sink in memory with a fixed room.
-#[derive(Debug)]
 pub struct MemorySink {
     written: Vec<u8>,
     room: usize,
@@ -108,7 +107,6 @@ impl Sink for MemorySink {
 }
 
 /// A store in memory. Of two files of one name the first counts.
-#[derive(Debug)]
 pub struct MemoryStore {
     files: List<FileBytes>,
     calls: Calls,

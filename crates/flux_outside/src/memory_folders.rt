@@ -11,7 +11,6 @@ use flux_values::{Bytes, List};
 use std::alloc::Global;
 
 /// One folder of documents in memory, which gives them in order, of one name too.
-#[derive(Debug)]
 pub struct MemoryFolder {
     dir: Bytes,
     docs: List<FileBytes>,

@@ -9,7 +9,7 @@ use flux_values::Bytes;
 use std::alloc::Global;
 
 /// What a store has under a name.
-#[derive(Debug, Drop)]
+#[derive(Drop)]
 pub enum File {
     Found(Bytes),
     Missing,

@@ -34,7 +34,7 @@ pub struct OpenFile<F> {
 }
 
 /// Why a file was not opened.
-#[derive(Clone, Copy, Debug)]
+#[derive(Clone, Copy)]
 pub enum NotOpened {
     Missing,
     Memory,
@@ -43,7 +43,7 @@ pub enum NotOpened {
 }
 
 /// What an entry of a folder is.
-#[derive(Clone, Copy, Debug)]
+#[derive(Clone, Copy)]
 pub enum EntryKind {
     File,
     Folder,

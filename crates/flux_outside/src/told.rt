@@ -82,7 +82,7 @@ pub fn kind_told(answer: &io::Result<FileType>) -> Result<EntryKind, ErrorKind>
 }
 
 /// What a read or a write of std came to.
-#[derive(Clone, Copy, Debug)]
+#[derive(Clone, Copy)]
 pub enum Counted {
     /// It took or gave so many bytes.
     Took(usize),

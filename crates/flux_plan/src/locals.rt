@@ -42,7 +42,7 @@ impl Model for Local {
 }
 
 /// What a flow does next.
-#[derive(Clone, Copy, Debug)]
+#[derive(Clone, Copy)]
 pub enum Next {
     Take(ClassNo, Mode),
     Enter(NodeNo),

@@ -15,7 +15,7 @@ use flux_words::JournalFormat;
 use std::alloc::Global;
 
 /// What is printed of a run.
-#[derive(Clone, Copy, Debug, PartialEq, Eq)]
+#[derive(Clone, Copy, PartialEq, Eq)]
 pub enum Printing {
     Journal(JournalFormat),
     Summary,

@@ -16,7 +16,7 @@ use flux_values::{Bytes, Memory, TEXT_LIMIT, TextBytes, Value, ValueFault};
 use std::alloc::Global;
 
 /// How the bytes of a text go on between its quotes.
-#[derive(Clone, Copy, Debug)]
+#[derive(Clone, Copy)]
 enum Piece {
     /// So many bytes spell this byte.
     Spells { byte: u8, length: usize },

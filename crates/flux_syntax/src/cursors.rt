@@ -14,7 +14,7 @@ use std::marker::Model;
 
 /// Why reading stops: at a token that doesn't fit, which is then the next one, or for want of
 /// memory.
-#[derive(Clone, Copy, Debug, PartialEq, Eq)]
+#[derive(Clone, Copy, PartialEq, Eq)]
 pub enum Stop {
     Unexpected,
     Memory,
@@ -29,7 +29,7 @@ impl From<Memory> for Stop {
 }
 
 /// The tokens of a text that are left, seen as names, numbers and marks.
-#[derive(Debug, Drop)]
+#[derive(Drop)]
 pub struct Cursor<'a> {
     alloc: Global,
     text: &'a [u8],

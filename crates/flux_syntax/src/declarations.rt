@@ -7,7 +7,6 @@ use flux_values::{Bytes, List, Memory, Mode, TextBytes};
 use std::alloc::Global;
 
 /// A name or a number as it is spelled, and the place of its first byte in the text, from 0.
-#[derive(Debug)]
 pub struct Word {
     pub text: TextBytes,
     pub at: u32,
@@ -20,7 +19,6 @@ impl Drop for Word {
 }
 
 /// A parameter: its type is a word with so many stars.
-#[derive(Debug)]
 pub struct Param {
     pub ty: Word,
     pub stars: u32,
@@ -48,7 +46,6 @@ impl Param {
 }
 
 /// A name that a node holds as reader or writer, in the whole program or in its session.
-#[derive(Debug)]
 pub struct Constraint {
     pub name: Word,
     pub mode: Mode,
@@ -66,7 +63,6 @@ impl Drop for Constraint {
 }
 
 /// A declaration.
-#[derive(Debug)]
 pub enum Decl {
     /// `Name (int a) => (int b);`
     Signature {

@@ -13,14 +13,14 @@ use std::collections::BTreeMap;
 use std::marker::Model;
 
 /// How a flow holds a key: in the greatest mode of its takes that aren't released, and how many these are.
-#[derive(Clone, Copy, Debug, PartialEq, Eq)]
+#[derive(Clone, Copy, PartialEq, Eq)]
 pub struct Held {
     pub mode: Mode,
     pub count: u64,
 }
 
 /// A flow in a line, with the mode that it waits for.
-#[derive(Clone, Copy, Debug, PartialEq, Eq)]
+#[derive(Clone, Copy, PartialEq, Eq)]
 pub struct Waiter {
     pub flow: FlowNo,
     pub mode: Mode,

@@ -5,14 +5,14 @@ use crate::texts::{Bytes, TextBytes};
 use crate::values::Value;
 
 /// How a constraint is held.
-#[derive(Clone, Copy, Debug, PartialEq, Eq)]
+#[derive(Clone, Copy, PartialEq, Eq)]
 pub enum Mode {
     Reader,
     Writer,
 }
 
 /// How a call ended: with values, or with a code from 1 to 255.
-#[derive(Debug, PartialEq, Eq)]
+#[derive(PartialEq, Eq)]
 pub enum CallResult {
     Good(List<Value>),
     Bad(u16),
@@ -28,7 +28,7 @@ impl Drop for CallResult {
 }
 
 /// A change of a cell: it sets a name, or removes it where there is no value.
-#[derive(Debug, PartialEq, Eq)]
+#[derive(PartialEq, Eq)]
 pub struct Put {
     pub cell: TextBytes,
     pub name: TextBytes,
@@ -42,7 +42,7 @@ impl Drop for Put {
 }
 
 /// All that a call of a node answers.
-#[derive(Debug, PartialEq, Eq)]
+#[derive(PartialEq, Eq)]
 pub struct Answer {
     pub result: CallResult,
     pub puts: List<Put>,

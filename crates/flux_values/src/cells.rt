@@ -22,7 +22,6 @@ type Entries = Vec<(TextBytes, Value)>;
 /// A finite map from text to value.
 ///
 /// Copies share their entries until one of them is changed.
-#[derive(Debug)]
 pub struct Cell {
     alloc: Global,
     /// None where nothing was put yet.

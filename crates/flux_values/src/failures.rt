@@ -30,7 +30,7 @@ pub enum TextFault {
 }
 
 /// Why no value was read.
-#[derive(Clone, Copy, Debug, PartialEq, Eq)]
+#[derive(Clone, Copy, PartialEq, Eq)]
 pub enum ValueFault {
     /// No value's spelling begins the bytes.
     BadValue { at: usize },

@@ -13,7 +13,6 @@ use std::marker::Model;
 use std::slice::Iter;
 
 /// Items in order.
-#[derive(Debug)]
 pub struct List<T> {
     items: Vec<T>,
 }

@@ -8,7 +8,7 @@ use crate::values::Kind;
 
 /// What a node is to a server: an inner node, or a source of items, some of which read a link's
 /// head or line.
-#[derive(Clone, Copy, Debug, PartialEq, Eq)]
+#[derive(Clone, Copy, PartialEq, Eq)]
 pub enum Role {
     Plain,
     Source,
@@ -17,7 +17,7 @@ pub enum Role {
 }
 
 /// A cell that a node uses, and how.
-#[derive(Debug, PartialEq, Eq)]
+#[derive(PartialEq, Eq)]
 pub struct CellUse {
     pub name: TextBytes,
     pub mode: Mode,
@@ -30,7 +30,7 @@ impl Drop for CellUse {
 }
 
 /// What a library says of a node.
-#[derive(Debug, PartialEq, Eq)]
+#[derive(PartialEq, Eq)]
 pub struct Sig {
     pub ins: List<Kind>,
     pub outs: List<Kind>,

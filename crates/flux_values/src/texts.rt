@@ -20,7 +20,6 @@ pub const TEXT_LIMIT: usize = 65_536;
 pub const EMISSION_LIMIT: usize = 1_049_600;
 
 /// A text: at most 65,536 bytes, of any encoding.
-#[derive(Debug)]
 pub struct TextBytes {
     bytes: Vec<u8>,
 }
@@ -123,7 +122,6 @@ impl PartialOrd for TextBytes {
 }
 
 /// Bytes of any length.
-#[derive(Debug)]
 pub struct Bytes {
     bytes: Vec<u8>,
 }

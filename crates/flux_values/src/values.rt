@@ -8,14 +8,14 @@ use crate::texts::TextBytes;
 use std::alloc::Global;
 
 /// What kind of value stands in a place.
-#[derive(Clone, Copy, Debug, PartialEq, Eq)]
+#[derive(Clone, Copy, PartialEq, Eq)]
 pub enum Kind {
     Int,
     Bool,
     Text,
 }
 
-#[derive(Debug, PartialEq, Eq)]
+#[derive(PartialEq, Eq)]
 pub enum Value {
     Int(i64),
     Bool(bool),

@@ -11,7 +11,7 @@ use flux_values::Memory;
 use std::alloc::Global;
 
 /// Why a plan isn't a verified one.
-#[derive(Clone, Copy, Debug, PartialEq, Eq)]
+#[derive(Clone, Copy, PartialEq, Eq)]
 pub enum VerifyFault {
     /// The lowest node that has a faulty place, and its first one.
     Bad { node: NodeNo, at: u32 },

@@ -16,7 +16,7 @@ use flux_values::Memory;
 use std::alloc::Global;
 
 /// A place in the segment of a node.
-#[derive(Clone, Copy, Debug)]
+#[derive(Clone, Copy)]
 pub struct SegmentPlace {
     pub node: NodeNo,
     pub at: u32,

@@ -15,7 +15,7 @@ pub const COST_LIMIT: u32 = 1_000;
 pub const COSTS_LIMIT: usize = 4_096;
 
 /// How many processors there are, from 1 to 64.
-#[derive(Clone, Copy, Debug, PartialEq, Eq)]
+#[derive(Clone, Copy, PartialEq, Eq)]
 pub struct Processors {
     pub count: u32,
     pub ghost some: { 1 ≤ count },
@@ -23,7 +23,6 @@ pub struct Processors {
 }
 
 /// What the calls of the first nodes cost, from 1 to 1,000 each.
-#[derive(Debug)]
 pub struct Costs {
     pub list: List<u32>,
     pub ghost within: { (place : ℕ) → place < length list

@@ -11,7 +11,7 @@ use flux_values::Memory;
 use std::alloc::Global;
 
 /// When the replies of a batch are written.
-#[derive(Debug, Drop)]
+#[derive(Drop)]
 pub enum Replying {
     /// At the end of the batch, which a runtime drives.
     AtEnd(Runtime),

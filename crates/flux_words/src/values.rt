@@ -27,7 +27,7 @@ pub const PORT_LIMIT: u32 = 65_535;
 pub const BATCHES_LIMIT: u32 = 4_294_967_295;
 
 /// By which runtime items are run.
-#[derive(Debug, Drop)]
+#[derive(Drop)]
 pub enum Runtime {
     /// Flow after flow, each up to its first call, its wait or its end.
     Event,
@@ -42,7 +42,7 @@ pub enum Runtime {
 }
 
 /// The format of a printed journal.
-#[derive(Clone, Copy, Debug, PartialEq, Eq)]
+#[derive(Clone, Copy, PartialEq, Eq)]
 pub enum JournalFormat {
     One,
     Two,

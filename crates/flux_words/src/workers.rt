@@ -3,7 +3,7 @@
 ghost use Rattle.std.specs.Prelude.{◌≤◌};
 
 /// How many workers a pool has, or how many helpers an event loop, from 1 to 16.
-#[derive(Clone, Copy, Debug, PartialEq, Eq)]
+#[derive(Clone, Copy, PartialEq, Eq)]
 pub struct Workers {
     pub count: u8,
     pub ghost some: { 1 ≤ count },

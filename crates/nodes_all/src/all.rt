@@ -10,7 +10,6 @@ use nodes_counter::Counter;
 use std::alloc::Global;
 
 /// The nodes of `Counter`, `Web`, `Caching` and `Tracker`, those of `Web` and `Caching` over the same documents.
-#[derive(Debug)]
 pub struct All {
     pub docs: Docs,
 }

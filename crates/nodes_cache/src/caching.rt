@@ -10,7 +10,6 @@ use flux_values::{Answer, Bytes, CallResult, Cell, Kind, List, Meaning, Memory, 
 use std::alloc::Global;
 
 /// The nodes of an image server, which keep documents in the cell `cache`, behind the source `Listen`.
-#[derive(Debug)]
 pub struct Caching {
     pub docs: Docs,
 }

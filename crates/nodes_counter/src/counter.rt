@@ -10,7 +10,7 @@ use std::alloc::Global;
 
 /// The basic nodes, `Pass`, `Fail`, `Show`, `Echo` and `Refuse`, and the counter's, `Command`,
 /// `Amount`, `Add`, `Read` and `Bump`, behind the sources `Tick` and `Listen`.
-#[derive(Clone, Copy, Debug, Drop)]
+#[derive(Clone, Copy, Drop)]
 pub struct Counter;
 
 impl Meaning for Counter {

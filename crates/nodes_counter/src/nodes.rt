@@ -8,7 +8,7 @@ use flux_values::{Kind, List, Memory, Mode, Role, Sig};
 use std::alloc::Global;
 
 /// A node of the library.
-#[derive(Clone, Copy, Debug)]
+#[derive(Clone, Copy)]
 pub enum Node {
     Tick,
     Listen,

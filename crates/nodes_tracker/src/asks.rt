@@ -12,7 +12,7 @@ use flux_values::{Memory, TextBytes};
 use std::alloc::Global;
 
 /// What an ask says.
-#[derive(Debug, Drop)]
+#[derive(Drop)]
 pub struct Ask {
     pub action: TextBytes,
     pub hash: TextBytes,

@@ -9,7 +9,7 @@ use flux_values::{Kind, List, Memory, Mode, Sig};
 use std::alloc::Global;
 
 /// A node of the library.
-#[derive(Clone, Copy, Debug)]
+#[derive(Clone, Copy)]
 pub enum Node {
     Listen,
     ReadAsk,

@@ -16,7 +16,7 @@ use std::alloc::Global;
 pub const PEER_LIMIT: usize = 1000;
 
 /// A peer of a swarm: four bytes of address and two of port, and how much it has left.
-#[derive(Debug, Drop)]
+#[derive(Drop)]
 pub struct Peer {
     pub address: Bytes,
     pub left: i64,

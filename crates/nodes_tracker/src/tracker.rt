@@ -10,7 +10,7 @@ use flux_values::{Answer, Bytes, CallResult, Cell, Kind, List, Meaning, Memory, 
 use std::alloc::Global;
 
 /// The nodes of a tracker, which keep swarms in the cell `swarms`, behind the source `Listen`.
-#[derive(Clone, Copy, Debug, Drop)]
+#[derive(Clone, Copy, Drop)]
 pub struct Tracker;
 
 impl Meaning for Tracker {

@@ -13,7 +13,7 @@ use memchr::memchr;
 pub const FIELD_LIMIT: usize = 64;
 
 /// What a request asks for.
-#[derive(Clone, Copy, Debug, PartialEq, Eq)]
+#[derive(Clone, Copy, PartialEq, Eq)]
 pub struct Request<'a> {
     pub method: &'a [u8],
     /// The target up to its first `?`.

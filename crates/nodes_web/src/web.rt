@@ -11,7 +11,6 @@ use std::alloc::Global;
 
 /// The web nodes `ReadRequest`, `LookUp`, `SendDoc`, `SendHead`, `NotFound`, `NotAllowed` and
 /// `BadRequest`, behind the source `Accept`, over documents.
-#[derive(Debug)]
 pub struct Web {
     pub docs: Docs,
 }

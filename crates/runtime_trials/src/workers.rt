@@ -21,7 +21,7 @@ pub trait Worker {
 }
 
 /// A worker that has the core until all its flows have ended.
-#[derive(Clone, Copy, Debug, PartialEq, Eq)]
+#[derive(Clone, Copy, PartialEq, Eq)]
 pub struct Drainer;
 
 impl Worker for Drainer {

@@ -1,7 +1,7 @@
 //! A run on simulated processors, and what is printed of it.
 
 ghost use Rattle.std.specs.Prelude.{◌≡◌, ◌≤◌, ◌<◌, ◌-◌, ◌*◌, IfOk, length};
-ghost use Rattle.std.specs.List.{sum_by, slice_get, AllByRecursion};
+ghost use Rattle.std.specs.List.{slice_get, AllByRecursion};
 ghost use Rattle.std.specs.Option.{unwrap_or};
 ghost use Rattle.std.specs.Arc.{arc_value};
 ghost use Rattle.flux_laws.specs.Hoisted.{locks_of};

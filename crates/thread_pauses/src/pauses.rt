@@ -15,7 +15,7 @@ const FIRST_SLEEP: u64 = 8;
 const LONGEST_SLEEP: u64 = 1_000;
 
 /// The pauses that a thread has made in a row.
-#[derive(Clone, Copy, Debug, Drop)]
+#[derive(Clone, Copy, Drop)]
 pub struct Pause {
     yields: u32,
     sleep: u64,

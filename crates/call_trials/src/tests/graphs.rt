@@ -24,8 +24,13 @@ const BELOW: &str = "0123457 1 25 3 4 7";
 fn named_of(alloc: Global, text: &[u8]) -> Result<Named, Fail>
     ensures { IfOk result (λ named. IsNumbered named.program) }
 {
-    let decls = read(alloc, text)?;
-    Ok(resolve(alloc, &decls, &Counter)?)
+    let Ok(decls) = read(alloc, text) else {
+        return Err(Fail::from("no declarations"));
+    };
+    let Ok(named) = resolve(alloc, &decls, &Counter) else {
+        return Err(Fail::from("names that don't resolve"));
+    };
+    Ok(named)
 }
 
 /// Whether nodes have the numbers that digits tell.
