@@ -6,6 +6,7 @@ use Rattle.flow_examples.specs.Orders.{OneFlowGoesRound, RoundBeginsWithTheFirst
 use Rattle.flow_examples.specs.Idle.{OthersAreBlocked, HolderCanGoOn}
 use Rattle.flow_examples.specs.Legality.{FailedIsWhole, OthersAnswersAreRefused, BegunIsNotWhole}
 use Rattle.flow_examples.specs.Shared.{AnswersAreCarried, NoValueIsMade, NoValueIsLost}
+use Rattle.flow_examples.specs.Paging.{PagesAreJoined, NoPageIsLost, NoPageIsTwice, NoPageIsMoved}
 
 pub record Examples : Type 0 where
   pub handler_follows_drops : HandlerFollowsDrops
@@ -22,6 +23,7 @@ pub record Examples : Type 0 where
   pub goes_round : OneFlowGoesRound
   pub others_blocked : OthersAreBlocked
   pub carried : AnswersAreCarried
+  pub joined : PagesAreJoined
 
 pub record Refused : Type 0 where
   pub takes : TakesAreKeptApart
@@ -40,3 +42,6 @@ pub record Refused : Type 0 where
   pub holder : HolderCanGoOn
   pub made : NoValueIsMade
   pub lost : NoValueIsLost
+  pub left_out : NoPageIsLost
+  pub twice : NoPageIsTwice
+  pub moved : NoPageIsMoved

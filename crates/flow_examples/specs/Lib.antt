@@ -6,4 +6,5 @@ pub mod Legality
 pub mod Orders
 pub mod Idle
 pub mod Shared
+pub mod Paging
 pub mod Examples

@@ -1,8 +1,8 @@
 //! Worked examples of the definitions of walks and journals, as theorems.
 //!
 //! `specs/` has small programs and journals: those that fit a definition, and those that it refuses. Nothing stands on
-//! this crate. It is for readers who want to see what the definitions of `flow_model`, and those of the orders of runtimes and of
-//! who is blocked beside calls that are run elsewhere, say.
+//! this crate. It is for readers who want to see what definitions say: those of `flow_model`, of the orders of runtimes, of
+//! who is blocked beside calls that are run elsewhere, and of a text in pages.
 #![tactic(auto)]
 
 mod laws;

@@ -5,7 +5,7 @@ ghost use Rattle.flux_model.specs.Numbered.{IsNumbered};
 
 use flow_model::Journal;
 use flux_hoist::Checked;
-use flux_journal::{JournalFault, print_journal, read_journal};
+use flux_journal::{JournalFault, Pages, print_journal, print_pages, read_journal};
 use flux_values::{Bytes, Memory};
 use std::alloc::Global;
 use trial_ends::Trouble;
@@ -34,14 +34,29 @@ fn read(alloc: Global, checked: &Checked, text: &[u8]) -> Result<Journal, Troubl
     }
 }
 
-/// What is read of a text has the same text.
+/// Whether pages have this text.
+fn have_text(pages: &Pages, text: &[u8]) -> bool {
+    let (full, last) = pages.parts();
+    let mut rest = text;
+    for page in full {
+        let page = page.as_bytes();
+        if !rest.starts_with(page) {
+            return false;
+        }
+        rest = &rest[page.len()..];
+    }
+    rest == last
+}
+
+/// What is read of a text has the same text, whole and in pages.
 fn read_alike(alloc: Global, checked: &Checked, text: &[u8]) -> Result<(), Trouble>
     requires numbered { IsNumbered checked.now.program }
     requires named { IsNamed checked.now.program }
 {
     let journal = read(alloc, checked, text)?;
     let again = print_journal(alloc, &checked.program, &journal)?;
-    if again.as_bytes() == text {
+    let pages = print_pages(alloc, &checked.program, journal)?;
+    if again.as_bytes() == text && have_text(&pages, text) {
         Ok(())
     } else {
         Err(Trouble::Wrong)

@@ -57,7 +57,7 @@ pub fn audit_text<L: Library>(
     let (_, verdict) = judge(alloc, library, checked, items, journal)?;
     let text = print_verdict(alloc, verdict)?;
     match verdict {
-        Verdict::Yes { .. } => Ok(Prepared::Text(text)),
+        Verdict::Yes { .. } => Ok(Prepared::text(alloc, text)),
         Verdict::No { .. } => Ok(Prepared::No(text)),
     }
 }
@@ -84,7 +84,7 @@ pub fn swarm_text<L: Library>(
         Verdict::Yes { .. } => {
             legal_calls_are_right();
             let text = print_swarm(alloc, &program, journal, &*own, hash)?;
-            Ok(Prepared::Text(text))
+            Ok(Prepared::text(alloc, text))
         }
         Verdict::No { .. } => Ok(Prepared::No(print_verdict(alloc, verdict)?)),
     }

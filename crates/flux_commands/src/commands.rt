@@ -58,7 +58,7 @@ fn prepare_check<'a, L: Library, S: Store>(
 {
     let checked = load_program(alloc, library, store, file)?;
     let text = report(alloc, &checked.program, &checked.order, &checked.sets)?;
-    Ok(Prepared::Text(text))
+    Ok(Prepared::text(alloc, text))
 }
 
 /// The plan that `plan` prints.
@@ -81,7 +81,7 @@ fn prepare_plan<'a, L: Library, S: Store>(
         (prepared_status result) }
 {
     let checked = load_program(alloc, library, store, file)?;
-    Ok(Prepared::Text(print_plan(alloc, &checked, library)?))
+    Ok(Prepared::text(alloc, print_plan(alloc, &checked, library)?))
 }
 
 /// The text that `format` prints.
@@ -106,7 +106,7 @@ fn prepare_format<'a, L: Library, S: Store>(
     let _ = library;
     let text = load(alloc, store, file, PROGRAM_FILE_LIMIT)?;
     let decls = read_text(alloc, text.as_bytes())?;
-    Ok(Prepared::Text(format(alloc, &decls)?))
+    Ok(Prepared::text(alloc, format(alloc, &decls)?))
 }
 
 /// The journal that `run` prints.
@@ -231,7 +231,7 @@ fn prepare_simulation<'a, L: Library, S: Store, M: Simulator>(
         processors,
         &costs,
     )?;
-    Ok(Prepared::Text(text))
+    Ok(Prepared::text(alloc, text))
 }
 
 /// The peers that `swarm` prints.
@@ -318,7 +318,7 @@ pub fn prepare<'a, S: Store, D: Fn(Core<All>, Runtime) -> Result<Core<All>, Memo
         } => prepare_load(alloc, library, driver, count, first, runtime),
         // It is served, and prints nothing before.
         Asked::Serve { .. } => unreachable!(),
-        Asked::Help => Ok(Prepared::Text(prepare_help(alloc)?)),
+        Asked::Help => Ok(Prepared::text(alloc, prepare_help(alloc)?)),
         Asked::Simulate {
             file,
             items,

@@ -14,9 +14,10 @@ use flow_core::Core;
 use flow_model::Journal;
 use flux_cells::Cells;
 use flux_hoist::Checked;
+use flux_journal::Pages;
 use flux_model::Item;
 use flux_runs::{Printing, open, print};
-use flux_values::{Bytes, List, Memory};
+use flux_values::{List, Memory};
 use flux_words::Runtime;
 use nodes_all::All;
 use std::alloc::Global;
@@ -55,7 +56,7 @@ pub fn run_items<D: Fn(Core<All>, Runtime) -> Result<Core<All>, Memory>>(
     items: List<Item>,
     wanted: Wanted,
     driver: &D,
-) -> Result<Bytes, Memory>
+) -> Result<Pages, Memory>
     requires can { CanRun (meaning_in (arc_value library)) checked.program items }
     requires drives { CanDrive (D.pre driver.now) (D.post driver.now) }
     ensures { IfOk result (IsRun (meaning_in (arc_value library)) checked.program items wanted) }
@@ -68,7 +69,7 @@ pub fn run_items<D: Fn(Core<All>, Runtime) -> Result<Core<All>, Memory>>(
         wanted.printing,
         &opened.program,
         flows,
-        &journal,
+        journal,
         &cells,
     )
 }

@@ -1,4 +1,5 @@
 pub mod Steps
+pub mod Paged
 pub mod Answered
 pub mod Told
 pub mod Driven

@@ -8,6 +8,7 @@
 
 mod drivers;
 mod outermost;
+mod pages;
 mod serving;
 mod telling;
 

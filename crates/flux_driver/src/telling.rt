@@ -5,6 +5,7 @@ ghost use Rattle.flux_outside.specs.Streams.{WroteOrBroke};
 ghost use Rattle.flux_driver.specs.Serving.{end_status, end_line};
 ghost use Rattle.flux_driver.specs.steps.Telling.{IsTold, IsPut};
 
+use crate::pages::write_pages;
 use flux_commands::{Prepared, Refusal, Status};
 use flux_outside::{Sink, write_all};
 use flux_serve::ServeEnd;
@@ -50,7 +51,7 @@ pub fn print<O: Sink, E: Sink>(out: &mut O, err: &mut E, prepared: &Prepared) ->
         (record { written = E.written err.new; faults = E.faults err.new }) }
 {
     match prepared {
-        Prepared::Text(text) => match write_all(out, text.as_bytes()) {
+        Prepared::Text(text) => match write_pages(out, text) {
             Ok(()) => Status::Done,
             Err(_) => {
                 say(err, b"flux: write failed\n");

@@ -106,7 +106,7 @@ pub fn read_values(alloc: Global, kinds: &[Kind], text: &[u8]) -> Result<ValuesR
 {
     let mut kept = Kept {
         kinds,
-        values: List::new(alloc),
+        values: List::with_room(alloc, kinds.len())?,
         fits: true,
     };
     if ends(skip_blanks(text)) {

@@ -13,6 +13,7 @@ pub mod Once
 pub mod Journaled
 pub mod Clean
 pub mod Printed
+pub mod Paged
 pub mod Entered
 pub mod Exemplary
 pub mod Decimals

@@ -1,4 +1,5 @@
 pub mod Formats
+pub mod Pages
 pub mod Logs
 pub mod Entries
 pub mod Spelled

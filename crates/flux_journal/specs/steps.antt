@@ -7,3 +7,4 @@ pub mod Reading
 pub mod Events
 pub mod Lines
 pub mod Examples
+pub mod Paged

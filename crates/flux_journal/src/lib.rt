@@ -16,6 +16,8 @@ mod laws;
 mod lines;
 mod names;
 mod outcomes;
+mod pages;
+mod paging;
 mod printing;
 mod texts;
 
@@ -23,5 +25,7 @@ pub use faults::{JournalFault, LineFault};
 pub use journals::read_journal;
 pub use laws::text_law;
 pub use lines::{LineReader, read_line};
+pub use pages::Pages;
+pub use paging::{print_pages, print_pages_2};
 pub use printing::{print_batch, print_item, print_journal, print_journal_2, print_log};
 pub use texts::{Head, Lines, is_headed, read_head};

@@ -24,7 +24,7 @@ const ENTRY_LENGTH: usize = 32;
 pub fn print_journal(alloc: Global, program: &Program, journal: &Journal) -> Result<Bytes, Memory>
     ensures { IfOk result (λ printed. printed ≡ printed_journal program.now journal.now) }
 {
-    let mut out = with_room(alloc, journal.entries.len());
+    let mut out = with_room(alloc, reckoned(&journal.entries));
     append_entries(alloc, &mut out, program, journal.entries.as_slice())?;
     Ok(out)
 }
@@ -38,7 +38,7 @@ pub fn print_journal_2(
 ) -> Result<Bytes, Memory>
     ensures { IfOk result (λ printed. printed ≡ printed_journal_2 program.now flows journal.now) }
 {
-    let mut out = with_room(alloc, journal.entries.len());
+    let mut out = with_room(alloc, reckoned(&journal.entries));
     append_head(&mut out, flows, journal.entries.len() as u64)?;
     append_entries(alloc, &mut out, program, journal.entries.as_slice())?;
     Ok(out)
@@ -80,11 +80,16 @@ pub fn print_item(alloc: Global, program: &Program, item: &Item) -> Result<Bytes
     Ok(out)
 }
 
-/// Nothing yet, with room for the text of so many entries where there is memory for it.
-fn with_room(alloc: Global, entries: usize) -> Bytes
+/// How many bytes the text of entries is reckoned to have.
+pub fn reckoned(entries: &List<Entry>) -> usize {
+    entries.len().saturating_mul(ENTRY_LENGTH)
+}
+
+/// Nothing yet, with room for so many bytes where there is memory for it.
+pub fn with_room(alloc: Global, length: usize) -> Bytes
     ensures { result ≡ [] }
 {
-    match Vec::with_capacity(alloc, entries.saturating_mul(ENTRY_LENGTH)) {
+    match Vec::with_capacity(alloc, length) {
         Ok(bytes) => Bytes::from_vec(bytes),
         Err(_) => Bytes::new(alloc),
     }
@@ -138,7 +143,8 @@ fn append_log(
     Ok(())
 }
 
-fn append_head(out: &mut Bytes, flows: u32, events: u64) -> Result<(), Memory>
+/// Adds the head line of format 2.
+pub fn append_head(out: &mut Bytes, flows: u32, events: u64) -> Result<(), Memory>
     ensures { OnOk result (out.new ≡ out.old ++ (head_line flows events ++ codes "\n")) }
 {
     append_counted(out, b"flux journal 2 flows ", flows as u64)?;
@@ -214,7 +220,8 @@ fn append_sent(out: &mut Bytes, emission: &[u8]) -> Result<(), Memory>
     append_counted_line(out, b" sent ", emission.len() as u64)
 }
 
-fn append_entry(
+/// Adds an entry's line.
+pub fn append_entry(
     alloc: Global,
     out: &mut Bytes,
     program: &Program,

@@ -8,9 +8,9 @@ ghost use Rattle.flux_runs.specs.Printed.{printed_in, printed_by};
 use crate::summaries::print_summary;
 use flow_model::Journal;
 use flux_cells::Cells;
-use flux_journal::{print_journal, print_journal_2};
+use flux_journal::{Pages, print_pages, print_pages_2};
 use flux_model::Program;
-use flux_values::{Bytes, Memory};
+use flux_values::Memory;
 use flux_words::JournalFormat;
 use std::alloc::Global;
 
@@ -27,31 +27,34 @@ fn print_format(
     format: JournalFormat,
     program: &Program,
     flows: u32,
-    journal: &Journal,
-) -> Result<Bytes, Memory>
-    ensures { IfOk result (λ text. text ≡ printed_in format program.now flows journal.now) }
+    journal: Journal,
+) -> Result<Pages, Memory>
+    ensures { IfOk result (λ text. text ≡ printed_in format program.now flows journal) }
 {
     match format {
-        JournalFormat::One => print_journal(alloc, program, journal),
-        JournalFormat::Two => print_journal_2(alloc, program, journal, flows),
+        JournalFormat::One => print_pages(alloc, program, journal),
+        JournalFormat::Two => print_pages_2(alloc, program, journal, flows),
     }
 }
 
-/// What is printed of a run of so many flows, by its journal and the cells at its end.
+/// What is printed of a run of so many flows, by its journal, which it lets go, and the cells at its end.
 pub fn print(
     alloc: Global,
     printing: Printing,
     program: &Program,
     flows: u32,
-    journal: &Journal,
+    journal: Journal,
     cells: &Cells,
-) -> Result<Bytes, Memory>
+) -> Result<Pages, Memory>
     requires { length program.now.classes ≤ COUNT_LIMIT }
     ensures { IfOk result (λ text. text
-        ≡ printed_by printing program.now flows journal.now (cells_of cells.now)) }
+        ≡ printed_by printing program.now flows journal (cells_of cells.now)) }
 {
     match printing {
         Printing::Journal(format) => print_format(alloc, format, program, flows, journal),
-        Printing::Summary => print_summary(alloc, program, flows, journal, cells),
+        Printing::Summary => {
+            let summary = print_summary(alloc, program, flows, &journal, cells)?;
+            Ok(Pages::from_bytes(alloc, summary))
+        }
     }
 }

@@ -78,7 +78,7 @@ fn number_or_zero(value: Option<&Value>) -> i64
 fn good_number(alloc: Global, number: i64) -> Result<Answer, Memory>
     ensures { IfOk result (λ answer. answer ≡ answers.ok (Int number ∷ [])) }
 {
-    let mut values = List::new(alloc);
+    let mut values = List::with_room(alloc, 1)?;
     values.add(Value::Int(number))?;
     good(alloc, values)
 }
@@ -90,6 +90,7 @@ fn puts(alloc: Global, cell: &[u8], name: &[u8], number: i64, given: i64) -> Res
     ensures { IfOk result (λ answer. answer ≡ calls.puts cell.now name.now number given) }
 {
     let mut answer = good_number(alloc, given)?;
+    answer.puts = List::with_room(alloc, 1)?;
     let (cell, name) = (word(alloc, cell)?, word(alloc, name)?);
     let value = Some(Value::Int(number));
     answer.puts.add(Put { cell, name, value })?;
@@ -133,7 +134,7 @@ fn word_and_number(alloc: Global, text: &[u8], number: i64) -> Result<Answer, Me
     requires { length text.now ≤ TEXT_LIMIT }
     ensures { IfOk result (λ answer. answer ≡ answers.ok (Text text.now ∷ Int number ∷ [])) }
 {
-    let mut values = List::new(alloc);
+    let mut values = List::with_room(alloc, 2)?;
     values.add(Value::Text(word(alloc, text)?))?;
     values.add(Value::Int(number))?;
     good(alloc, values)

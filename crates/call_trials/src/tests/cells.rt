@@ -66,7 +66,12 @@ fn number(cells: &Cells, key: Key, name: &[u8]) -> Option<i64> {
 
 fn assert_numbers(rt: &impl Abort, cells: &Cells, wanted: &[(Key, &[u8], Option<i64>)]) {
     for (key, name, wanted) in wanted {
-        assert_eq!(rt; number(cells, *key, name), *wanted, "{} {name:?}", key.class.0);
+        assert_eq!(rt;
+            number(cells, *key, name),
+            *wanted,
+            "{} {name:?}",
+            key.class.0
+        );
     }
 }
 

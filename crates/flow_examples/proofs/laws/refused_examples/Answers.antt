@@ -23,4 +23,7 @@ returns c = record {
   holder = holder_goes_on;
   made = λ value same. cc;
   lost = λ same. cc;
+  left_out = ((λ same. cc), λ same. cc);
+  twice = λ same. cc;
+  moved = λ same. cc;
 }

@@ -23,4 +23,5 @@ returns c = record {
   goes_round = goes_round;
   others_blocked = others_blocked;
   carried = (refl, refl, refl);
+  joined = (refl, refl, refl);
 }

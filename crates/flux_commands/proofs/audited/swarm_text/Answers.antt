@@ -40,8 +40,8 @@ returns-in-Yes g c =
     let told = subst
     (λ (q : Program). (journal : Journal) → ReadsAs q text journal → IsSwarmText other q journal.entries hash printed)
     same c.in_ok-text-in-Yes.ensures in
-    swarm_printed meaning p c.args.items c.requires.can text c.legal_calls_are_right.ensures
+    rw c.text.ensures (swarm_printed meaning p c.args.items c.requires.can text c.legal_calls_are_right.ensures
     (library.lawful (arc_value c.args.library)) hash printed c.in-Yes.events yes
     (subst
     (λ (m : LibraryMeaning). (journal : Journal) → ReadsAs p text journal → IsSwarmText m p journal.entries hash printed)
-    means told)
+    means told))

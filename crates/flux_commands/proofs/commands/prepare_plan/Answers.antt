@@ -15,5 +15,5 @@ returns-in_err-checked-clause-refused g c =
 pub returns-clause-done : goal.returns-clause-done
 returns-clause-done g c =
     let own = c.in_ok-checked.ensures.checked in
-    is_planned (g.L.Meaning.meaning c.args.library.now) own.text c.in_ok-checked.checked.program c.in_ok-checked.checked.sigs.nodes c.in_ok-checked.checked.order.nodes c.in_ok-checked.checked.sets.nodes c.in_ok-checked.checked.sizes own.is
-    (g.S.Store.files c.args.store.now) c.args.file.now c.in_ok-print_plan.field-0 own.gives c.in_ok-print_plan.ensures
+    rw c.text.ensures (is_planned (g.L.Meaning.meaning c.args.library.now) own.text c.in_ok-checked.checked.program c.in_ok-checked.checked.sigs.nodes c.in_ok-checked.checked.order.nodes c.in_ok-checked.checked.sets.nodes c.in_ok-checked.checked.sizes own.is
+    (g.S.Store.files c.args.store.now) c.args.file.now c.in_ok-print_plan.field-0 own.gives c.in_ok-print_plan.ensures)

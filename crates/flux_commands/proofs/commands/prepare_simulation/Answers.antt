@@ -68,8 +68,8 @@ returns-clause-done g c = λ docs.
     let meaning = g.L.Meaning.meaning (arc_value c.args.library) in
     let told = g.S.Store.files c.args.store.now in
     let own = rw c.deref.ensures at c.in_ok-loaded.ensures.loaded in
-    loaded_simulated meaning told (named c.args.file.now) (named c.args.items.now) c.in_ok-loaded.loaded own
-    (record { processors = c.args.processors.count; costs = c.args.costs.list; docs = docs }) c.in_ok-text.text c.in_ok-text.ensures
+    rw c.text.ensures (loaded_simulated meaning told (named c.args.file.now) (named c.args.items.now) c.in_ok-loaded.loaded own
+    (record { processors = c.args.processors.count; costs = c.args.costs.list; docs = docs }) c.in_ok-text.text c.in_ok-text.ensures)
 
 pub returns-clause-firm : goal.returns-clause-firm
 returns-clause-firm g c = λ docs tells stands.

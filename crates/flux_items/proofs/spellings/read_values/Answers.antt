@@ -5,10 +5,10 @@ use Rattle.flux_items.proofs.Valued.{first_values, more_values, no_values}
 use Rattle.flux_items.proofs.spellings.read_values.Goals as goal
 
 pub returns-then-ends : goal.returns-then-ends
-returns-then-ends c = c.done.ensures [] c.args.text.now (c.new.ensures, omega arith, refl) (subst Ends c.skip_blanks.ensures.rest (c.if-ends.ensures.0 refl))
+returns-then-ends c = c.done.ensures [] c.args.text.now (c.in_ok-with_room.ensures, omega arith, refl) (subst Ends c.skip_blanks.ensures.rest (c.if-ends.ensures.0 refl))
 
 pub values-init : goal.values-init
-values-init c = (refl, rw c.new.ensures (first_values c.args.kinds.now c.args.text.now (λ ends. let so = c.if-ends.ensures.1 (subst Ends (sym c.skip_blanks.ensures.rest) ends) in absurd cc)))
+values-init c = (refl, rw c.in_ok-with_room.ensures (first_values c.args.kinds.now c.args.text.now (λ ends. let so = c.if-ends.ensures.1 (subst Ends (sym c.skip_blanks.ensures.rest) ends) in absurd cc)))
 
 pub returns-in-Bad : goal.returns-in-Bad
 returns-in-Bad c =

@@ -1,0 +1,42 @@
+//! A text in pages, written.
+
+ghost use Rattle.std.specs.Prelude.{◌≡◌, ◌≤◌, OnOk, OnErr};
+ghost use Rattle.std.specs.List.{flat_map};
+ghost use Rattle.flux_outside.specs.Streams.{Wrote, Broke};
+
+use flux_journal::Pages;
+use flux_outside::{Failed, Sink, write_all};
+use flux_values::Bytes;
+
+/// Writes pages, one after the other.
+fn write_full<O: Sink>(out: &mut O, pages: &[Bytes]) -> Result<(), Failed>
+    ensures later { O.faults out.old ≤ O.faults out.new }
+    ensures wrote { OnOk result (Wrote
+        (record { written = O.written out.old; faults = O.faults out.old })
+        (record { written = O.written out.new; faults = O.faults out.new })
+        (flat_map (λ page. page) pages.now)) }
+    ensures broke { OnErr result (Broke
+        (record { written = O.written out.old; faults = O.faults out.old })
+        (record { written = O.written out.new; faults = O.faults out.new })
+        (flat_map (λ page. page) pages.now)) }
+{
+    for page in pages {
+        write_all(out, page.as_bytes())?;
+    }
+    Ok(())
+}
+
+/// Writes all of a text.
+pub fn write_pages<O: Sink>(out: &mut O, text: &Pages) -> Result<(), Failed>
+    ensures later { O.faults out.old ≤ O.faults out.new }
+    ensures wrote { OnOk result (Wrote
+        (record { written = O.written out.old; faults = O.faults out.old })
+        (record { written = O.written out.new; faults = O.faults out.new }) text.now) }
+    ensures broke { OnErr result (Broke
+        (record { written = O.written out.old; faults = O.faults out.old })
+        (record { written = O.written out.new; faults = O.faults out.new }) text.now) }
+{
+    let (full, last) = text.parts();
+    write_full(out, full)?;
+    write_all(out, last)
+}
