@@ -37,7 +37,7 @@ use Rattle.flow_core.specs.declared.cores.Step.TheVariants as steps
 use Rattle.flow_core.specs.declared.cores.Finish.TheVariants as finishes
 use Rattle.flow_state.proofs.Sets.{length-replaced}
 use Rattle.flow_state.proofs.Tables.{not-both}
-use Rattle.flow_core.specs.Moves.{with_entry, with_begun, MakesEvent, AddsWait, BeginsCall, FinishesCall}
+use Rattle.flow_core.specs.Moves.{with_entry, with_begun, MakesEvent, AddsWait, BeginsCall, FinishesCall, MakesCall}
 use Rattle.flow_core.specs.Laws.{IsAnswerAtBegin, IsAnswerNow, EndsCall, IsMoveOf, made_event, added_wait, begun_call, ended_call, IsRun, RunsAreLegal, StepsAreMoves, FinishesAreMoves, NoneLiveIsWhole}
 use Rattle.flow_state.proofs.Ended.{has_ended-whole, none-all}
 
@@ -132,6 +132,13 @@ module _ {L : Type 0} (meaning : L → LibraryMeaning) (old : CoreState L) (kept
         let may = adds.may in
         subst (IsKept meaning) (sym adds.new_) (kept-entry (Wait key mode)
         (wait_is_legal setup old.entries flow key mode kept.legal may) (idle-next (Take key mode) may.next))
+
+    pub kept-call : (made : CallMade) (new : CoreState L) → MakesCall meaning old new flow made → IsKept meaning new
+    kept-call made new makes = subst (IsKept meaning) (sym makes.new_)
+        (kept-entry (Call made) (call_is_legal setup old.entries flow made kept.legal makes.may) idle)
+      where
+        idle : (inputs : Inputs) → begun_by old flow.0 ≡ Some inputs → ⊥
+        idle inputs is = let none = sym makes.idle ∙ is in cc
 
     pub kept-begin : (inputs : Inputs) (new : CoreState L) → BeginsCall meaning old new flow inputs → IsKept meaning new
     kept-begin inputs new begins = subst (IsKept meaning) (sym begins.new_) (record {

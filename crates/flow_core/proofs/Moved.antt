@@ -12,6 +12,7 @@ use Rattle.flux_model.specs.declared.items.Item.{Item}
 use Rattle.flux_model.specs.declared.programs.Program.{Program}
 use Rattle.flux_plan.specs.declared.plans.Plan.{Plan}
 use Rattle.flux_cells.specs.Kept.{Kept}
+use Rattle.flow_model.specs.declared.journals.CallMade.{CallMade}
 use Rattle.flow_model.specs.declared.journals.Entry.{Entry}
 use Rattle.flow_model.specs.declared.journals.Event.{Event}
 use Rattle.flow_model.specs.declared.journals.Event.TheVariants.{Take, Wait, Call}
@@ -34,9 +35,9 @@ use Rattle.flow_state.proofs.Fitting.{ready-of}
 use Rattle.flow_state.proofs.Tables.{stands-next}
 use Rattle.flow_core.specs.declared.fields.Fields.{Fields}
 use Rattle.flow_core.specs.States.{CoreState, setup_in, begun_by, opened, IsKept}
-use Rattle.flow_core.specs.Moves.{with_entry, with_begun, MakesEvent, AddsWait, BeginsCall, FinishesCall, HasWaited}
+use Rattle.flow_core.specs.Moves.{with_entry, with_begun, MakesEvent, AddsWait, BeginsCall, FinishesCall, MakesCall, HasWaited}
 use Rattle.flow_core.specs.steps.Fields.{core_of, AreFields}
-use Rattle.flow_core.proofs.LegalRuns.{kept-opened, kept-event, kept-wait, kept-begin, kept-finish, ends-finished}
+use Rattle.flow_core.proofs.LegalRuns.{kept-opened, kept-event, kept-wait, kept-call, kept-begin, kept-finish, ends-finished}
 
 -- only takes are blocked
 pub free-beside : (setup : Setup) (entries : List Entry) (flow : ℕ) (event : Event) → IsNext setup entries flow event
@@ -226,6 +227,21 @@ module _ {L : Type 0} (meaning : L → LibraryMeaning) (r : Fields L) (is : AreF
       begun-running = record {
         kept = kept-begin meaning (core_of r) is.kept flow inputs (core_of Begun) begins;
         written = is.written;
+      }
+
+    -- a call that is made at once
+    module _ (made : CallMade) (idle : begun_by (core_of r) flow.0 ≡ None) (new : FlowState L)
+        (adds : states.AddsCall meaning state new flow made) (journal : Journal) where
+      pub makes-call : MakesCall meaning (core_of r) (core_of (Written new journal)) flow made
+      makes-call = record { idle = idle; may = adds.may; new_ = core-written (Call made) new adds.new_ journal }
+
+      pub call-running : journal.entries ≡ (let old = r.journal in old.entries) ++ record {
+        flow = flow;
+        event = Call made;
+      } ∷ [] → AreFields meaning (Written new journal)
+      call-running added = record {
+        kept = kept-call meaning (core_of r) is.kept flow made (core_of (Written new journal)) makes-call;
+        written = journal-written (Call made) new adds.new_ journal added;
       }
 
     module _ (inputs : Inputs) (begun : begun_by (core_of r) flow.0 ≡ Some inputs) (answer : Answer)

@@ -18,6 +18,8 @@ use Rattle.flow_state.specs.declared.inputs.Inputs.{Inputs}
 use Rattle.flow_state.specs.Calls.{IsNextCall}
 use Rattle.flow_core.specs.declared.cores.Step.{Step}
 use Rattle.flow_core.specs.declared.cores.Step.TheVariants.{Ended, Calling, Waits, Job, Went}
+use Rattle.flow_core.specs.declared.cores.AtOnce.{AtOnce}
+use Rattle.flow_core.specs.declared.cores.AtOnce.TheVariants as at_once
 use Rattle.flow_core.specs.declared.cores.Finish.{Finish}
 use Rattle.flow_core.specs.declared.cores.Finish.TheVariants as finishes
 use Rattle.flow_core.specs.States.{CoreState, JobState, setup_in, begun_by}
@@ -34,7 +36,7 @@ with_entry core flow event = record core {
 abbrev pub with_begun : {L : Type 0} → CoreState L → FlowNo → Option Inputs → CoreState L
 with_begun core flow call = record core { begun = slice_set core.begun flow.0 call }
 
--- ---- the four moves
+-- ---- the four moves, and a call that is made at once
 
 module _ {L : Type 0} (meaning : L → LibraryMeaning) (old new : CoreState L) (flow : FlowNo) where
   -- the flow's next event, which is neither a call nor blocked, is added
@@ -60,6 +62,12 @@ module _ {L : Type 0} (meaning : L → LibraryMeaning) (old new : CoreState L) (
     pub made_ : made ≡ record { node = inputs.node; args = inputs.args; answer = answer }
     pub may : MayCall (setup_in meaning old) old.entries flow made
     pub new_ : new ≡ with_begun (with_entry old flow (events.Call made)) flow None
+
+  -- the flow's next event, a call that isn't begun, is added with its node's answer on the cells of this moment
+  pub record MakesCall (made : CallMade) : Type 0 where
+    pub idle : begun_by old flow.0 ≡ None
+    pub may : MayCall (setup_in meaning old) old.entries flow made
+    pub new_ : new ≡ with_entry old flow (events.Call made)
 
   -- ---- what a step does
 
@@ -93,6 +101,14 @@ module _ {L : Type 0} (meaning : L → LibraryMeaning) (old new : CoreState L) (
   HasStepped (Waits key holder) = HasWaited key holder
   HasStepped (Job job) = HasBegun job
   HasStepped Went = (event : Event) × MakesEvent event
+
+  -- a step at once makes a call that would be begun, and does else what a step does
+  abbrev pub HasSteppedAtOnce : AtOnce → Type 0
+  HasSteppedAtOnce at_once.Ended = HasStepped Ended
+  HasSteppedAtOnce at_once.Calling = HasStepped Calling
+  HasSteppedAtOnce (at_once.Waits key holder) = HasStepped (Waits key holder)
+  HasSteppedAtOnce at_once.Called = (made : CallMade) × MakesCall made
+  HasSteppedAtOnce at_once.Went = HasStepped Went
 
   -- ---- what a finished call does
 

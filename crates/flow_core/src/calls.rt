@@ -66,6 +66,23 @@ pub fn library_name(p: &Program, node: NodeNo) -> Option<&[u8]>
     }
 }
 
+/// The library's answer to a call.
+pub fn answer_of<L: Library>(
+    alloc: Global,
+    program: &Program,
+    library: &L,
+    inputs: &Inputs,
+) -> Result<SharedAnswer, Memory>
+    requires { IsReady (L.meaning library.now) program.now inputs.now }
+    ensures { IfOk result (IsAnswerOf (L.meaning library.now) program.now inputs.now) }
+{
+    let Some(name) = library_name(program, inputs.node) else {
+        unreachable!()
+    };
+    let answer = library.call(alloc, name, inputs.args.as_slice(), inputs.cells.as_slice())?;
+    SharedAnswer::new(alloc, answer)
+}
+
 /// A begun call, to be run wherever its runtime likes.
 pub struct Job<L: Library> {
     flow: FlowNo,
@@ -204,19 +221,10 @@ impl<L: Library> Job<L> {
         ensures library { IfOk result (λ done. done.library ≡ self.now.library) }
     {
         let inputs = self.begun.as_inputs();
-        let Some(name) = library_name(&self.program, inputs.node) else {
-            unreachable!()
-        };
-        let answer = self.library.call(
-            alloc,
-            name,
-            inputs.args.as_slice(),
-            inputs.cells.as_slice(),
-        )?;
         Ok(CallDone {
             flow: self.flow,
             begun: self.begun.share()?,
-            answer: SharedAnswer::new(alloc, answer)?,
+            answer: answer_of(alloc, &self.program, &*self.library, inputs)?,
             program: Arc::try_clone(&self.program)?,
             library: Arc::try_clone(&self.library)?,
         })

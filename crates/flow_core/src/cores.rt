@@ -9,15 +9,16 @@ ghost use Rattle.flux_cells.specs.Kept.{cells_of};
 ghost use Rattle.flow_state.specs.States.{MayRun};
 ghost use Rattle.flow_state.specs.Calls.{library_name};
 ghost use Rattle.flow_state.specs.Blockers.{IsBlockedAt};
-ghost use Rattle.flow_state.specs.Lines.{IsStop, IsLineAt};
+ghost use Rattle.flow_state.specs.Lines.{IsStop, IsWay, IsLineAt};
 ghost use Rattle.flow_core.specs.States.{setup_in, begun_by, opened, IsKept};
-ghost use Rattle.flow_core.specs.Moves.{HasStepped, HasFinished, ComesWherever, job_of};
+ghost use Rattle.flow_core.specs.Moves.{HasStepped, HasSteppedAtOnce, HasFinished, ComesWherever, job_of};
 ghost use Rattle.flow_core.specs.Runs.{live_count, GoesOn, LeavesOthers};
 
 use crate::calls::{CallDone, Job};
 use crate::fields::Fields;
+use crate::gates::Gate;
 use flow_model::{Journal, Key};
-use flow_state::{Setup, Stop};
+use flow_state::{Setup, Stop, Way};
 use flux_cells::Cells;
 use flux_library::Library;
 use flux_model::FlowNo;
@@ -38,6 +39,21 @@ pub enum Step<L: Library> {
     /// The flow's next event is a call, which is begun now.
     Job(Job<L>),
     /// The flow's next event was made.
+    Went,
+}
+
+/// What a step did that makes calls at once.
+#[derive(Clone, Copy, PartialEq, Eq)]
+pub enum AtOnce {
+    /// Nothing: the flow has had its `end`.
+    Ended,
+    /// Nothing: the flow's call was begun before, and wants to be finished.
+    Calling,
+    /// The flow's next take is blocked; the lowest flow that blocks it is named.
+    Waits { key: Key, holder: FlowNo },
+    /// The flow's next event, a call, was made.
+    Called,
+    /// The flow's next event was made, which is no call.
     Went,
 }
 
@@ -97,6 +113,18 @@ impl<L: Library> Core<L> {
         ensures others { LeavesOthers self.old self.new flow }
     {
         self.fields.step(flow)
+    }
+
+    /// Lets a flow do what comes next, as `step` does, but makes a call at once: it is begun nowhere, and nothing is kept of
+    /// it but its entry. The gate is called before and after the call.
+    pub fn step_at_once<G: Gate>(&mut self, gate: &G, flow: FlowNo) -> Result<AtOnce, Memory>
+        requires { flow.0 < length self.old.setup.items }
+        ensures ok { IfOk result (HasSteppedAtOnce L.meaning self.old self.new flow) }
+        ensures err { OnErr result (self.new ≡ self.old) }
+        ensures on { GoesOn self.old self.new }
+        ensures others { LeavesOthers self.old self.new flow }
+    {
+        self.fields.step_at_once(gate, flow)
     }
 
     /// Takes the answer of a begun call, which may have been made anywhere.
@@ -185,6 +213,14 @@ impl<L: Library> Core<L> {
 }
 
 impl<L: Library> Core<L> {
+    /// Whether a flow can go on.
+    pub fn way(&self, flow: FlowNo) -> Way
+        requires { flow.0 < length self.now.setup.items }
+        ensures { IsWay (setup_in L.meaning self.now) self.now.entries flow.0 result }
+    {
+        self.fields.state.way(flow)
+    }
+
     /// Where a flow is blocked.
     pub fn stop_at(&self, flow: FlowNo) -> Option<Stop>
         requires { flow.0 < length self.now.setup.items }

@@ -1,20 +1,25 @@
 //! How calls are begun and finished.
 
-ghost use Rattle.std.specs.Prelude.{◌≡◌, ◌<◌, ◌↔◌, Some, None, length, IsTrue, IsSome, IfOk, OnOk, OnErr, option_map};
-ghost use Rattle.flux_laws.specs.Going.{IsAtCall};
+ghost use Rattle.std.specs.Prelude.{◌≡◌, ◌<◌, ◌↔◌, [], ◌∷◌, ◌++◌, Some, None, length, IsTrue, IsSome, IfOk, OnOk, OnErr, option_map};
+ghost use Rattle.flow_model.specs.declared.journals.CallMade.{CallMade};
 ghost use Rattle.flow_model.specs.declared.journals.Event.TheVariants as events;
-ghost use Rattle.flow_state.specs.Calls.{IsNextCall, IsAnswerOf, made_of};
+ghost use Rattle.flow_state.specs.declared.coming.Coming.TheVariants as comings;
+ghost use Rattle.flow_state.specs.States.{setup_at};
+ghost use Rattle.flow_state.specs.Coming.{IsComing};
+ghost use Rattle.flow_state.specs.Calls.{IsReady, IsNextCall, IsAnswerOf, made_of};
+ghost use Rattle.flow_state.specs.Moves.{AddsCall};
 ghost use Rattle.flow_core.specs.States.{setup_in, begun_by};
-ghost use Rattle.flow_core.specs.Moves.{FinishesCall, HasBegun, job_of};
+ghost use Rattle.flow_core.specs.Moves.{FinishesCall, HasBegun, MakesCall, job_of};
 ghost use Rattle.flow_core.specs.steps.Fields.{core_of, AreFields};
 
-use crate::calls::{Begun, Job};
+use crate::calls::{Begun, Job, answer_of};
 use crate::fields::{Fields, take_back, write};
+use crate::gates::Gate;
 use crate::sameness::same_inputs;
-use flow_model::{CallMade, Entry, Event, SharedAnswer};
-use flow_state::Inputs;
+use flow_model::{CallMade, Entry, Event, Journal, SharedAnswer};
+use flow_state::{Inputs, State};
 use flux_library::Library;
-use flux_model::FlowNo;
+use flux_model::{FlowNo, NodeNo};
 use flux_values::Memory;
 
 /// The event of a call, which shares the call's arguments and its answer.
@@ -26,6 +31,34 @@ fn call_event(inputs: &Inputs, answer: &SharedAnswer) -> Result<Event, Memory>
         args: inputs.args.share()?,
         answer: answer.share()?,
     }))
+}
+
+/// Adds a flow's call, which comes next, with its answer. The entry shares what it is given, and copies nothing.
+fn add_call<L: Library>(
+    state: &mut State<L>,
+    journal: &mut Journal,
+    flow: FlowNo,
+    inputs: &Inputs,
+    answer: &SharedAnswer,
+) -> Result<(), Memory>
+    requires next { IsNextCall (setup_at L.meaning state.old) state.old.entries flow.0 inputs.now }
+    requires right { IsAnswerOf (L.meaning state.old.setup.library) state.old.setup.program inputs.now
+        answer.now }
+    ensures adds { OnOk result (AddsCall L.meaning state.old state.new flow (made_of inputs.now answer.now)) }
+    ensures written { OnOk result (journal.new.entries ≡ journal.old.entries
+        ++ record { flow = flow; event = events.Call (made_of inputs.now answer.now) } ∷ []) }
+    ensures still { OnErr result (state.new ≡ state.old) }
+    ensures back { OnErr result (journal.new.entries ≡ journal.old.entries) }
+{
+    let event = call_event(inputs, answer)?;
+    write(journal, Entry { flow, event })?;
+    match state.answer(flow, inputs, answer) {
+        Ok(()) => Ok(()),
+        Err(memory) => {
+            take_back(journal);
+            Err(memory)
+        }
+    }
 }
 
 impl<L: Library> Fields<L> {
@@ -42,16 +75,17 @@ impl<L: Library> Fields<L> {
     }
 
     /// Begins a flow's call, which comes next.
-    pub fn begin(&mut self, flow: FlowNo) -> Result<Job<L>, Memory>
+    pub fn begin(&mut self, flow: FlowNo, node: NodeNo) -> Result<Job<L>, Memory>
         requires fields { AreFields L.meaning self.old }
         requires flow { flow.0 < length self.old.state.setup.items }
-        requires at { IsAtCall (setup_in L.meaning (core_of self.old)) self.old.state.entries flow.0 }
+        requires comes { IsComing (setup_in L.meaning (core_of self.old)) self.old.state.entries flow.0
+            (comings.Call node) }
         requires idle { begun_by (core_of self.old) flow.0 ≡ None }
         ensures fields { AreFields L.meaning self.new }
         ensures ok { IfOk result (HasBegun L.meaning (core_of self.old) (core_of self.new) flow) }
         ensures err { OnErr result (core_of self.new ≡ core_of self.old) }
     {
-        let inputs = self.state.inputs(flow)?;
+        let inputs = self.state.inputs(flow, node)?;
         let begun = Begun::new(self.state.alloc(), inputs)?;
         let job = self.job(flow, &begun)?;
         self.begun[flow.0 as usize] = Some(begun);
@@ -92,7 +126,7 @@ impl<L: Library> Fields<L> {
         }
     }
 
-    /// Adds a flow's begun call with its answer. The entry shares what it is given, and copies nothing.
+    /// Adds a flow's begun call with its answer.
     pub fn answer(
         &mut self,
         flow: FlowNo,
@@ -109,17 +143,38 @@ impl<L: Library> Fields<L> {
             inputs.now answer.now) }
         ensures err { OnErr result (core_of self.new ≡ core_of self.old) }
     {
-        let event = call_event(inputs, answer)?;
-        write(&mut self.journal, Entry { flow, event })?;
-        match self.state.answer(flow, inputs, answer) {
-            Ok(()) => {
-                self.begun[flow.0 as usize] = None;
-                Ok(())
-            }
-            Err(memory) => {
-                take_back(&mut self.journal);
-                Err(memory)
-            }
-        }
+        add_call(&mut self.state, &mut self.journal, flow, inputs, answer)?;
+        self.begun[flow.0 as usize] = None;
+        Ok(())
+    }
+
+    /// Makes a flow's call, which comes next, at once.
+    pub fn call<G: Gate>(&mut self, gate: &G, flow: FlowNo, node: NodeNo) -> Result<(), Memory>
+        requires fields { AreFields L.meaning self.old }
+        requires comes { IsComing (setup_in L.meaning (core_of self.old)) self.old.state.entries flow.0
+            (comings.Call node) }
+        requires idle { begun_by (core_of self.old) flow.0 ≡ None }
+        ensures fields { AreFields L.meaning self.new }
+        ensures ok { OnOk result ((made : CallMade)
+            × MakesCall L.meaning (core_of self.old) (core_of self.new) flow made) }
+        ensures err { OnErr result (core_of self.new ≡ core_of self.old) }
+    {
+        let inputs = self.state.inputs(flow, node)?;
+        gate.before(flow, node);
+        let answer = self.answer_to(&inputs);
+        gate.after(flow, node);
+        let (state, journal) = (&mut self.state, &mut self.journal);
+        add_call(state, journal, flow, &inputs, &answer?)?;
+        Ok(())
+    }
+
+    /// The library's answer to a call that comes next.
+    fn answer_to(&self, inputs: &Inputs) -> Result<SharedAnswer, Memory>
+        requires { IsReady (L.meaning self.now.state.setup.library) self.now.state.setup.program inputs.now }
+        ensures { IfOk result (IsAnswerOf (L.meaning self.now.state.setup.library)
+            self.now.state.setup.program inputs.now) }
+    {
+        let setup = self.state.setup();
+        answer_of(self.state.alloc(), &setup.program, &*setup.library, inputs)
     }
 }

@@ -17,8 +17,8 @@ mod runtimes;
 mod sameness;
 
 pub use calls::{CallDone, Job};
-pub use cores::{Core, Finish, Step};
-pub use flow_state::{Inputs, Setup, Stop};
+pub use cores::{AtOnce, Core, Finish, Step};
+pub use flow_state::{Inputs, Setup, Stop, Way};
 pub use gates::{Gate, OpenGate};
 pub use laws::{calls_are_moves, none_live_is_whole, runs_are_legal};
 pub use runtimes::{Runtime, Stopped};

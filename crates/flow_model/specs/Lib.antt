@@ -1,5 +1,6 @@
 pub mod Carried
 pub mod Keys
+pub mod KeptKeys
 pub mod Setup
 pub mod Matching
 pub mod Walk

@@ -3,7 +3,7 @@
 ghost use Rattle.std.specs.Prelude.{◌≡◌, IfOk};
 ghost use Rattle.flow_model.specs.Carried.{good_values};
 
-use flux_values::{Answer, CallResult, List, Memory, Value};
+use flux_values::{Answer, Bytes, CallResult, List, Memory, Value};
 use std::alloc::Global;
 use std::marker::Model;
 use std::sync::Arc;
@@ -56,63 +56,52 @@ impl SharedAnswer {
     }
 }
 
-/// Where carried values are kept: nowhere, where there are none; by themselves; or in an answer.
-pub enum Kept {
-    Nothing,
-    Own(Arc<List<Value>>),
-    Answered(SharedAnswer),
-}
-
-impl Drop for Kept {
-    fn drop(self) {
-        match self {
-            Kept::Nothing => {}
-            Kept::Own(_) => {}
-            Kept::Answered(_) => {}
-        }
-    }
-}
-
 /// Values that a flow carries, seen as their list.
 pub struct Carried {
-    kept: Kept,
+    answer: SharedAnswer,
 }
 
 impl Drop for Carried {
     fn drop(self) {
-        let Carried { kept } = self;
+        let Carried { answer } = self;
     }
 }
 
 impl Model for Carried {
     ghost use Rattle.std.specs.Prelude.{List};
     ghost use Rattle.flux_values.specs.declared.values.Value.{Value as value};
-    ghost use Rattle.flow_model.specs.Carried.{values_of};
+    ghost use Rattle.flow_model.specs.Carried.{good_values};
 
     ghost Value = { List value };
 
-    ghost view = { λ c. values_of c.kept };
+    ghost view = { λ c. good_values c.answer.result };
 }
 
 impl Carried {
+    /// Values by themselves, as those of an answer that does nothing else.
     pub fn new(alloc: Global, values: List<Value>) -> Result<Carried, Memory>
         ensures { IfOk result (λ carried. carried ≡ values) }
     {
+        let answer = Answer {
+            result: CallResult::Good(values),
+            puts: List::new(alloc),
+            emits: Bytes::new(alloc),
+        };
         Ok(Carried {
-            kept: Kept::Own(Arc::new(alloc, values)?),
+            answer: SharedAnswer::new(alloc, answer)?,
         })
     }
 
     /// The values of an answer, kept where they are; none of a failed one. Where there are none the answer isn't held.
-    pub fn from_answer(answer: &SharedAnswer) -> Result<Carried, Memory>
+    pub fn from_answer(alloc: Global, answer: &SharedAnswer) -> Result<Carried, Memory>
         ensures { IfOk result (λ carried. carried ≡ good_values answer.now.result) }
     {
-        Ok(Carried {
-            kept: match good_values(&answer.as_answer().result) {
-                [] => Kept::Nothing,
-                _ => Kept::Answered(answer.share()?),
-            },
-        })
+        match good_values(&answer.as_answer().result) {
+            [] => Carried::new(alloc, List::new(alloc)),
+            _ => Ok(Carried {
+                answer: answer.share()?,
+            }),
+        }
     }
 
     /// The same values once more.
@@ -120,22 +109,14 @@ impl Carried {
         ensures { IfOk result (λ carried. carried ≡ self.now) }
     {
         Ok(Carried {
-            kept: match &self.kept {
-                Kept::Nothing => Kept::Nothing,
-                Kept::Own(values) => Kept::Own(Arc::try_clone(values)?),
-                Kept::Answered(answer) => Kept::Answered(answer.share()?),
-            },
+            answer: self.answer.share()?,
         })
     }
 
     pub fn as_slice(&self) -> &[Value]
         ensures { result.now ≡ self.now }
     {
-        match &self.kept {
-            Kept::Nothing => &[],
-            Kept::Own(values) => values.as_slice(),
-            Kept::Answered(answer) => good_values(&answer.as_answer().result),
-        }
+        good_values(&self.answer.as_answer().result)
     }
 }
 

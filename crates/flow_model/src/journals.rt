@@ -1,6 +1,7 @@
 //! The journal of what flows did.
 
 use crate::carried::{Carried, SharedAnswer};
+use crate::kept_keys::KeptKey;
 use flux_model::{ClassNo, FlowNo, NodeNo};
 use flux_values::{List, Mode};
 
@@ -32,15 +33,16 @@ pub enum Outcome {
     Bad(u16),
 }
 
+/// What a flow did. Contracts see keys, which are kept in less room.
 pub enum Event {
-    Take(Key, Mode),
-    Wait(Key, Mode),
+    Take(KeptKey, Mode),
+    Wait(KeptKey, Mode),
     Enter(NodeNo),
     /// The chosen case, from 1.
     Choose(u32),
     Call(CallMade),
     Exit(NodeNo, Outcome),
-    Drop(Key),
+    Drop(KeptKey),
     End(Outcome),
 }
 

@@ -7,6 +7,8 @@
 
 mod carried;
 mod journals;
+mod kept_keys;
 
 pub use carried::{Carried, SharedAnswer};
 pub use journals::{CallMade, Entry, Event, Journal, Key, Outcome};
+pub use kept_keys::KeptKey;

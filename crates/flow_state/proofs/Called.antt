@@ -30,6 +30,7 @@ use Rattle.flux_laws.specs.Going.{IsAtCall}
 use Rattle.flux_laws.specs.Moves.{MayCall}
 use Rattle.flux_laws.specs.Calls.{cells_read}
 use Rattle.flux_laws.proofs.NextEvents.{call-item}
+use Rattle.flux_plan.specs.declared.locals.Next.{Next}
 use Rattle.flux_plan.specs.declared.locals.Next.TheVariants as nexts
 use Rattle.flux_plan.specs.Machine.{values_at}
 use Rattle.flux_plan.specs.Moves.{next_in, called_in, IsAnswered}
@@ -48,6 +49,7 @@ use Rattle.flow_state.specs.steps.Reads.{IsKnown, IsSigIn, IsSigOf, IsGuarded, A
 use Rattle.flow_state.specs.steps.Places.{matches_in, HasPlan, MayAnswer, key_in, IsPlaceOf, IsComing}
 use Rattle.flow_state.specs.steps.Fields.{state_of, plans_of, IsAfter, AreFields}
 use Rattle.flow_state.proofs.Agreeing.{answers-agree, calls-unique}
+use Rattle.flow_state.proofs.Asked.{call-coming}
 use Rattle.flow_state.proofs.Fitting.{HasFit, cells_read-known, sig-same, sound-guarded}
 use Rattle.flow_state.proofs.Fitting.{fit-of as fits, ready-of as readies}
 use Rattle.flow_state.proofs.Ended.{live_in, live-still}
@@ -183,6 +185,22 @@ module _ {L : Type 0} (meaning : L → LibraryMeaning) (r : Fields L) (is : AreF
               (declared setup.program node.0)) own.session;
         }
 
+  -- what comes at the flow's place is the call that is its next event
+  pub call-there : (node : NodeNo) (args : List Value) → CallIsNext setup entries flow.0 node args → (next : Next)
+      → IsComing setup (plans_of r) items flow.0 next → IsComing setup (plans_of r) items flow.0 (nexts.Call node)
+  call-there node args call next coming =
+      let within = call-item setup entries flow.0 node args call in
+      let (own, is_own) = call-coming meaning r is flow within next coming node args call in
+      own-there own (subst (λ (n : Next). IsComing setup (plans_of r) items flow.0 n) is_own coming)
+    where
+      own-there : (own : NodeNo) → IsComing setup (plans_of r) items flow.0 (nexts.Call own)
+          → IsComing setup (plans_of r) items flow.0 (nexts.Call node)
+      own-there own there =
+          let place = there.place in
+          let same = calls-unique setup entries flow.0 own node (values_at place.local) args
+          (call-is own there place there.is_place) call in
+          subst (λ (n : NodeNo). IsComing setup (plans_of r) items flow.0 (nexts.Call n)) same.0 there
+
   -- ---- a call that is made
 
   right-answer : (inputs : Inputs) → IsNextCall setup entries flow.0 inputs → (answer : Answer)
@@ -194,15 +212,6 @@ module _ {L : Type 0} (meaning : L → LibraryMeaning) (r : Fields L) (is : AreF
   module _ (inputs : Inputs) (call : IsNextCall setup entries flow.0 inputs) where
     pub call-within : flow.0 < length setup.items
     call-within = call-item setup entries flow.0 inputs.node inputs.args call.next
-
-    -- a call that comes at the flow's place is this one
-    pub coming-is : (node : NodeNo) → IsComing setup (plans_of r) items flow.0 (nexts.Call node)
-        → IsComing setup (plans_of r) items flow.0 (nexts.Call inputs.node)
-    coming-is node coming =
-        let place = coming.place in
-        let same = calls-unique setup entries flow.0 node inputs.node (values_at place.local) inputs.args
-        (call-is node coming place coming.is_place) call.next in
-        subst (λ (n : NodeNo). IsComing setup (plans_of r) items flow.0 (nexts.Call n)) same.0 coming
 
   module _ (inputs : Inputs) (call : IsNextCall setup entries flow.0 inputs)
       (coming : IsComing setup (plans_of r) items flow.0 (nexts.Call inputs.node)) (place : Place)

@@ -16,6 +16,8 @@ use Rattle.flow_model.specs.Events.{IsNext}
 use Rattle.flux_cells.specs.Kept.{cells_of}
 use Rattle.flow_model.specs.Waits.{Blocks, StandsAt, IsNoWaitLast}
 use Rattle.flow_model.specs.Legal.{IsLegal}
+use Rattle.flux_laws.specs.Growth.{has_ended}
+use Rattle.flux_laws.specs.Going.{IsBlocked}
 use Rattle.flux_plan.specs.declared.locals.Next.{Next}
 use Rattle.flux_plan.specs.declared.locals.Next.TheVariants as nexts
 use Rattle.flux_table.specs.declared.locks.Waiter.{Waiter}
@@ -28,6 +30,7 @@ use Rattle.flow_state.specs.steps.Places.{IsPlaceOf, IsComing}
 use Rattle.flow_state.specs.steps.Table.{AreInOrder}
 use Rattle.flow_state.specs.steps.Fields.{state_of, plans_of, AreFields}
 use Rattle.flow_state.proofs.Asked.{take-is_next}
+use Rattle.flow_state.proofs.Ended.{next-goes_on}
 use Rattle.flow_state.proofs.Entries.{StandsAnywhere, waiting-stands, not_waiting-last}
 use Rattle.flow_state.proofs.Moved.{here}
 use Rattle.flow_state.proofs.Tables.{stands-next}
@@ -45,6 +48,11 @@ module _ {L : Type 0} (meaning : L → LibraryMeaning) (r : Fields L) (is : AreF
 
   legal : IsLegal setup entries
   legal = let after = is.after in after.legal
+
+  -- who has had its `end` isn't blocked
+  pub ended-free : has_ended entries flow.0 ≡ true → IsBlocked setup entries flow.0 → ⊥
+  ended-free ended (other, waits) =
+      next-goes_on setup entries legal flow.0 within (Take waits.key waits.mode) waits.next ended
 
   module _ (next : Next) (coming : IsComing setup (plans_of r) items flow.0 next) (class : ClassNo) (mode : Mode)
       (takes : next ≡ nexts.Take class mode)

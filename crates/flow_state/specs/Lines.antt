@@ -9,9 +9,12 @@ use Rattle.flow_model.specs.declared.journals.Key.{Key}
 use Rattle.flow_model.specs.Setup.{Setup}
 use Rattle.flow_model.specs.Events.{IsNext}
 use Rattle.flow_model.specs.Waits.{StandsAt, IsNoWaitLast}
+use Rattle.flux_laws.specs.Growth.{has_ended}
 use Rattle.flux_laws.specs.Going.{IsBlocked}
 use Rattle.flux_table.specs.declared.locks.Waiter.{Waiter}
 use Rattle.flow_state.specs.declared.stops.Stop.{Stop}
+use Rattle.flow_state.specs.declared.stops.Way.{Way}
+use Rattle.flow_state.specs.declared.stops.Way.TheVariants.{Ended, Blocked, Free}
 
 -- a flow stands at some key: its last entry is a `wait` for it
 pub record IsStanding (entries : List Entry) (flow : ℕ) : Type 0 where
@@ -26,6 +29,12 @@ pub record IsStop (setup : Setup) (entries : List Entry) (flow : ℕ) (stop : St
   pub blocked : IsBlocked setup entries flow
   pub stands : stop.stands ≡ true → (place : ℕ) × StandsAt entries flow stop.key stop.mode place
   pub nowhere : stop.stands ≡ false → IsNoWaitLast entries (record { 0 = flow })
+
+-- a flow has had its `end`, is blocked at a take, or is neither
+abbrev pub IsWay : Setup → List Entry → ℕ → Way → Type 0
+IsWay setup entries flow Ended = has_ended entries flow ≡ true
+IsWay setup entries flow (Blocked stop) = (has_ended entries flow ≡ false) × IsStop setup entries flow stop
+IsWay setup entries flow Free = (has_ended entries flow ≡ false) × (IsBlocked setup entries flow → ⊥)
 
 -- the others of a line stand there behind a place
 abbrev pub StandBehind : List Entry → Key → ℕ → List Waiter → Type 0

@@ -11,7 +11,7 @@ ghost use Rattle.flow_state.specs.steps.Fields.{state_of, plans_of, AreFields};
 
 use crate::fields::Fields;
 use crate::inputs::Inputs;
-use flow_model::SharedAnswer;
+use flow_model::{Carried, SharedAnswer};
 use flux_library::Library;
 use flux_model::FlowNo;
 use flux_values::Memory;
@@ -64,13 +64,16 @@ impl<L: Library> Fields<L> {
             (made_of inputs.now answer.now)) }
         ensures err { OnErr result (state_of self.new ≡ state_of self.old) }
     {
+        let values = Carried::from_answer(self.alloc, answer)?;
         let place = &mut self.places[flow.0 as usize];
-        self.setup.answered(flow, &mut place.local, answer)?;
+        self.setup
+            .take_answer(flow, &mut place.local, answer, values);
         self.made.add_call(flow, inputs, answer);
         Ok(())
     }
 
-    /// The same with puts. The flow's place is changed last, since puts can't be undone.
+    /// The same with puts. The flow's place is changed last, with values that are at hand by then, since puts can't be
+    /// undone.
     fn answer_with_puts(
         &mut self,
         flow: FlowNo,
@@ -90,14 +93,14 @@ impl<L: Library> Fields<L> {
             (made_of inputs.now answer.now)) }
         ensures err { OnErr result (state_of self.new ≡ state_of self.old) }
     {
+        let values = Carried::from_answer(self.alloc, answer)?;
         let keys = self.keys(flow, inputs.node)?;
-        let mut ahead = self.places[flow.0 as usize].local.copy()?;
-        self.setup.answered(flow, &mut ahead, answer)?;
         let program = &self.setup.program;
         self.cells
             .apply(keys.as_slice(), &answer.as_answer().puts, program)?;
         let place = &mut self.places[flow.0 as usize];
-        place.local = ahead;
+        self.setup
+            .take_answer(flow, &mut place.local, answer, values);
         self.made.add_call(flow, inputs, answer);
         Ok(())
     }

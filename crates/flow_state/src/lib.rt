@@ -29,4 +29,4 @@ pub use coming::Coming;
 pub use inputs::Inputs;
 pub use setups::Setup;
 pub use states::State;
-pub use stops::Stop;
+pub use stops::{Stop, Way};

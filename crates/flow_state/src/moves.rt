@@ -12,8 +12,8 @@ ghost use Rattle.flow_state.specs.steps.Places.{IsQuiet, IsEventComing};
 ghost use Rattle.flow_state.specs.steps.Fields.{state_of, plans_of, AreFields};
 
 use crate::fields::Fields;
-use crate::takes::{take, take_on};
-use flow_model::{Entry, Event, Key, Outcome};
+use crate::takes::take_on;
+use flow_model::{Entry, Event, KeptKey, Key, Outcome};
 use flux_library::Library;
 use flux_model::{FlowNo, Mode};
 use flux_values::Memory;
@@ -72,7 +72,7 @@ impl<L: Library> Fields<L> {
         self.table.release(flow, key);
         self.made.add(&Entry {
             flow,
-            event: Event::Drop(key),
+            event: Event::Drop(KeptKey::new(key)),
         });
         Ok(())
     }
@@ -109,12 +109,12 @@ impl<L: Library> Fields<L> {
         let place = &mut self.places[flow.0 as usize];
         let mut ahead = place.local.copy()?;
         self.setup.advance(flow, &mut ahead)?;
-        take(&mut self.table, flow, key, mode)?;
+        self.table.take(flow, key, mode)?;
         place.local = ahead;
         place.stands = false;
         self.made.add(&Entry {
             flow,
-            event: Event::Take(key, mode),
+            event: Event::Take(KeptKey::new(key), mode),
         });
         Ok(())
     }
@@ -143,7 +143,7 @@ impl<L: Library> Fields<L> {
         )?;
         self.made.add(&Entry {
             flow,
-            event: Event::Take(key, mode),
+            event: Event::Take(KeptKey::new(key), mode),
         });
         Ok(())
     }
@@ -163,7 +163,7 @@ impl<L: Library> Fields<L> {
         place.stands = true;
         self.made.add(&Entry {
             flow,
-            event: Event::Wait(key, mode),
+            event: Event::Wait(KeptKey::new(key), mode),
         });
         Ok(())
     }

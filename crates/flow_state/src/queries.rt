@@ -4,19 +4,21 @@ ghost use Rattle.std.specs.Prelude.{◌≡◌, ◌<◌, ◌↔◌, length, IsTru
 ghost use Rattle.flow_model.specs.declared.journals.Event.TheVariants as events;
 ghost use Rattle.flow_model.specs.Events.{IsNext};
 ghost use Rattle.flow_model.specs.Waits.{Blocks, IsNoWaitLast};
+ghost use Rattle.flux_plan.specs.declared.locals.Next.TheVariants as nexts;
 ghost use Rattle.flux_laws.specs.Going.{IsBlocked, IsAtCall};
 ghost use Rattle.flux_laws.specs.Growth.{has_ended};
 ghost use Rattle.flux_table.specs.Blockers.{IsLowestOf};
 ghost use Rattle.flow_state.specs.States.{setup_at};
 ghost use Rattle.flow_state.specs.Blockers.{IsHeldBy, IsAhead, IsBlockedAt};
-ghost use Rattle.flow_state.specs.Lines.{IsStop, IsStanding, IsLineAt};
-ghost use Rattle.flow_state.specs.steps.Fields.{state_of, AreFields};
+ghost use Rattle.flow_state.specs.Lines.{IsStop, IsWay, IsStanding, IsLineAt};
+ghost use Rattle.flow_state.specs.steps.Places.{IsComing};
+ghost use Rattle.flow_state.specs.steps.Fields.{state_of, plans_of, AreFields};
 
 use crate::fields::Fields;
-use crate::stops::Stop;
+use crate::stops::{Stop, Way};
 use flow_model::Key;
 use flux_library::Library;
-use flux_model::{FlowNo, Mode};
+use flux_model::{ClassNo, FlowNo, Mode};
 use flux_plan::Next;
 use flux_table::Waiter;
 
@@ -56,20 +58,45 @@ impl<L: Library> Fields<L> {
             MatchOption result (IsBlocked setup self.now.made flow.0 → ⊥)
             (IsStop setup self.now.made flow.0) }
     {
-        let Next::Take(class, mode) = self.next(flow) else {
-            return None;
-        };
+        match self.way(flow) {
+            Way::Blocked(stop) => Some(stop),
+            Way::Ended => None,
+            Way::Free => None,
+        }
+    }
+
+    /// Whether a flow can go on.
+    pub fn way(&self, flow: FlowNo) -> Way
+        requires fields { AreFields L.meaning self.now }
+        requires flow { flow.0 < length self.now.setup.items }
+        ensures { IsWay (setup_at L.meaning (state_of self.now)) self.now.made flow.0 result }
+    {
+        match self.next(flow) {
+            Next::Ended => Way::Ended,
+            Next::Take(class, mode) => self.way_to(flow, class, mode),
+            _ => Way::Free,
+        }
+    }
+
+    /// The same of a flow whose take of a class comes next.
+    fn way_to(&self, flow: FlowNo, class: ClassNo, mode: Mode) -> Way
+        requires fields { AreFields L.meaning self.now }
+        requires flow { flow.0 < length self.now.setup.items }
+        requires coming { IsComing (setup_at L.meaning (state_of self.now)) (plans_of self.now)
+            self.now.places.items flow.0 (nexts.Take class mode) }
+        ensures { IsWay (setup_at L.meaning (state_of self.now)) self.now.made flow.0 result }
+    {
         let key = self.key(flow, class);
         match self.table.holder(flow, key, mode) {
             Some(_) => {
                 let place = &self.places[flow.0 as usize];
-                Some(Stop {
+                Way::Blocked(Stop {
                     key,
                     mode,
                     stands: place.stands,
                 })
             }
-            None => None,
+            None => Way::Free,
         }
     }
 

@@ -4,9 +4,10 @@ ghost use Rattle.std.specs.Prelude.{◌≡◌, ◌<◌, IsSome, length, slice_ge
 ghost use Rattle.std.specs.Arc.{arc_value};
 ghost use Rattle.flux_model.specs.Locks.{declared};
 ghost use Rattle.flux_plan.specs.declared.locals.Next.TheVariants as nexts;
-ghost use Rattle.flux_laws.specs.Going.{IsAtCall};
 ghost use Rattle.flux_cells.specs.Kept.{cells_of};
 ghost use Rattle.flow_state.specs.States.{setup_at};
+ghost use Rattle.flow_state.specs.declared.coming.Coming.TheVariants as comings;
+ghost use Rattle.flow_state.specs.Coming as comes;
 ghost use Rattle.flow_state.specs.Calls.{IsReady, IsNextCall};
 ghost use Rattle.flow_state.specs.steps.Places.{IsComing};
 ghost use Rattle.flow_state.specs.steps.Reads.{IsKnown, IsGuarded, IsSigOf, AreRead, AreKeys};
@@ -18,7 +19,6 @@ use crate::keys::{cells_in, keys_in};
 use flow_model::Key;
 use flux_library::Library;
 use flux_model::{Body, FlowNo, Hold, NodeNo, Program};
-use flux_plan::Next;
 use flux_values::{Cell, List, Memory, Sig};
 use std::alloc::Global;
 
@@ -77,19 +77,18 @@ impl<L: Library> Fields<L> {
         Ok(read)
     }
 
-    /// What the call that comes next for a flow is given.
-    pub fn inputs(&self, flow: FlowNo) -> Result<Inputs, Memory>
+    /// What the call of a node that comes next for a flow is given.
+    pub fn inputs(&self, flow: FlowNo, node: NodeNo) -> Result<Inputs, Memory>
         requires fields { AreFields L.meaning self.now }
         requires flow { flow.0 < length self.now.setup.items }
-        requires at { IsAtCall (setup_at L.meaning (state_of self.now)) self.now.made flow.0 }
+        requires at { comes.IsComing (setup_at L.meaning (state_of self.now)) self.now.made flow.0
+            (comings.Call node) }
         ensures next { IfOk result
             (IsNextCall (setup_at L.meaning (state_of self.now)) self.now.made flow.0) }
         ensures ready { IfOk result (IsReady (L.meaning (arc_value self.now.setup.library))
             (arc_value self.now.setup.program)) }
     {
-        let Next::Call(node) = self.next(flow) else {
-            unreachable!()
-        };
+        self.rests(flow);
         let place = &self.places[flow.0 as usize];
         Ok(Inputs {
             node,

@@ -2,14 +2,15 @@
 
 ghost use Rattle.std.specs.Prelude.{◌≡◌, Some, IsSome, OnOk, OnErr, slice_get};
 ghost use Rattle.std.specs.Arc.{arc_value};
+ghost use Rattle.flow_model.specs.Carried.{good_values};
 ghost use Rattle.flux_plan.specs.Moves.{next_in, IsReached, Advances, IsAnswered};
 ghost use Rattle.flow_state.specs.steps.Places.{matches_by, plan_of_item, HasPlan, MayAdvance, MayAnswer};
 
-use flow_model::SharedAnswer;
+use flow_model::{Carried, SharedAnswer};
 use flux_cells::Cells;
 use flux_library::Library;
 use flux_model::{FlowNo, Item, Program};
-use flux_plan::{Local, Next, VerifiedPlan, advance, answered, next, rests};
+use flux_plan::{Local, Next, VerifiedPlan, advance, next, rests, take_answer};
 use flux_values::{List, Memory};
 use std::sync::Arc;
 
@@ -95,19 +96,20 @@ impl<L: Library> Setup<L> {
         advance(&self.program, self.plan(flow), local, &*self.library)
     }
 
-    /// Takes the answer of the call that comes next at a flow's place.
-    pub fn answered(
+    /// Takes the answer of the call that comes next at a flow's place, with its values.
+    pub fn take_answer(
         &self,
         flow: FlowNo,
         local: &mut Local,
         answer: &SharedAnswer,
-    ) -> Result<(), Memory>
-        requires { HasPlan (arc_value self.now.plans) self.now.items flow.0
+        values: Carried,
+    )
+        requires values { values ≡ good_values answer.now.result }
+        requires may { HasPlan (arc_value self.now.plans) self.now.items flow.0
             (λ plan. MayAnswer plan local.old) }
-        ensures ok { OnOk result (HasPlan (arc_value self.now.plans) self.now.items flow.0
-            (λ plan. IsAnswered plan local.old answer.now local.new)) }
-        ensures err { OnErr result (local.new ≡ local.old) }
+        ensures { HasPlan (arc_value self.now.plans) self.now.items flow.0
+            (λ plan. IsAnswered plan local.old answer.now local.new) }
     {
-        answered(self.plan(flow), local, answer)
+        take_answer(self.plan(flow), local, answer, values)
     }
 }

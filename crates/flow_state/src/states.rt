@@ -13,20 +13,21 @@ ghost use Rattle.flux_table.specs.Blockers.{IsLowestOf};
 ghost use Rattle.flux_cells.specs.Kept.{cells_of};
 ghost use Rattle.flow_state.specs.States.{setup_of, setup_at, live_at, MayRun, IsLegalState};
 ghost use Rattle.flow_state.specs.Calls.{IsReady, IsNextCall, IsAnswerOf, made_of};
-ghost use Rattle.flow_state.specs.Coming.{Comes};
+ghost use Rattle.flow_state.specs.declared.coming.Coming.TheVariants as comings;
+ghost use Rattle.flow_state.specs.Coming.{IsComing, Comes};
 ghost use Rattle.flow_state.specs.Blockers.{IsHeldBy, IsAhead, IsBlockedAt};
-ghost use Rattle.flow_state.specs.Lines.{IsStop, IsStanding, IsLineAt};
+ghost use Rattle.flow_state.specs.Lines.{IsStop, IsWay, IsStanding, IsLineAt};
 ghost use Rattle.flow_state.specs.Moves.{MayMake, Makes, AddsWait, AddsCall};
 
 use crate::coming::Coming;
 use crate::fields::Fields;
 use crate::inputs::Inputs;
 use crate::setups::Setup;
-use crate::stops::Stop;
+use crate::stops::{Stop, Way};
 use flow_model::{Key, SharedAnswer};
 use flux_cells::Cells;
 use flux_library::Library;
-use flux_model::{FlowNo, Mode};
+use flux_model::{FlowNo, Mode, NodeNo};
 use flux_table::Waiter;
 use flux_values::Memory;
 use std::alloc::Global;
@@ -164,6 +165,14 @@ impl<L: Library> State<L> {
         self.fields.stop_at(flow)
     }
 
+    /// Whether a flow can go on.
+    pub fn way(&self, flow: FlowNo) -> Way
+        requires { flow.0 < length self.now.setup.items }
+        ensures { IsWay (setup_at L.meaning self.now) self.now.entries flow.0 result }
+    {
+        self.fields.way(flow)
+    }
+
     /// Whether a flow stands in a line: its last entry is a wait.
     pub fn stands(&self, flow: FlowNo) -> bool
         requires { flow.0 < length self.now.setup.items }
@@ -226,13 +235,13 @@ impl<L: Library> State<L> {
         self.fields.wait(flow, key, mode)
     }
 
-    /// What the call that comes next for a flow is given.
-    pub fn inputs(&self, flow: FlowNo) -> Result<Inputs, Memory>
-        requires { IsAtCall (setup_at L.meaning self.now) self.now.entries flow.0 }
+    /// What the call of a node that comes next for a flow, as `next` told it, is given.
+    pub fn inputs(&self, flow: FlowNo, node: NodeNo) -> Result<Inputs, Memory>
+        requires { IsComing (setup_at L.meaning self.now) self.now.entries flow.0 (comings.Call node) }
         ensures next { IfOk result (IsNextCall (setup_at L.meaning self.now) self.now.entries flow.0) }
         ensures ready { IfOk result (IsReady (L.meaning self.now.setup.library) self.now.setup.program) }
     {
-        self.fields.inputs(flow)
+        self.fields.inputs(flow, node)
     }
 
     /// Makes the call that comes next for a flow, with the library's answer.

@@ -1,4 +1,4 @@
-//! Where a flow is blocked.
+//! Whether a flow can go on, and where it is blocked.
 
 use flow_model::Key;
 use flux_model::Mode;
@@ -9,4 +9,12 @@ pub struct Stop {
     pub key: Key,
     pub mode: Mode,
     pub stands: bool,
+}
+
+/// Whether a flow can go on: it has had its `end`, is blocked, or is free to make its next event.
+#[derive(Clone, Copy, PartialEq, Eq)]
+pub enum Way {
+    Ended,
+    Blocked(Stop),
+    Free,
 }

@@ -4,7 +4,7 @@ ghost use Rattle.std.specs.Prelude.{◌≡◌, None, OnOk, OnErr};
 ghost use Rattle.std.specs.Arc.{arc_value};
 ghost use Rattle.flux_plan.specs.Moves.{Advances};
 ghost use Rattle.flux_table.specs.Tables.{holders_of, lines_of};
-ghost use Rattle.flux_table.specs.Blockers.{Blocks, IsLowestOf, MayTake};
+ghost use Rattle.flux_table.specs.Blockers.{Blocks, IsLowestOf};
 ghost use Rattle.flux_table.specs.Changes.{Takes};
 ghost use Rattle.flow_state.specs.steps.Places.{matches_by, HasPlan, MayAdvance};
 ghost use Rattle.flow_state.specs.steps.Table.{IsUndone};
@@ -14,22 +14,8 @@ use flow_model::Key;
 use flux_library::Library;
 use flux_model::{FlowNo, Mode};
 use flux_plan::Local;
-use flux_table::{Table, Taken};
+use flux_table::Table;
 use flux_values::Memory;
-
-/// Gives a flow a key.
-pub fn take(table: &mut Table, flow: FlowNo, key: Key, mode: Mode) -> Result<(), Memory>
-    requires may { MayTake (holders_of table.old) (lines_of table.old) flow.0 key mode }
-    requires free { IsLowestOf (λ other.
-        Blocks (holders_of table.old key) (lines_of table.old key) other flow.0 mode) None }
-    ensures takes { OnOk result (Takes table.old table.new flow.0 key mode) }
-    ensures still { OnErr result (table.new ≡ table.old) }
-{
-    match table.try_take(flow, key, mode)? {
-        Taken::Got => Ok(()),
-        Taken::Busy { .. } => unreachable!(),
-    }
-}
 
 /// Gives a flow a key, and lets it go on.
 pub fn take_on<L: Library>(
@@ -40,7 +26,6 @@ pub fn take_on<L: Library>(
     key: Key,
     mode: Mode,
 ) -> Result<(), Memory>
-    requires may { MayTake (holders_of table.old) (lines_of table.old) flow.0 key mode }
     requires free { IsLowestOf (λ other.
         Blocks (holders_of table.old key) (lines_of table.old key) other flow.0 mode) None }
     requires comes { let matches = matches_by (L.meaning (arc_value setup.now.library))
@@ -55,7 +40,7 @@ pub fn take_on<L: Library>(
     ensures still { OnErr result (local.new ≡ local.old) }
     ensures undone { OnErr result (IsUndone table.old table.new flow.0 key mode) }
 {
-    take(table, flow, key, mode)?;
+    table.take(flow, key, mode)?;
     match setup.advance(flow, local) {
         Ok(()) => Ok(()),
         Err(memory) => {

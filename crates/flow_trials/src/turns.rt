@@ -107,8 +107,8 @@ fn place_of(waiting: &[(Key, Line)], key: Key) -> Option<usize> {
 
 /// The key that the last event drops.
 fn dropped(entries: &[Entry]) -> Option<Key> {
-    match entries.last()?.event {
-        Event::Drop(key) => Some(key),
+    match &entries.last()?.event {
+        Event::Drop(key) => Some(key.key()),
         _ => None,
     }
 }

@@ -11,6 +11,7 @@ mod Told
 pub mod Turning
 mod Lowest
 pub mod Ending
+mod Finishing
 pub mod Counting
 pub mod Schedules
 mod Driving

@@ -1,9 +1,10 @@
--- What a step of a core makes of a flow's turn.
+-- What a step at once of a core makes of a flow's turn.
 use Rattle.std.proofs.Common.{◌≡◌, ◌⊎◌, inl, inr, ℕ, true, List, [], ◌∷◌, length, refl, ap, subst, ◌∙◌, arith}
 use Rattle.std.specs.List.{list_any}
 use Rattle.std.proofs.lemmas.List.{length-append}
 use Rattle.flux_values.specs.Meanings.{LibraryMeaning}
 use Rattle.flux_model.specs.declared.items.FlowNo.{FlowNo}
+use Rattle.flow_model.specs.declared.journals.CallMade.{CallMade}
 use Rattle.flow_model.specs.declared.journals.Key.{Key}
 use Rattle.flow_model.specs.declared.journals.Entry.{Entry}
 use Rattle.flow_model.specs.declared.journals.Event.{Event}
@@ -17,10 +18,10 @@ use Rattle.flux_laws.specs.Growth.{is_end, has_ended}
 use Rattle.flux_laws.specs.Moves.{MayStep, IsMove}
 use Rattle.flux_laws.proofs.Members.{In, contains-from_in}
 use Rattle.flux_laws.proofs.NextEvents.{next-no_call, next-plain, IsPlain}
-use Rattle.flow_core.specs.declared.cores.Step.{Step}
-use Rattle.flow_core.specs.declared.cores.Step.TheVariants.{Ended, Waits, Went}
+use Rattle.flow_core.specs.declared.cores.AtOnce.{AtOnce}
+use Rattle.flow_core.specs.declared.cores.AtOnce.TheVariants.{Ended, Waits, Called, Went}
 use Rattle.flow_core.specs.States.{CoreState, setup_in}
-use Rattle.flow_core.specs.Moves.{HasStepped, HasWaited, AddsWait}
+use Rattle.flow_core.specs.Moves.{HasSteppedAtOnce, HasWaited, AddsWait}
 use Rattle.flow_orders.specs.Turns.{IsInLine, MakesMove}
 use Rattle.flow_waits.specs.Turns.{IsPassing}
 
@@ -59,11 +60,11 @@ passing setup are entries flow (events.Exit node outcome) may = (tt, may)
 passing setup are entries flow (events.Drop key) may = (tt, may)
 passing setup are entries flow (events.End outcome) may = (tt, may)
 
-module _ {L : Type 0} (meaning : L → LibraryMeaning) (old new : CoreState L) (flow : FlowNo) (step : Step L)
-    (has : HasStepped meaning old new flow step) where
+module _ {L : Type 0} (meaning : L → LibraryMeaning) (old new : CoreState L) (flow : FlowNo) (step : AtOnce)
+    (has : HasSteppedAtOnce meaning old new flow step) where
   pub ended-turn : step ≡ Ended → (IsLive (setup_in meaning old) old.entries flow.0 → ⊥) × (new.entries ≡ old.entries)
   ended-turn is =
-      let (ended, same) = subst (HasStepped meaning old new flow) is has in
+      let (ended, same) = subst (HasSteppedAtOnce meaning old new flow) is has in
       (ended-over (setup_in meaning old) old.entries flow.0 ended, ap (λ (c : CoreState L). c.entries) same)
 
   pub line-turn : (key : Key) (holder : FlowNo) → step ≡ Waits key holder → length new.entries ≡ length old.entries
@@ -71,7 +72,7 @@ module _ {L : Type 0} (meaning : L → LibraryMeaning) (old new : CoreState L) (
   line-turn key holder is same = by waited.noted
     where
       waited : HasWaited meaning old new flow key holder
-      waited = subst (HasStepped meaning old new flow) is has
+      waited = subst (HasSteppedAtOnce meaning old new flow) is has
 
       by : AddsWait meaning old new flow key waited.mode ⊎
           ((place : ℕ) × StandsAt old.entries flow.0 key waited.mode place × (new ≡ old))
@@ -91,9 +92,15 @@ module _ {L : Type 0} (meaning : L → LibraryMeaning) (old new : CoreState L) (
         ap (λ (c : CoreState L). c.entries) stays,
       )
 
+  pub called-turn : step ≡ Called
+      → (made : CallMade) × MakesMove (setup_in meaning old) old.entries flow (events.Call made) new.entries
+  called-turn is =
+      let (made, makes) = subst (HasSteppedAtOnce meaning old new flow) is has in
+      (made, record { move = makes.may; added = ap (λ (c : CoreState L). c.entries) makes.new_ })
+
   pub went-turn : (let setup = setup_in meaning old in AreLocks setup.program setup.locks) → step ≡ Went
       → (event : Event) × IsPassing event × MakesMove (setup_in meaning old) old.entries flow event new.entries
   went-turn are is =
-      let (event, makes) = subst (HasStepped meaning old new flow) is has in
+      let (event, makes) = subst (HasSteppedAtOnce meaning old new flow) is has in
       let (passes, move) = passing (setup_in meaning old) are old.entries flow event makes.may in
       (event, passes, record { move = move; added = ap (λ (c : CoreState L). c.entries) makes.new_ })

@@ -15,7 +15,7 @@ mod idle;
 
 use crate::numbers::Numbers;
 use crate::rooms::Rooms;
-use flow_core::{Core, Stop};
+use flow_core::{Core, Stop, Way};
 use flow_model::{Event, Key};
 use flux_library::Library;
 use flux_model::{FlowNo, Mode};
@@ -79,13 +79,10 @@ impl Candidates {
         let _journal = core.journal();
         while let Some(number) = self.ready.first_from(from) {
             let flow = FlowNo(number);
-            if core.is_ended(flow) {
-                self.ready.remove(number);
-                continue;
-            }
-            match core.stop_at(flow) {
-                Some(stop) => self.park(number, stop)?,
-                None => return Ok(Some(flow)),
+            match core.way(flow) {
+                Way::Ended => self.ready.remove(number),
+                Way::Blocked(stop) => self.park(number, stop)?,
+                Way::Free => return Ok(Some(flow)),
             }
         }
         Ok(None)
@@ -114,11 +111,12 @@ impl Candidates {
             return Ok(());
         };
         match &entry.event {
-            Event::Take(key, mode) => self.wake(*key, *mode, from),
+            Event::Take(key, mode) => self.wake(key.key(), *mode, from),
             Event::Drop(key) => {
-                self.wake(*key, Mode::Reader, from)?;
-                self.wake(*key, Mode::Writer, from)?;
-                self.wake_line(core.line(*key))
+                let key = key.key();
+                self.wake(key, Mode::Reader, from)?;
+                self.wake(key, Mode::Writer, from)?;
+                self.wake_line(core.line(key))
             }
             Event::Wait(_, _) => {
                 self.pass_over(entry.flow.0);

@@ -6,7 +6,7 @@ ghost use Rattle.flow_waits.specs.Turns.{TakesTurn};
 ghost use Rattle.flow_core.specs.Runs.{LeavesOthers};
 ghost use Rattle.flow_waits.specs.Driven.{IsJobOf, MakesCall};
 
-use flow_core::{Core, Gate, Job, Step};
+use flow_core::{AtOnce, Core, Gate, Job};
 use flux_library::Library;
 use flux_model::FlowNo;
 use flux_values::Memory;
@@ -39,9 +39,9 @@ pub fn take_turn<L: Library, G: Gate>(
     ensures others { LeavesOthers core.old core.new flow }
 {
     let before = core.journal().entries.len();
-    match core.step(flow)? {
-        Step::Ended => Ok(Turn::Ended),
-        Step::Waits { .. } => {
+    match core.step_at_once(gate, flow)? {
+        AtOnce::Ended => Ok(Turn::Ended),
+        AtOnce::Waits { .. } => {
             let after = core.journal();
             Ok(if after.entries.len() == before {
                 Turn::InLine
@@ -49,12 +49,9 @@ pub fn take_turn<L: Library, G: Gate>(
                 Turn::Waited
             })
         }
-        Step::Went => Ok(Turn::Went),
-        Step::Job(job) => {
-            call(core, gate, &job)?;
-            Ok(Turn::Called)
-        }
-        Step::Calling => {
+        AtOnce::Went => Ok(Turn::Went),
+        AtOnce::Called => Ok(Turn::Called),
+        AtOnce::Calling => {
             call_again(core, gate, flow)?;
             Ok(Turn::Called)
         }

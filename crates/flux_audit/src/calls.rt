@@ -95,6 +95,6 @@ pub fn check_call<L: Library>(
     if !same_coming(state.next(flow), Coming::Call(made.node)) {
         return Ok(Some(Rule::Path));
     }
-    let inputs = state.inputs(flow)?;
+    let inputs = state.inputs(flow, made.node)?;
     check_inputs(state, flow, made, &inputs)
 }

@@ -92,13 +92,13 @@ fn check_entry<L: Library>(state: &mut State<L>, entry: &Entry) -> Result<Option
         return Ok(Some(Rule::Flow));
     }
     match &entry.event {
-        Event::Take(key, mode) => check_take(state, flow, *key, *mode),
-        Event::Wait(key, mode) => check_wait(state, flow, *key, *mode),
+        Event::Take(key, mode) => check_take(state, flow, key.key(), *mode),
+        Event::Wait(key, mode) => check_wait(state, flow, key.key(), *mode),
         Event::Enter(node) => check_plain(state, flow, Coming::Enter(*node)),
         Event::Choose(place) => check_plain(state, flow, Coming::Choose(*place)),
         Event::Call(made) => check_call(state, flow, made),
         Event::Exit(node, outcome) => check_plain(state, flow, Coming::Exit(*node, *outcome)),
-        Event::Drop(key) => check_plain(state, flow, Coming::Drop(*key)),
+        Event::Drop(key) => check_plain(state, flow, Coming::Drop(key.key())),
         Event::End(outcome) => check_plain(state, flow, Coming::End(*outcome)),
     }
 }

@@ -1,5 +1,6 @@
 pub mod ValueLists
 pub mod Adding
+pub mod CallLines
 pub mod Cutting
 pub mod Named
 pub mod Keying

@@ -1,24 +1,19 @@
--- A journal's lines in pages: what is left behind an entry's line.
-use Rattle.std.proofs.Common.{◌≡◌, ◌+◌, ◌++◌, ℕ, suc, List, ◌∷◌, length, get_or, drop, slice_get, slice_set, Some, sym, ap, ◌∙◌, arith, drop-cons, drop-set-lt}
+-- A journal's pages, the last one first.
+use Rattle.std.proofs.Common.{◌≡◌, ◌++◌, [], ◌∷◌, ℕ, List, take, drop, reverse, sym, ap, ◌∙◌, append_assoc}
 use Rattle.std.specs.List.{flat_map}
-use Rattle.std.proofs.Math.Numerals.{suc-eq-add-one}
-use Rattle.std.proofs.lemmas.List.{append_assoc}
-use Rattle.std.proofs.lemmas.Option.{slice_get_within, get_or_from_slice_get}
-use Rattle.flux_model.specs.declared.programs.Program.{Program}
-use Rattle.flow_model.specs.declared.journals.Entry.{Entry}
-use Rattle.flow_model.specs.Texts.{printed_entry}
-use Rattle.flux_journal.specs.steps.Paged.{text_from}
+use Rattle.std.proofs.lemmas.Grind.{flat_map-append}
+use Rattle.std.proofs.lemmas.List.{reverse-append, take-append-drop}
+use Rattle.flux_journal.specs.steps.Paged.{text_of}
 
--- a page has the line of the entry at a place, which another takes: what is to come is the text from the next place on
-pub printed_at : (p : Program) (entries later : List Entry) (place : ℕ) (entry other : Entry) (pages longer : List ℕ)
-    → slice_get entries place ≡ Some entry → longer ≡ pages ++ printed_entry p entry → later ≡ slice_set entries place other
-    → longer ++ text_from p later (place + 1) ≡ pages ++ text_from p entries place
-printed_at p entries later place entry other pages longer found is set =
-    ap (λ (l : List ℕ). l ++ text_from p later (place + 1)) is ∙ append_assoc pages (printed_entry p entry) (text_from p later (place + 1))
-    ∙ ap (λ (es : List Entry). pages ++ (printed_entry p entry ++ flat_map (printed_entry p) es)) same ∙ ap (λ (es : List Entry). pages ++ flat_map (printed_entry p) es) (sym front)
+-- a page of the lines from a place on stands before the later ones: behind the lines that are left, the text is as long as before
+pub printed_last : {A : Type 0} (line : A → List ℕ) (all left : List A) (from : ℕ) (page : List ℕ) (later more : List (List ℕ))
+    → left ≡ take from all → page ≡ flat_map line (drop from all) → more ≡ later ++ page ∷ []
+    → flat_map line left ++ text_of (reverse more) ≡ flat_map line all ++ text_of (reverse later)
+printed_last {A} line all left from page later more are has added =
+    ap (λ (es : List A). flat_map line es ++ text_of (reverse more)) are
+    ∙ ap (λ (ps : List (List ℕ)). flat_map line (take from all) ++ text_of ps) (ap reverse added ∙ reverse-append later (page ∷ []))
+    ∙ sym (append_assoc (flat_map line (take from all)) page (text_of (reverse later)))
+    ∙ ap (λ (t : List ℕ). t ++ text_of (reverse later)) whole
   where
-    same : drop (place + 1) later ≡ drop (place + 1) entries
-    same = ap (drop (place + 1)) set ∙ drop-set-lt (place + 1) entries place other (grind (arith))
-
-    front : drop place entries ≡ entry ∷ drop (place + 1) entries
-    front = drop-cons entries place entry (slice_get_within entries place entry found) ∙ ap (λ (e : Entry). e ∷ drop (suc place) entries) (get_or_from_slice_get entries place entry entry found) ∙ ap (λ (n : ℕ). entry ∷ drop n entries) (suc-eq-add-one place)
+    whole : flat_map line (take from all) ++ page ≡ flat_map line all
+    whole = ap (λ (t : List ℕ). flat_map line (take from all) ++ t) has ∙ sym (flat_map-append line (take from all) (drop from all)) ∙ ap (flat_map line) (take-append-drop from all)

@@ -8,3 +8,5 @@ pub mod Events
 pub mod Lines
 pub mod Examples
 pub mod Paged
+pub mod Phrases
+pub mod KeyPhrases

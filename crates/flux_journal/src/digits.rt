@@ -1,11 +1,14 @@
 //! Numbers and values added at the end of bytes. A number's digits are laid out on the stack, and take no memory of their own.
 
-ghost use Rattle.std.specs.Prelude.{◌≡◌, ◌≤◌, ◌++◌, ◌∷◌, [], OnOk, length, drop};
+ghost use Rattle.std.specs.Prelude.{◌≡◌, ◌≤◌, ◌++◌, [], OnOk, length, drop};
 ghost use Rattle.std.specs.Fmt.{decimal};
 ghost use Rattle.flux_values.specs.Texts.{printed_value};
 
 use flux_values::{Bytes, Memory, Value};
 use std::alloc::Global;
+
+/// How many bytes a piece has room for: a number's twenty digits, and what stands behind them.
+const PIECE_LENGTH: usize = 64;
 
 /// Adds a number in decimal digits at the end.
 pub fn append_number(out: &mut Bytes, number: u64) -> Result<(), Memory>
@@ -16,22 +19,43 @@ pub fn append_number(out: &mut Bytes, number: u64) -> Result<(), Memory>
     out.append(&digits[start..])
 }
 
-/// Adds a number in decimal digits, and a mark behind them, at the end.
-pub fn append_marked(out: &mut Bytes, number: u64, mark: u8) -> Result<(), Memory>
-    ensures { OnOk result (out.new ≡ out.old ++ (decimal number ++ mark ∷ [])) }
+/// Adds a number in decimal digits, and bytes behind it, at the end: as one piece where the bytes are few.
+pub fn append_number_with(out: &mut Bytes, number: u64, behind: &[u8]) -> Result<(), Memory>
+    ensures { OnOk result (out.new ≡ out.old ++ (decimal number ++ behind.now)) }
 {
-    let mut digits = [mark; 21];
-    let start = write_digits(number, &mut digits);
-    out.append(&digits[start..])
+    let mut piece = [0; PIECE_LENGTH];
+    let start = write_digits(number, &mut piece);
+    if behind.len() > PIECE_LENGTH - 20 {
+        out.append(&piece[start..20])?;
+        return out.append(behind);
+    }
+    let end = 20 + behind.len();
+    piece[20..end].copy_from_slice(behind);
+    out.append(&piece[start..end])
 }
 
 /// Adds a value's spelling at the end. After an `Err` a part of it may stand there.
 pub fn append_value(alloc: Global, out: &mut Bytes, value: &Value) -> Result<(), Memory>
     ensures { OnOk result (out.new ≡ out.old ++ printed_value value.now) }
 {
+    append_value_with(alloc, out, value, b"")
+}
+
+/// Adds a value's spelling, and bytes behind it, at the end. After an `Err` a part of them may stand there.
+pub fn append_value_with(
+    alloc: Global,
+    out: &mut Bytes,
+    value: &Value,
+    behind: &[u8],
+) -> Result<(), Memory>
+    ensures { OnOk result (out.new ≡ out.old ++ (printed_value value.now ++ behind.now)) }
+{
     match value {
-        Value::Int(number) if *number >= 0 => append_number(out, *number as u64),
-        _ => flux_spelling::append_value(alloc, out, value),
+        Value::Int(number) if *number >= 0 => append_number_with(out, *number as u64, behind),
+        _ => {
+            flux_spelling::append_value(alloc, out, value)?;
+            out.append(behind)
+        }
     }
 }
 

@@ -11,6 +11,7 @@ mod cuts;
 mod digits;
 mod faults;
 mod journals;
+mod key_phrases;
 mod keys;
 mod laws;
 mod lines;
@@ -18,6 +19,7 @@ mod names;
 mod outcomes;
 mod pages;
 mod paging;
+mod phrases;
 mod printing;
 mod texts;
 

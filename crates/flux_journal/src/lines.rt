@@ -21,7 +21,7 @@ use crate::faults::LineFault;
 use crate::keys::{read_hold, read_key};
 use crate::names::{find_node, names_of};
 use crate::outcomes::{read_end, read_exit};
-use flow_model::{CallMade, Entry, Event, Outcome};
+use flow_model::{CallMade, Entry, Event, KeptKey, Outcome};
 use flux_model::{FlowNo, Names, NodeNo, Program};
 use flux_values::Memory;
 use std::alloc::Global;
@@ -120,11 +120,11 @@ impl<'a> Reader<'a> {
         match word {
             Word::Take => {
                 let (key, mode) = read_hold(self.program, text)?;
-                Some(Event::Take(key, mode))
+                Some(Event::Take(KeptKey::new(key), mode))
             }
             Word::Wait => {
                 let (key, mode) = read_hold(self.program, text)?;
-                Some(Event::Wait(key, mode))
+                Some(Event::Wait(KeptKey::new(key), mode))
             }
             Word::Enter => Some(Event::Enter(self.node(text)?)),
             Word::Choose => {
@@ -136,7 +136,10 @@ impl<'a> Reader<'a> {
                 let (node, outcome) = self.exit(text)?;
                 Some(Event::Exit(node, outcome))
             }
-            Word::Drop => Some(Event::Drop(read_key(self.program, text)?)),
+            Word::Drop => {
+                let key = read_key(self.program, text)?;
+                Some(Event::Drop(KeptKey::new(key)))
+            }
             Word::End => Some(Event::End(read_end(text)?)),
         }
     }

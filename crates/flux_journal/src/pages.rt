@@ -1,23 +1,15 @@
 //! A long text in pages.
 
-ghost use Rattle.std.specs.Prelude.{◌≡◌, ◌++◌, OnOk};
-ghost use Rattle.flow_model.specs.Texts.{printed_entry};
+ghost use Rattle.std.specs.Prelude.{◌≡◌, ◌++◌, reverse, OnOk, IfOk};
 ghost use Rattle.flux_journal.specs.Pages.{joined};
+ghost use Rattle.flux_journal.specs.steps.Paged.{text_of};
 
-use crate::printing::{append_entry, with_room};
-use flow_model::Entry;
-use flux_model::Program;
 use flux_values::{Bytes, List, Memory};
 use std::alloc::Global;
 use std::marker::Model;
 
-/// A page of so many bytes or more is full.
-const PAGE_LENGTH: usize = 65_536;
-/// How many bytes a new page has room for: a full one's, and mostly the rest of its last line.
-pub const PAGE_ROOM: usize = 66_560;
-
-/// A text in pages, seen as the whole text. A full page isn't copied again as the text grows, and no piece of memory is
-/// larger than one page with a long last line needs.
+/// A text in pages, seen as the whole text. No page is copied as the text grows, and no piece of memory is larger than
+/// one page needs.
 pub struct Pages {
     full: List<Bytes>,
     last: Bytes,
@@ -49,39 +41,33 @@ impl Pages {
         }
     }
 
+    /// A first page, and those behind it, of which the last one comes first.
+    pub(crate) fn from_last(
+        alloc: Global,
+        first: Bytes,
+        mut later: List<Bytes>,
+    ) -> Result<Pages, Memory>
+        ensures { IfOk result (λ pages. pages ≡ first ++ text_of (reverse later)) }
+    {
+        let mut pages = Pages::from_bytes(alloc, first);
+        'pages: while let Some(page) = later.pop() {
+            pages.add(page)?;
+        }
+        Ok(pages)
+    }
+
+    /// Adds a page at the end. After an `Err` the one before it is lost.
+    fn add(&mut self, page: Bytes) -> Result<(), Memory>
+        ensures { OnOk result (self.new ≡ self.old ++ page) }
+    {
+        let full = std::mem::replace(&mut self.last, page);
+        self.full.add(full)
+    }
+
     /// The full pages in order, and the last one, which may be empty.
     pub fn parts(&self) -> (&[Bytes], &[u8])
         ensures { self.now ≡ joined result.0.now result.1.now }
     {
         (self.full.as_slice(), self.last.as_bytes())
-    }
-
-    /// Begins a new page. For want of memory it doesn't.
-    fn turn(&mut self, alloc: Global) -> Result<(), Memory>
-        ensures { self.new ≡ self.old }
-    {
-        let page = std::mem::replace(&mut self.last, with_room(alloc, PAGE_ROOM));
-        match self.full.push(page) {
-            Ok(()) => Ok(()),
-            Err(page) => {
-                self.last = page;
-                Err(Memory)
-            }
-        }
-    }
-
-    /// Adds an entry's line at the end. After an `Err` a part of it may stand there.
-    pub(crate) fn append(
-        &mut self,
-        alloc: Global,
-        program: &Program,
-        entry: &Entry,
-    ) -> Result<(), Memory>
-        ensures { OnOk result (self.new ≡ self.old ++ printed_entry program.now entry.now) }
-    {
-        if self.last.as_bytes().len() >= PAGE_LENGTH {
-            self.turn(alloc)?;
-        }
-        append_entry(alloc, &mut self.last, program, entry)
     }
 }

@@ -4,15 +4,18 @@ ghost use Rattle.std.specs.Prelude.{◌≡◌, ◌++◌, [], if◌then◌else◌
 ghost use Rattle.std.specs.List.{flat_map};
 ghost use Rattle.std.specs.Fmt.{decimal};
 ghost use Rattle.flux_values.specs.Texts.{printed_value, printed_text};
-ghost use Rattle.flux_model.specs.Texts.{node_name, class_name, source_name, printed_item, printed_values, comma_separated, printed_mode};
+ghost use Rattle.flux_model.specs.Texts.{node_name, source_name, printed_item, printed_values, comma_separated, printed_mode};
 ghost use Rattle.flow_model.specs.Texts.{printed_key, printed_session, printed_result, printed_put, printed_change, printed_emission, printed_call, printed_exit, printed_end, printed_event, printed_entry, printed_journal};
 ghost use Rattle.flux_journal.specs.Formats.{head_line, printed_journal_2};
 ghost use Rattle.flux_journal.specs.Logs.{printed_sent, logged_call, logged_event, logged_entry, printed_log, item_line, printed_batch};
-ghost use Rattle.flux_journal.specs.steps.Listed.{called};
+ghost use Rattle.flux_journal.specs.steps.Listed.{listed, line_end, answered, called};
+ghost use Rattle.flux_journal.specs.steps.KeyPhrases.{key_word};
 
-use crate::digits::{append_marked, append_number, append_value};
+use crate::digits::{append_number, append_number_with, append_value, append_value_with};
+use crate::key_phrases::KeyPhrase;
+use crate::phrases::{Phrase, Phrases, node_name};
 use flow_model::{CallMade, Entry, Event, Journal, Key, Outcome};
-use flux_model::{CallResult, ClassNo, Item, Mode, NodeNo, Program, Put, SourceNo};
+use flux_model::{CallResult, FlowNo, Item, Mode, NodeNo, Program, Put, SourceNo};
 use flux_spelling::append_text;
 use flux_values::{Bytes, List, Memory, Value};
 use std::alloc::Global;
@@ -25,7 +28,8 @@ pub fn print_journal(alloc: Global, program: &Program, journal: &Journal) -> Res
     ensures { IfOk result (λ printed. printed ≡ printed_journal program.now journal.now) }
 {
     let mut out = with_room(alloc, reckoned(&journal.entries));
-    append_entries(alloc, &mut out, program, journal.entries.as_slice())?;
+    let phrases = Phrases::new(alloc, program, journal.entries.len())?;
+    append_entries(alloc, &mut out, &phrases, journal.entries.as_slice())?;
     Ok(out)
 }
 
@@ -40,7 +44,8 @@ pub fn print_journal_2(
 {
     let mut out = with_room(alloc, reckoned(&journal.entries));
     append_head(&mut out, flows, journal.entries.len() as u64)?;
-    append_entries(alloc, &mut out, program, journal.entries.as_slice())?;
+    let phrases = Phrases::new(alloc, program, journal.entries.len())?;
+    append_entries(alloc, &mut out, &phrases, journal.entries.as_slice())?;
     Ok(out)
 }
 
@@ -98,9 +103,8 @@ pub fn with_room(alloc: Global, length: usize) -> Bytes
 fn append_item(alloc: Global, out: &mut Bytes, program: &Program, item: &Item) -> Result<(), Memory>
     ensures { OnOk result (out.new ≡ out.old ++ printed_item program.now item.now) }
 {
-    out.append(source_name(program, item.source))?;
-    append_listed(alloc, out, b" (", item.values.as_slice())?;
-    out.append(b")")
+    append_pair(out, source_name(program, item.source), b" (")?;
+    append_listed(alloc, out, item.values.as_slice(), b")")
 }
 
 fn append_item_line(
@@ -137,8 +141,9 @@ fn append_log(
 ) -> Result<(), Memory>
     ensures { OnOk result (out.new ≡ out.old ++ flat_map (logged_entry program.now) entries.now) }
 {
+    let phrases = Phrases::new(alloc, program, entries.len())?;
     for entry in entries {
-        append_logged(alloc, out, program, entry)?;
+        append_logged(alloc, out, &phrases, entry)?;
     }
     Ok(())
 }
@@ -163,50 +168,39 @@ fn append_counted_line(out: &mut Bytes, word: &[u8], count: u64) -> Result<(), M
     ensures { OnOk result (out.new ≡ out.old ++ ((word.now ++ decimal count) ++ codes "\n")) }
 {
     out.append(word)?;
-    append_marked(out, count, b'\n')
+    append_number_with(out, count, b"\n")
 }
 
-fn append_entries(
+/// Adds the lines of entries.
+pub fn append_entries(
     alloc: Global,
     out: &mut Bytes,
-    program: &Program,
+    phrases: &Phrases,
     entries: &[Entry],
 ) -> Result<(), Memory>
-    ensures { OnOk result (out.new ≡ out.old ++ flat_map (printed_entry program.now) entries.now) }
+    ensures { OnOk result (out.new ≡ out.old ++ flat_map (printed_entry phrases.now) entries.now) }
 {
     for entry in entries {
-        append_entry(alloc, out, program, entry)?;
+        append_entry(alloc, out, phrases, entry)?;
     }
     Ok(())
 }
 
+/// Adds an entry's line as a log has it.
 fn append_logged(
     alloc: Global,
     out: &mut Bytes,
-    program: &Program,
+    phrases: &Phrases,
     entry: &Entry,
 ) -> Result<(), Memory>
-    ensures { OnOk result (out.new ≡ out.old ++ logged_entry program.now entry.now) }
+    ensures { OnOk result (out.new ≡ out.old ++ logged_entry phrases.now entry.now) }
 {
-    append_marked(out, entry.flow.0 as u64, b' ')?;
-    append_logged_event(alloc, out, program, &entry.event)
-}
-
-/// Adds an event as a log has it, and LF.
-fn append_logged_event(
-    alloc: Global,
-    out: &mut Bytes,
-    program: &Program,
-    event: &Event,
-) -> Result<(), Memory>
-    ensures { OnOk result (out.new ≡ out.old ++ (logged_event program.now event.now ++ codes "\n")) }
-{
-    match event {
+    match &entry.event {
         Event::Call(made) => {
-            append_called(alloc, out, program, made)?;
+            append_called(alloc, out, phrases, entry.flow, made)?;
             append_sent(out, made.answer.as_answer().emits.as_bytes())
         }
-        _ => append_event(alloc, out, program, event),
+        _ => append_entry(alloc, out, phrases, entry),
     }
 }
 
@@ -221,37 +215,57 @@ fn append_sent(out: &mut Bytes, emission: &[u8]) -> Result<(), Memory>
 }
 
 /// Adds an entry's line.
-pub fn append_entry(
+fn append_entry(
     alloc: Global,
     out: &mut Bytes,
-    program: &Program,
+    phrases: &Phrases,
     entry: &Entry,
 ) -> Result<(), Memory>
-    ensures { OnOk result (out.new ≡ out.old ++ printed_entry program.now entry.now) }
+    ensures { OnOk result (out.new ≡ out.old ++ printed_entry phrases.now entry.now) }
 {
-    append_marked(out, entry.flow.0 as u64, b' ')?;
-    append_event(alloc, out, program, &entry.event)
+    let flow = entry.flow;
+    match &entry.event {
+        Event::Enter(node) => phrases.append(out, flow, Phrase::Enter, *node),
+        Event::Call(made) => append_call(alloc, out, phrases, flow, made),
+        Event::Exit(node, outcome) => append_exit(out, phrases, flow, *node, *outcome),
+        Event::Choose(case) => append_choice(out, flow, *case),
+        Event::End(outcome) => append_end(out, flow, *outcome),
+        Event::Take(key, mode) => {
+            append_hold(out, phrases, flow, KeyPhrase::Take, key.key(), *mode)
+        }
+        Event::Wait(key, mode) => {
+            append_hold(out, phrases, flow, KeyPhrase::Wait, key.key(), *mode)
+        }
+        Event::Drop(key) => phrases.append_key(out, flow, KeyPhrase::Drop, key.key(), b"\n"),
+    }
 }
 
-/// Adds an event and LF.
-fn append_event(
-    alloc: Global,
+/// Adds the line of a key that is taken or waited for.
+fn append_hold(
     out: &mut Bytes,
-    program: &Program,
-    event: &Event,
+    phrases: &Phrases,
+    flow: FlowNo,
+    phrase: KeyPhrase,
+    key: Key,
+    mode: Mode,
 ) -> Result<(), Memory>
-    ensures { OnOk result (out.new ≡ out.old ++ (printed_event program.now event.now ++ codes "\n")) }
+    ensures { OnOk result (out.new ≡ out.old ++ (decimal flow.0
+        ++ key_word phrase ++ printed_key phrases.now key ++ printed_mode mode ++ codes "\n")) }
 {
-    match event {
-        Event::Take(key, mode) => append_hold(out, program, b"take ", *key, *mode),
-        Event::Wait(key, mode) => append_hold(out, program, b"wait ", *key, *mode),
-        Event::Enter(node) => append_line(out, b"enter ", node_name(program, *node)),
-        Event::Choose(case) => append_counted_line(out, b"choose ", *case as u64),
-        Event::Call(made) => append_call(alloc, out, program, made),
-        Event::Exit(node, outcome) => append_exit(out, node_name(program, *node), *outcome),
-        Event::Drop(key) => append_drop(out, program, *key),
-        Event::End(outcome) => append_end(out, *outcome),
-    }
+    let behind = match mode {
+        Mode::Reader => b"?\n",
+        Mode::Writer => b"!\n",
+    };
+    phrases.append_key(out, flow, phrase, key, behind)
+}
+
+/// Adds the line of the case that a flow chose.
+fn append_choice(out: &mut Bytes, flow: FlowNo, case: u32) -> Result<(), Memory>
+    ensures { OnOk result (out.new ≡ out.old ++ ((decimal flow.0 ++ codes " choose " ++ decimal case)
+        ++ codes "\n")) }
+{
+    append_number_with(out, flow.0 as u64, b" choose ")?;
+    append_number_with(out, case as u64, b"\n")
 }
 
 fn append_pair(out: &mut Bytes, first: &[u8], second: &[u8]) -> Result<(), Memory>
@@ -261,153 +275,151 @@ fn append_pair(out: &mut Bytes, first: &[u8], second: &[u8]) -> Result<(), Memor
     out.append(second)
 }
 
-/// Adds a word, a name and LF.
-fn append_line(out: &mut Bytes, word: &[u8], name: &[u8]) -> Result<(), Memory>
-    ensures { OnOk result (out.new ≡ out.old ++ ((word.now ++ name.now) ++ codes "\n")) }
-{
-    append_pair(out, word, name)?;
-    out.append(b"\n")
-}
-
-/// Adds a word, a key with its mark, and LF.
-fn append_hold(
+/// Adds the line of how a node is left.
+fn append_exit(
     out: &mut Bytes,
-    program: &Program,
-    word: &[u8],
-    key: Key,
-    mode: Mode,
+    phrases: &Phrases,
+    flow: FlowNo,
+    node: NodeNo,
+    outcome: Outcome,
 ) -> Result<(), Memory>
-    ensures { OnOk result (out.new ≡ out.old ++ ((word.now ++ printed_key program.now key
-        ++ printed_mode mode) ++ codes "\n")) }
-{
-    append_key(out, program, word, key)?;
-    out.append(match mode {
-        Mode::Reader => b"?\n",
-        Mode::Writer => b"!\n",
-    })
-}
-
-fn append_drop(out: &mut Bytes, program: &Program, key: Key) -> Result<(), Memory>
-    ensures { OnOk result (out.new ≡ out.old ++ ((codes "drop " ++ printed_key program.now key)
-        ++ codes "\n")) }
-{
-    append_key(out, program, b"drop ", key)?;
-    out.append(b"\n")
-}
-
-/// Adds a word and a key.
-fn append_key(out: &mut Bytes, program: &Program, word: &[u8], key: Key) -> Result<(), Memory>
-    ensures { OnOk result (out.new ≡ out.old ++ (word.now ++ printed_key program.now key)) }
-{
-    append_pair(out, word, class_name(program, key.class))?;
-    match key.id {
-        None => Ok(()),
-        Some(number) => append_counted(out, b"@", number),
-    }
-}
-
-/// Adds how a node is left, and LF.
-fn append_exit(out: &mut Bytes, node: &[u8], outcome: Outcome) -> Result<(), Memory>
-    ensures { OnOk result (out.new ≡ out.old ++ ((codes "exit " ++ node.now ++ codes " "
-        ++ printed_exit outcome) ++ codes "\n")) }
-{
-    append_pair(out, b"exit ", node)?;
-    match outcome {
-        Outcome::Good => out.append(b" ok\n"),
-        Outcome::Over => out.append(b" over\n"),
-        Outcome::Bad(code) => append_counted_line(out, b" fail ", code as u64),
-    }
-}
-
-/// Adds how a flow ends, and LF.
-fn append_end(out: &mut Bytes, outcome: Outcome) -> Result<(), Memory>
-    ensures { OnOk result (out.new ≡ out.old ++ ((codes "end " ++ printed_end outcome)
-        ++ codes "\n")) }
+    ensures { OnOk result (out.new ≡ out.old ++ ((decimal flow.0 ++ codes " exit "
+        ++ node_name phrases.now node ++ codes " " ++ printed_exit outcome) ++ codes "\n")) }
 {
     match outcome {
-        Outcome::Good => out.append(b"end done\n"),
-        Outcome::Over => out.append(b"end handled\n"),
-        Outcome::Bad(code) => append_counted_line(out, b"end fail ", code as u64),
+        Outcome::Good => phrases.append(out, flow, Phrase::Done, node),
+        Outcome::Over => {
+            phrases.append(out, flow, Phrase::Exit, node)?;
+            out.append(b"over\n")
+        }
+        Outcome::Bad(code) => {
+            phrases.append(out, flow, Phrase::Exit, node)?;
+            append_counted_line(out, b"fail ", code as u64)
+        }
     }
 }
 
-/// Adds a call and LF.
+/// Adds the line of how a flow ends.
+fn append_end(out: &mut Bytes, flow: FlowNo, outcome: Outcome) -> Result<(), Memory>
+    ensures { OnOk result (out.new ≡ out.old ++ ((decimal flow.0 ++ codes " end " ++ printed_end outcome)
+        ++ codes "\n")) }
+{
+    let number = flow.0 as u64;
+    match outcome {
+        Outcome::Good => append_number_with(out, number, b" end done\n"),
+        Outcome::Over => append_number_with(out, number, b" end handled\n"),
+        Outcome::Bad(code) => {
+            append_number_with(out, number, b" end fail ")?;
+            append_number_with(out, code as u64, b"\n")
+        }
+    }
+}
+
+/// Adds a call's line.
 fn append_call(
     alloc: Global,
     out: &mut Bytes,
-    program: &Program,
+    phrases: &Phrases,
+    flow: FlowNo,
     made: &CallMade,
 ) -> Result<(), Memory>
-    ensures { OnOk result (out.new ≡ out.old ++ (printed_call program.now made.now ++ codes "\n")) }
+    ensures { OnOk result (out.new ≡ out.old ++ ((decimal flow.0 ++ codes " " ++ printed_call phrases.now made.now)
+        ++ codes "\n")) }
 {
-    append_called(alloc, out, program, made)?;
-    append_emission(out, made.answer.as_answer().emits.as_bytes())
+    let answer = made.answer.as_answer();
+    if answer.puts.is_empty() && answer.emits.as_bytes().is_empty() {
+        return append_answered(alloc, out, phrases, flow, made, true);
+    }
+    append_called(alloc, out, phrases, flow, made)?;
+    append_emission(out, answer.emits.as_bytes())
 }
 
-/// Adds a call without what it emits.
+/// Adds a call's line without what is emitted.
 fn append_called(
     alloc: Global,
     out: &mut Bytes,
-    program: &Program,
+    phrases: &Phrases,
+    flow: FlowNo,
     made: &CallMade,
 ) -> Result<(), Memory>
-    ensures { OnOk result (out.new ≡ out.old ++ called program.now made.now) }
+    ensures { OnOk result (out.new ≡ out.old ++ (decimal flow.0 ++ codes " " ++ called phrases.now made.now)) }
 {
-    append_pair(out, b"call ", node_name(program, made.node))?;
-    append_listed(alloc, out, b" (", made.args.as_slice())?;
-    let answer = made.answer.as_answer();
-    append_result(alloc, out, &answer.result)?;
-    append_puts(alloc, out, answer.puts.as_slice())
+    append_answered(alloc, out, phrases, flow, made, false)?;
+    append_puts(alloc, out, made.answer.as_answer().puts.as_slice())
 }
 
-/// Adds the end of a call's arguments, and its result.
-fn append_result(alloc: Global, out: &mut Bytes, result_: &CallResult) -> Result<(), Memory>
-    ensures { OnOk result (out.new ≡ out.old ++ (codes ") " ++ printed_result result_.now)) }
+/// Adds a call's line as far as its result, and LF where the line ends there.
+fn append_answered(
+    alloc: Global,
+    out: &mut Bytes,
+    phrases: &Phrases,
+    flow: FlowNo,
+    made: &CallMade,
+    ends: bool,
+) -> Result<(), Memory>
+    ensures { OnOk result (out.new ≡ out.old ++ (decimal flow.0 ++ codes " "
+        ++ answered phrases.now made.now ++ line_end ends)) }
+{
+    phrases.append(out, flow, Phrase::Call, made.node)?;
+    let args = made.args.as_slice();
+    append_result(alloc, out, args, &made.answer.as_answer().result, ends)
+}
+
+/// Adds a call's arguments and its result, and LF where the line ends there.
+fn append_result(
+    alloc: Global,
+    out: &mut Bytes,
+    args: &[Value],
+    result_: &CallResult,
+    ends: bool,
+) -> Result<(), Memory>
+    ensures { OnOk result (out.new ≡ out.old ++ (listed args.now ++ codes ") " ++ printed_result result_.now
+        ++ line_end ends)) }
 {
     match result_ {
         CallResult::Good(values) => {
-            append_listed(alloc, out, b") ok (", values.as_slice())?;
-            out.append(b")")
+            append_listed(alloc, out, args, b") ok (")?;
+            append_listed(
+                alloc,
+                out,
+                values.as_slice(),
+                if ends { b")\n" } else { b")" },
+            )
         }
-        CallResult::Bad(code) => append_counted(out, b") fail ", *code as u64),
+        CallResult::Bad(code) => {
+            append_listed(alloc, out, args, b") fail ")?;
+            append_number_with(out, *code as u64, if ends { b"\n" } else { b"" })
+        }
     }
 }
 
-/// Adds a word, and values with commas between them.
+/// Adds values with commas between them, and what stands behind the last.
 fn append_listed(
     alloc: Global,
     out: &mut Bytes,
-    word: &[u8],
     values: &[Value],
+    behind: &[u8],
 ) -> Result<(), Memory>
-    ensures { OnOk result (out.new ≡ out.old ++ (word.now ++ comma_separated (map printed_value values.now))) }
+    ensures { OnOk result (out.new ≡ out.old ++ (listed values.now ++ behind.now)) }
 {
-    out.append(word)?;
     match values {
-        [] => Ok(()),
-        [first, rest @ ..] => {
-            append_value(alloc, out, first)?;
-            append_more(alloc, out, rest)
+        [] => out.append(behind),
+        [before @ .., last] => {
+            append_before(alloc, out, before)?;
+            append_value_with(alloc, out, last, behind)
         }
     }
 }
 
-/// Adds values, each with a comma before it.
-fn append_more(alloc: Global, out: &mut Bytes, values: &[Value]) -> Result<(), Memory>
+/// Adds values, each with a comma behind it.
+fn append_before(alloc: Global, out: &mut Bytes, values: &[Value]) -> Result<(), Memory>
     ensures { OnOk result (out.new ≡ out.old
-        ++ flat_map (λ value. codes ", " ++ printed_value value) values.now) }
+        ++ flat_map (λ value. printed_value value ++ codes ", ") values.now) }
 {
     for value in values {
-        append_next(alloc, out, value)?;
+        append_value_with(alloc, out, value, b", ")?;
     }
     Ok(())
-}
-
-fn append_next(alloc: Global, out: &mut Bytes, value: &Value) -> Result<(), Memory>
-    ensures { OnOk result (out.new ≡ out.old ++ (codes ", " ++ printed_value value.now)) }
-{
-    out.append(b", ")?;
-    append_value(alloc, out, value)
 }
 
 fn append_puts(alloc: Global, out: &mut Bytes, puts: &[Put]) -> Result<(), Memory>
@@ -456,24 +468,6 @@ fn append_emitted(out: &mut Bytes, emission: &[u8]) -> Result<(), Memory>
 {
     out.append(b" emits ")?;
     append_text(out, emission)
-}
-
-fn node_name(program: &Program, node: NodeNo) -> &[u8]
-    ensures { result.now ≡ node_name program.now node }
-{
-    match program.nodes.as_slice().get(node.0 as usize) {
-        Some(node) => node.name.as_bytes(),
-        None => b"",
-    }
-}
-
-fn class_name(program: &Program, class: ClassNo) -> &[u8]
-    ensures { result.now ≡ class_name (slice_get program.now.classes class.0) }
-{
-    match program.classes.as_slice().get(class.0 as usize) {
-        Some(class) => class.name.as_bytes(),
-        None => b"",
-    }
 }
 
 fn source_name(program: &Program, source: SourceNo) -> &[u8]

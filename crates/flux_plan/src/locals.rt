@@ -1,6 +1,7 @@
 //! One flow's place in a plan.
 
 ghost use Rattle.std.specs.Prelude.{◌≡◌, Some, IsSome, IfOk, OnOk, OnErr};
+ghost use Rattle.flow_model.specs.Carried.{good_values};
 ghost use Rattle.flow_model.specs.Matching.{patterns_match};
 ghost use Rattle.flux_plan.specs.Machine.{fresh, values_at, state_in};
 ghost use Rattle.flux_plan.specs.Moves.{next_in, IsEvent, called_in, Advances, answered_in};
@@ -138,17 +139,24 @@ impl Local {
         }
     }
 
-    /// Takes the answer of the call that comes next.
-    pub fn answer(&mut self, plan: &Plan, answer: &SharedAnswer) -> Result<(), Memory>
+    /// The values of an answer, to be at hand behind its call.
+    pub fn carried(&self, answer: &SharedAnswer) -> Result<Carried, Memory>
+        ensures { IfOk result (λ values. values ≡ good_values answer.now.result) }
+    {
+        Carried::from_answer(self.stack.alloc, answer)
+    }
+
+    /// Takes the answer of the call that comes next, with its values.
+    pub fn answer(&mut self, plan: &Plan, answer: &SharedAnswer, values: Carried)
+        requires values { values ≡ good_values answer.now.result }
         requires verified { IsVerified plan.now }
         requires sized { IsSized plan.now }
         requires placed { AreAllPlaced plan.now (state_in plan.now self.old) }
         requires call { IsSome (called_in plan.now self.old) }
-        ensures ok { OnOk result (self.new ≡ answered_in plan.now self.old answer.now) }
-        ensures err { OnErr result (self.new ≡ self.old) }
+        ensures { self.new ≡ answered_in plan.now self.old answer.now }
     {
         if self.begun {
-            self.stack.answer(plan, answer)
+            self.stack.answer(plan, answer, values)
         } else {
             unreachable!()
         }

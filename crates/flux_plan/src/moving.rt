@@ -1,6 +1,7 @@
 //! What a flow does next, and its place afterwards.
 
 ghost use Rattle.std.specs.Prelude.{◌≡◌, Some, IsSome, OnOk, OnErr};
+ghost use Rattle.flow_model.specs.Carried.{good_values};
 ghost use Rattle.flow_model.specs.Matching.{patterns_match};
 ghost use Rattle.flux_plan.specs.Machine.{Matches, Position};
 ghost use Rattle.flux_plan.specs.Moves.{next_in, IsEvent, called_in, IsReached, IsReachedBySome, Advances, IsAnswered};
@@ -8,7 +9,7 @@ ghost use Rattle.flux_plan.specs.Moves.{next_in, IsEvent, called_in, IsReached, 
 use crate::locals::{Local, Next};
 use crate::machines::Machine;
 use crate::verified::VerifiedPlan;
-use flow_model::SharedAnswer;
+use flow_model::{Carried, SharedAnswer};
 use flux_library::Library;
 use flux_model::Program;
 use flux_values::Memory;
@@ -65,5 +66,17 @@ pub fn answered(plan: &VerifiedPlan, local: &mut Local, answer: &SharedAnswer) -
     ensures ok { OnOk result (IsAnswered plan.now local.old answer.now local.new) }
     ensures err { OnErr result (local.new ≡ local.old) }
 {
-    local.answer(plan.as_plan(), answer)
+    let values = local.carried(answer)?;
+    take_answer(plan, local, answer, values);
+    Ok(())
+}
+
+/// The same, where its values are at hand already.
+pub fn take_answer(plan: &VerifiedPlan, local: &mut Local, answer: &SharedAnswer, values: Carried)
+    requires reached { IsReachedBySome plan.now local.old }
+    requires call { IsSome (called_in plan.now local.old) }
+    requires values { values ≡ good_values answer.now.result }
+    ensures { IsAnswered plan.now local.old answer.now local.new }
+{
+    local.answer(plan.as_plan(), answer, values)
 }

@@ -2,6 +2,7 @@
 
 ghost use Rattle.std.specs.Prelude.{◌≡◌, ◌<◌, ◌≤◌, [], ◌∷◌, ◌++◌, length, take, reverse, Some, IsSome, IfOk, OnOk, OnErr};
 ghost use Rattle.flow_model.specs.declared.journals.Outcome.TheVariants as outcomes;
+ghost use Rattle.flow_model.specs.Carried.{good_values};
 ghost use Rattle.flow_model.specs.Matching.{patterns_match};
 ghost use Rattle.flux_plan.specs.Machine.{step, answered, entering};
 ghost use Rattle.flux_plan.specs.Moves.{next_by, IsEvent, called_over};
@@ -52,19 +53,18 @@ impl Stack {
         }
     }
 
-    /// Enters a node over so many frames, with its inputs at hand and all being well.
+    /// Enters a node over so many frames, with the values at hand and all being well.
     fn enter(&mut self, depth: usize, frame: Frame) -> Result<(), Memory>
-        requires { depth ≤ length self.old.frames.items }
+        requires most { depth ≤ length self.old.frames.items }
+        requires inputs { frame.inputs ≡ self.old.values }
         ensures frames { OnOk result
             (self.new.frames.items ≡ take depth self.old.frames.items ++ frame ∷ []) }
         ensures values { OnOk result (self.new.values ≡ frame.inputs) }
         ensures outcome { OnOk result (self.new.outcome ≡ outcomes.Good) }
         ensures err { OnErr result (state_of self.new ≡ state_of self.old) }
     {
-        let values = frame.inputs.share()?;
         self.frames.insert(depth, frame)?;
         self.frames.truncate(depth + 1);
-        self.values = values;
         self.outcome = Outcome::Good;
         Ok(())
     }
@@ -84,7 +84,7 @@ impl Stack {
         self.enter(0, frame)
     }
 
-    /// Enters a node over so many frames, the innermost of which goes to a place.
+    /// Enters a node with the values at hand over so many frames, the innermost of which goes to a place.
     fn enter_over(
         &mut self,
         depth: usize,
@@ -94,6 +94,7 @@ impl Stack {
     ) -> Result<(), Memory>
         requires some { 0 < depth }
         requires most { depth ≤ length self.old.frames.items }
+        requires inputs { inputs ≡ self.old.values }
         ensures ok { OnOk result (state_of self.new ≡
             entered_over node inputs place (reverse (take depth self.old.frames.items))) }
         ensures err { OnErr result (state_of self.new ≡ state_of self.old) }
@@ -140,7 +141,14 @@ impl Stack {
             }
             Entering::Handler(node) => {
                 let inputs = self.frames[depth - 1].inputs.share()?;
-                self.enter_over(depth, place, node, inputs)
+                let values = std::mem::replace(&mut self.values, inputs.share()?);
+                match self.enter_over(depth, place, node, inputs) {
+                    Ok(()) => Ok(()),
+                    Err(memory) => {
+                        self.values = values;
+                        Err(memory)
+                    }
+                }
             }
         }
     }
@@ -198,7 +206,7 @@ impl Stack {
                 self.settle(landing)
             }
             None => {
-                self.frames.clear();
+                self.frames = Vec::new(self.alloc);
                 Ok(())
             }
         }
@@ -238,36 +246,34 @@ impl Stack {
         }
     }
 
-    /// Takes the values of an answer, or its failure.
-    fn take_result(&mut self, answer: &SharedAnswer) -> Result<(), Memory>
+    /// Takes the values of an answer, which are at hand, or its failure.
+    fn take_result(&mut self, answer: &SharedAnswer, values: Carried)
+        requires { values ≡ good_values answer.now.result }
         ensures frames { self.new.frames.items ≡ self.old.frames.items }
-        ensures ok { OnOk result (IsTaken answer.now.result self.old self.new) }
-        ensures err { OnErr result (state_of self.new ≡ state_of self.old) }
+        ensures taken { IsTaken answer.now.result self.old self.new }
     {
         match &answer.as_answer().result {
-            CallResult::Good(_) => self.values = Carried::from_answer(answer)?,
+            CallResult::Good(_) => self.values = values,
             CallResult::Bad(code) => self.outcome = Outcome::Bad(*code),
         }
-        Ok(())
     }
 
-    /// Takes the answer of the call that comes next. Behind it stands `Exit`.
-    pub fn answer(&mut self, plan: &Plan, answer: &SharedAnswer) -> Result<(), Memory>
+    /// Takes the answer of the call that comes next, with its values. Behind it stands `Exit`.
+    pub fn answer(&mut self, plan: &Plan, answer: &SharedAnswer, values: Carried)
+        requires values { values ≡ good_values answer.now.result }
         requires verified { IsVerified plan.now }
         requires sized { IsSized plan.now }
         requires placed { ArePlaced plan.now (reverse self.old.frames.items) }
         requires call { IsSome (called_over plan.now.segments (reverse self.old.frames.items)) }
-        ensures ok { OnOk result (state_of self.new ≡ answered (state_of self.old) answer.now) }
-        ensures err { OnErr result (state_of self.new ≡ state_of self.old) }
+        ensures { state_of self.new ≡ answered (state_of self.old) answer.now }
     {
         let Some(top) = self.frames.last() else {
             unreachable!()
         };
         let (exit, _) = plan.at(top.node, top.place);
-        self.take_result(answer)?;
+        self.take_result(answer, values);
         let innermost = self.frames.len() - 1;
         go_to(&mut self.frames, innermost, exit);
-        Ok(())
     }
 }
 

@@ -200,7 +200,7 @@ impl Seen {
     fn go(&mut self, plain: Plain, flow: FlowNo, event: &Event) -> Result<(), Wrong> {
         check_that(self.place_in_line(flow).is_none(), Rule::GoesOn)?;
         match event {
-            Event::Drop(key) => self.drop_key(flow, *key),
+            Event::Drop(key) => self.drop_key(flow, key.key()),
             Event::Enter(node) => self.enter(plain, flow, *node),
             Event::Exit(node, _) => {
                 self.exit(flow, *node);
@@ -216,11 +216,11 @@ impl Seen {
         check_that(!self.ended.contains(&flow), Rule::GoesOn)?;
         match &entry.event {
             Event::Take(key, mode) => {
-                let (key, mode) = (*key, *mode);
+                let (key, mode) = (key.key(), *mode);
                 self.take(Claim { flow, key, mode })
             }
             Event::Wait(key, mode) => {
-                let (key, mode) = (*key, *mode);
+                let (key, mode) = (key.key(), *mode);
                 self.wait(Claim { flow, key, mode })
             }
             event => self.go(plain, flow, event),

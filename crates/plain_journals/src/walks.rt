@@ -33,8 +33,8 @@ enum Wanted {
 
 fn is_wanted(event: &Event, wanted: Wanted) -> bool {
     match (event, wanted) {
-        (Event::Take(key, mode), Wanted::Take(other, how)) => *key == other && *mode == how,
-        (Event::Drop(key), Wanted::Drop(other)) => *key == other,
+        (Event::Take(key, mode), Wanted::Take(other, how)) => key.key() == other && *mode == how,
+        (Event::Drop(key), Wanted::Drop(other)) => key.key() == other,
         (Event::Enter(node), Wanted::Enter(other)) => *node == other,
         (Event::Choose(chosen), Wanted::Choose(other)) => *chosen as usize == other,
         (Event::Exit(node, outcome), Wanted::Exit(other, how)) => {

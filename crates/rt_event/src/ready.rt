@@ -66,7 +66,7 @@ impl Ready {
         for entry in &entries[self.known..] {
             match &entry.event {
                 Event::Call(_) => self.add(entry.flow)?,
-                Event::Drop(key) => self.add_line(core.line(*key))?,
+                Event::Drop(key) => self.add_line(core.line(key.key()))?,
                 _ => {}
             }
         }

@@ -22,6 +22,6 @@ returns c = record {
   failed_is_whole = failed_whole;
   goes_round = goes_round;
   others_blocked = others_blocked;
-  carried = (refl, refl, refl);
+  carried = (refl, refl);
   joined = (refl, refl, refl);
 }

@@ -20,10 +20,8 @@ pub inputs-requires : goal.inputs-requires
 inputs-requires g c =
     let setup : Setup = setup_at g.L.Meaning.meaning c.args.state.now in
     let before = c.args.state.now.entries in
-    let made = c.args.made.now in
     let comes = c.next.ensures in
-    let is = subst (λ (x : Coming). IsComing setup before c.args.flow.0 x) (c.if-not-same_coming.ensures.0 refl) comes.is in
-    (made.node, is.0, is.1)
+    subst (λ (x : Coming). IsComing setup before c.args.flow.0 x) (c.if-not-same_coming.ensures.0 refl) comes.is
 
 pub check_inputs-requires-clause-node : goal.check_inputs-requires-clause-node
 check_inputs-requires-clause-node g c =

@@ -19,4 +19,4 @@ pub returns-in-Ok-clause-fields : goal.returns-in-Ok-clause-fields
 returns-in-Ok-clause-fields g c =
     wait-running g.L.Meaning.meaning c.args.self.now c.requires.fields c.args.flow c.args.key c.args.mode
     c.requires.next c.args.holder c.requires.blocked c.wait.new.self c.in-Ok.ensures.ok c.write.new.journal
-    c.in_ok-write.ensures.ok
+    (rw c.new.ensures at c.in_ok-write.ensures.ok)

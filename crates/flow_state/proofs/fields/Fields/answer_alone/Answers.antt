@@ -12,8 +12,8 @@ use Rattle.flow_state.proofs.OnFields.{read-there}
 use Rattle.flow_state.proofs.Called.{may-answer, keys-right, made-running, made-adds}
 use Rattle.flow_state.proofs.fields.Fields.answer_alone.Goals as goal
 
-pub answered-requires : goal.answered-requires
-answered-requires g c =
+pub take_answer-requires-clause-may : goal.take_answer-requires-clause-may
+take_answer-requires-clause-may g c =
     may-answer g.L.Meaning.meaning c.args.self.now c.requires.fields c.args.flow c.args.inputs.now.node
     c.requires.coming c.index_mut-place.result.now
     (read-there g.L.Meaning.meaning c.args.self.now c.requires.fields c.args.flow c.index_mut-place.result.now
@@ -27,11 +27,11 @@ returns-clause-fields g c =
     let place = c.index_mut-place.result.now in
     let at = read-there g.L.Meaning.meaning r c.requires.fields c.args.flow place c.requires.flow
     c.index_mut-place.ensures.value in
-    let new : Place = record { local = c.answered.new.local; session = place.session; stands = place.stands } in
+    let new : Place = record { local = c.take_answer.new.local; session = place.session; stands = place.stands } in
     let keys : List Key = map (λ (hold : Hold). key_in (arc_value setup.program) place.session hold.class)
     (declared (arc_value setup.program) c.args.inputs.now.node.0) in
     made-running g.L.Meaning.meaning r c.requires.fields c.args.flow c.args.inputs.now c.requires.next
-    c.requires.coming place at c.args.answer.now c.requires.right new c.in_ok-answered.ensures.ok refl refl
+    c.requires.coming place at c.args.answer.now c.requires.right new c.take_answer.ensures refl refl
     keys (keys-right g.L.Meaning.meaning r c.requires.fields c.args.flow c.args.inputs.now.node c.requires.coming
     place at keys refl) r.cells
     (sym (ap (λ (puts : List Put). applied (arc_value setup.program) keys (cells_of r.cells) puts) c.requires.alone))
@@ -44,11 +44,11 @@ returns-clause-ok g c =
     let place = c.index_mut-place.result.now in
     let at = read-there g.L.Meaning.meaning r c.requires.fields c.args.flow place c.requires.flow
     c.index_mut-place.ensures.value in
-    let new : Place = record { local = c.answered.new.local; session = place.session; stands = place.stands } in
+    let new : Place = record { local = c.take_answer.new.local; session = place.session; stands = place.stands } in
     let keys : List Key = map (λ (hold : Hold). key_in (arc_value setup.program) place.session hold.class)
     (declared (arc_value setup.program) c.args.inputs.now.node.0) in
     made-adds g.L.Meaning.meaning r c.requires.fields c.args.flow c.args.inputs.now c.requires.next c.requires.coming
-    place at c.args.answer.now c.requires.right new c.in_ok-answered.ensures.ok refl refl
+    place at c.args.answer.now c.requires.right new c.take_answer.ensures refl refl
     keys (keys-right g.L.Meaning.meaning r c.requires.fields c.args.flow c.args.inputs.now.node c.requires.coming
     place at keys refl) r.cells
     (sym (ap (λ (puts : List Put). applied (arc_value setup.program) keys (cells_of r.cells) puts) c.requires.alone))

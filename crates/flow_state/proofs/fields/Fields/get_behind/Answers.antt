@@ -1,7 +1,7 @@
 use Rattle.std.proofs.Common.{false, refl}
 use Rattle.flow_model.specs.declared.journals.Event.TheVariants as events
 use Rattle.flow_state.specs.declared.places.Place.{Place}
-use Rattle.flow_state.proofs.OnFields.{may-advance, may-take-it, none-blocks, take-moved, still-running, moved-makes, moved-goes_on}
+use Rattle.flow_state.proofs.OnFields.{may-advance, none-blocks, take-moved, still-running, moved-makes, moved-goes_on}
 use Rattle.flow_state.proofs.fields.Fields.get_behind.Goals as goal
 
 pub advance-requires : goal.advance-requires
@@ -10,13 +10,8 @@ advance-requires g c =
     (may-advance g.L.Meaning.meaning c.args.self.now c.requires.fields c.args.flow (events.Take c.args.key c.args.mode)
     c.requires.coming c.index_mut-place.result.now c.index_mut-place.ensures.value)
 
-pub take-requires-clause-may : goal.take-requires-clause-may
-take-requires-clause-may g c =
-    may-take-it g.L.Meaning.meaning c.args.self.now c.requires.fields c.args.flow c.args.key c.args.mode
-    c.requires.coming c.index_mut-place.result.now c.index_mut-place.ensures.value
-
-pub take-requires-clause-free : goal.take-requires-clause-free
-take-requires-clause-free g c =
+pub take-requires : goal.take-requires
+take-requires g c =
     none-blocks g.L.Meaning.meaning c.args.self.now c.requires.fields c.args.flow c.args.key c.args.mode
     c.requires.coming c.index_mut-place.result.now c.index_mut-place.ensures.value c.requires.free
 
@@ -24,7 +19,7 @@ pub returns-in_err-take-clause-fields : goal.returns-in_err-take-clause-fields
 returns-in_err-take-clause-fields g c =
     still-running g.L.Meaning.meaning c.args.self.now c.requires.fields c.args.flow c.args.key c.args.mode
     c.requires.coming c.index_mut-place.result.now c.index_mut-place.ensures.value
-    c.take.new.table c.in_err-take.ensures.still
+    c.take.new.self c.in_err-take.ensures.err
 
 pub returns-clause-fields : goal.returns-clause-fields
 returns-clause-fields g c =
@@ -33,10 +28,10 @@ returns-clause-fields g c =
     let read = c.index_mut-place.ensures.value in
     let new : Place = record { local = c.advance.new.local; session = place.session; stands = false } in
     moved-goes_on g.L.Meaning.meaning r c.requires.fields c.args.flow (events.Take c.args.key c.args.mode)
-    c.requires.coming place read new c.take.new.table c.add.new.self r.live c.add.ensures
+    c.requires.coming place read new c.take.new.self c.add.new.self r.live (rw c.new.ensures at c.add.ensures)
     (take-moved g.L.Meaning.meaning r c.requires.fields c.args.flow c.args.key c.args.mode c.requires.coming place read
     new (rw c.in_ok-ahead.ensures at c.in_ok-advance.ensures.ok) refl refl
-    c.requires.free c.take.new.table c.in_ok-take.ensures.takes)
+    c.requires.free c.take.new.self c.in_ok-take.ensures.ok)
     refl refl
 
 pub returns-clause-ok : goal.returns-clause-ok
@@ -46,7 +41,7 @@ returns-clause-ok g c =
     let read = c.index_mut-place.ensures.value in
     let new : Place = record { local = c.advance.new.local; session = place.session; stands = false } in
     moved-makes g.L.Meaning.meaning r c.requires.fields c.args.flow (events.Take c.args.key c.args.mode)
-    c.requires.coming place read new c.take.new.table c.add.new.self r.live c.add.ensures
+    c.requires.coming place read new c.take.new.self c.add.new.self r.live (rw c.new.ensures at c.add.ensures)
     (take-moved g.L.Meaning.meaning r c.requires.fields c.args.flow c.args.key c.args.mode c.requires.coming place read
     new (rw c.in_ok-ahead.ensures at c.in_ok-advance.ensures.ok) refl refl
-    c.requires.free c.take.new.table c.in_ok-take.ensures.takes)
+    c.requires.free c.take.new.self c.in_ok-take.ensures.ok)

@@ -21,7 +21,7 @@ returns-clause-fields g c =
     let read = c.index_mut-place.ensures.value in
     let new : Place = record { local = c.advance.new.local; session = place.session; stands = place.stands } in
     moved-goes_on g.L.Meaning.meaning r c.requires.fields c.args.flow (events.Drop c.args.key) c.requires.coming place
-    read new c.release.new.self c.add.new.self r.live c.add.ensures
+    read new c.release.new.self c.add.new.self r.live (rw c.new.ensures at c.add.ensures)
     (drop-moved g.L.Meaning.meaning r c.requires.fields c.args.flow c.args.key c.requires.coming place read new
     c.in_ok-advance.ensures.ok refl refl c.release.new.self c.release.ensures)
     refl refl
@@ -33,6 +33,6 @@ returns-clause-ok g c =
     let read = c.index_mut-place.ensures.value in
     let new : Place = record { local = c.advance.new.local; session = place.session; stands = place.stands } in
     moved-makes g.L.Meaning.meaning r c.requires.fields c.args.flow (events.Drop c.args.key) c.requires.coming place
-    read new c.release.new.self c.add.new.self r.live c.add.ensures
+    read new c.release.new.self c.add.new.self r.live (rw c.new.ensures at c.add.ensures)
     (drop-moved g.L.Meaning.meaning r c.requires.fields c.args.flow c.args.key c.requires.coming place read new
     c.in_ok-advance.ensures.ok refl refl c.release.new.self c.release.ensures)

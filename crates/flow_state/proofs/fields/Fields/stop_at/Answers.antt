@@ -1,33 +1,12 @@
-use Rattle.std.proofs.Common.{refl, None, Some}
-use Rattle.flow_state.proofs.Asked.{not-taking, asks-rightly, lowest-is, none-blocked}
-use Rattle.flow_state.proofs.OnFields.{read-at, within-places}
-use Rattle.flow_state.proofs.Stopped.{stop-is}
+use Rattle.flow_state.proofs.Stopped.{ended-free}
 use Rattle.flow_state.proofs.fields.Fields.stop_at.Goals as goal
 
-pub returns-in_default : goal.returns-in_default
-returns-in_default g c = not-taking g.L.Meaning.meaning c.args.self.now c.requires.fields c.args.flow c.requires.flow
-    c.next.result c.next.ensures c.in_default.not-Take
+pub returns-in-Blocked : goal.returns-in-Blocked
+returns-in-Blocked g c = c.in-Blocked.ensures.1
 
-pub holder-requires : goal.holder-requires
-holder-requires g c =
-    asks-rightly g.L.Meaning.meaning c.args.self.now c.requires.fields c.args.flow c.requires.flow _ c.in-Take.ensures _
-    _ refl c.key-key.result c.key-key.ensures
+pub returns-in-Ended : goal.returns-in-Ended
+returns-in-Ended g c = ended-free g.L.Meaning.meaning c.args.self.now c.requires.fields c.args.flow c.requires.flow
+    c.in-Ended.ensures
 
-pub returns-in-None : goal.returns-in-None
-returns-in-None g c =
-    none-blocked g.L.Meaning.meaning c.args.self.now c.requires.fields c.args.flow c.requires.flow _ c.in-Take.ensures _
-    _ refl c.key-key.result c.key-key.ensures
-    (lowest-is g.L.Meaning.meaning c.args.self.now c.requires.fields c.args.flow c.requires.flow _ c.in-Take.ensures _ _
-    refl c.key-key.result c.key-key.ensures None c.in-None.ensures)
-
-pub returns-in-Some : goal.returns-in-Some
-returns-in-Some g c =
-    stop-is g.L.Meaning.meaning c.args.self.now c.requires.fields c.args.flow c.requires.flow _ c.in-Take.ensures _ _
-    refl c.key-key.result c.key-key.ensures
-    c.in-Some.field-0.0
-    (let low = lowest-is g.L.Meaning.meaning c.args.self.now c.requires.fields c.args.flow c.requires.flow _
-    c.in-Take.ensures _ _ refl c.key-key.result c.key-key.ensures (Some c.in-Some.field-0) c.in-Some.ensures
-    in low.0)
-    c.index-place.result.now (read-at c.args.self.now.places.items c.args.flow.0 c.index-place.result.now
-    (within-places g.L.Meaning.meaning c.args.self.now c.requires.fields c.args.flow.0 c.requires.flow)
-    c.index-place.ensures)
+pub returns-in-Free : goal.returns-in-Free
+returns-in-Free g c = c.in-Free.ensures.1

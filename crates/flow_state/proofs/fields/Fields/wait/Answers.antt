@@ -19,7 +19,7 @@ returns-clause-fields g c =
     let new : Place = record { local = place.local; session = place.session; stands = true } in
     waits-running g.L.Meaning.meaning c.args.self.now c.requires.fields c.args.flow c.args.key c.args.mode
     c.requires.may place c.index_mut-place.ensures.value new refl refl refl c.wait.new.self c.in_ok-wait.ensures.ok
-    c.add.new.self c.add.ensures
+    c.add.new.self (rw c.new.ensures at c.add.ensures)
 
 pub returns-clause-ok : goal.returns-clause-ok
 returns-clause-ok g c =
@@ -27,4 +27,4 @@ returns-clause-ok g c =
     let new : Place = record { local = place.local; session = place.session; stands = true } in
     waits-added g.L.Meaning.meaning c.args.self.now c.requires.fields c.args.flow c.args.key c.args.mode
     c.requires.may place c.index_mut-place.ensures.value new refl refl refl c.wait.new.self c.in_ok-wait.ensures.ok
-    c.add.new.self c.add.ensures
+    c.add.new.self (rw c.new.ensures at c.add.ensures)

@@ -6,13 +6,13 @@ use Rattle.flow_waits.proofs.Ending.{live-is}
 use Rattle.flow_waits.proofs.Turning.{ended-over}
 use Rattle.flow_waits.proofs.candidates.Candidates.first.Goals as goal
 
-pub is_ended-requires : goal.is_ended-requires
-is_ended-requires g c = c.loop-number.invariant.exist c.in-Some.number
+pub way-requires : goal.way-requires
+way-requires g c = c.loop-number.invariant.exist c.in-Some.number
     (let e = subst (λ pools. IsEarliest pools.ready c.args.from c.in-Some.number) c.self.view_is c.in-Some.ensures
     in e.is)
 
-pub loop-number-preserved-then-is_ended : goal.loop-number-preserved-then-is_ended
-loop-number-preserved-then-is_ended g c =
+pub loop-number-preserved-in-Ended : goal.loop-number-preserved-in-Ended
+loop-number-preserved-in-Ended g c =
     without_ended (setup_in g.L.Meaning.meaning c.args.core.now) c.args.core.now.entries c.loop-number.self
     (record { ready = c.remove.new.self; readers = c.self.inside.readers; writers = c.self.inside.writers }) c.args.from
     c.in-Some.number
@@ -20,27 +20,22 @@ loop-number-preserved-then-is_ended g c =
     c.remove.ensures.less)
     (ap (λ pools. pools.readers) c.self.view_is) (ap (λ pools. pools.writers) c.self.view_is)
     (ended-over (setup_in g.L.Meaning.meaning c.args.core.now) c.args.core.now.entries c.in-Some.number
-    (sym c.is_ended.ensures ∙ c.if-is_ended.true))
-
-pub stop_at-requires : goal.stop_at-requires
-stop_at-requires g c = c.loop-number.invariant.exist c.in-Some.number
-    (let e = subst (λ pools. IsEarliest pools.ready c.args.from c.in-Some.number) c.self.view_is c.in-Some.ensures
-    in e.is)
+    c.in-Ended.ensures)
 
 pub loop-number-preserved : goal.loop-number-preserved
 loop-number-preserved g c =
     parked (setup_in g.L.Meaning.meaning c.args.core.now) c.args.core.now.entries c.loop-number.self c.park.new.self
-    c.args.from c.in-Some.number c.in-Some-stop_at.stop
+    c.args.from c.in-Some.number c.in-Blocked.stop
     (let kept = c.journal-journal.ensures.kept in kept.legal) c.loop-number.invariant
-    c.in_ok-park-in-Some-stop_at.ensures.ok
+    c.in_ok-park-in-Blocked.ensures.ok
     (live-is (setup_in g.L.Meaning.meaning c.args.core.now) c.args.core.now.entries c.in-Some.number
     (c.loop-number.invariant.exist c.in-Some.number
     (let e = subst (λ pools. IsEarliest pools.ready c.args.from c.in-Some.number) c.self.view_is c.in-Some.ensures
     in e.is))
-    (sym c.is_ended.ensures ∙ c.if-is_ended.false)) c.in-Some-stop_at.ensures
+    c.in-Blocked.ensures.0) c.in-Blocked.ensures.1
 
-pub returns-in-None-clause-first : goal.returns-in-None-clause-first
-returns-in-None-clause-first g c =
+pub returns-in-Free-clause-first : goal.returns-in-Free-clause-first
+returns-in-Free-clause-first g c =
     chosen (setup_in g.L.Meaning.meaning c.args.core.now) c.args.core.now.entries c.loop-number.self c.args.from
     c.loop-number.invariant c.in-Some.number (subst (λ pools. IsEarliest pools.ready c.args.from c.in-Some.number)
     c.self.view_is c.in-Some.ensures)
@@ -49,8 +44,8 @@ returns-in-None-clause-first g c =
           (c.loop-number.invariant.exist c.in-Some.number
           (let e = subst (λ pools. IsEarliest pools.ready c.args.from c.in-Some.number) c.self.view_is c.in-Some.ensures
           in e.is))
-          (sym c.is_ended.ensures ∙ c.if-is_ended.false);
-      free = c.in-None.ensures;
+          c.in-Free.ensures.0;
+      free = c.in-Free.ensures.1;
     })
 
 pub returns-clause-first : goal.returns-clause-first

@@ -2,6 +2,7 @@ use Rattle.std.proofs.Common.{◌≡◌, ◌∙◌, sym, ap, subst}
 use Rattle.std.proofs.lemmas.Result.{on_ok_weaker}
 use Rattle.flux_values.specs.declared.answers.Mode.TheVariants.{Reader, Writer}
 use Rattle.flow_model.specs.declared.journals.Entry.{Entry}
+use Rattle.flow_model.specs.declared.journals.Event.TheVariants as events
 use Rattle.flow_core.specs.States.{setup_in}
 use Rattle.flow_orders.specs.Turns.{IsInLine}
 use Rattle.flow_waits.specs.steps.Aside.{beside}
@@ -18,26 +19,26 @@ returns-in-Take-clause-covers g c = λ aside lags.
     (beside c.wake.new.self aside) c.in-Take.key c.in-Take.mode (last-event lags.before lags.flow lags.event
     c.args.core.now.entries c.journal.result.now.entries c.in-Some.entry.now lags.added c.journal.ensures.same
     c.in-Some.ensures ∙ c.in-Take.is)
-    (wakes-beside c.args.self.now c.wake.new.self aside c.in-Take.key c.in-Take.mode c.args.from wakes)) c.wake.ensures
+    (wakes-beside c.args.self.now c.wake.new.self aside c.in-Take.key c.in-Take.mode c.args.from wakes)) (rw c.key.ensures at c.wake.ensures)
 
 pub returns-in-Take-clause-ready : goal.returns-in-Take-clause-ready
 returns-in-Take-clause-ready g c = λ aside lags.
     on_ok_weaker c.wake.result (λ wakes flow ready awake. woken-ready (setup_in g.L.Meaning.meaning c.args.core.now)
     c.args.core.now.entries c.args.self.now c.wake.new.self c.in-Take.key c.in-Take.mode c.args.from wakes flow ready)
-    c.wake.ensures
+    (rw c.key.ensures at c.wake.ensures)
 
 pub returns-in_ok-wake-in-Drop-2-clause-covers : goal.returns-in_ok-wake-in-Drop-2-clause-covers
 returns-in_ok-wake-in-Drop-2-clause-covers g c = λ aside lags.
     on_ok_weaker c.wake_line.result (λ last. told-drop (setup_in g.L.Meaning.meaning c.args.core.now)
     c.args.core.now.entries (let kept = c.journal.ensures.kept in kept.legal) (beside c.args.self.now aside) c.args.from lags
     (beside c.wake-in-Drop.new.self aside) (beside c.wake-in-Drop-2.new.self aside) (beside c.wake_line.new.self aside)
-    c.in-Drop.key c.line.result.now
+    c.key-key.result c.line.result.now
     (last-event lags.before lags.flow lags.event c.args.core.now.entries
     c.journal.result.now.entries c.in-Some.entry.now lags.added c.journal.ensures.same c.in-Some.ensures
-    ∙ c.in-Drop.is)
-    (wakes-beside c.args.self.now c.wake-in-Drop.new.self aside c.in-Drop.key Reader c.args.from
+    ∙ c.in-Drop.is ∙ ap events.Drop (sym c.key-key.ensures))
+    (wakes-beside c.args.self.now c.wake-in-Drop.new.self aside c.key-key.result Reader c.args.from
     c.in_ok-wake-in-Drop.ensures)
-    (wakes-beside c.wake-in-Drop.new.self c.wake-in-Drop-2.new.self aside c.in-Drop.key Writer c.args.from
+    (wakes-beside c.wake-in-Drop.new.self c.wake-in-Drop-2.new.self aside c.key-key.result Writer c.args.from
     c.in_ok-wake-in-Drop-2.ensures)
     c.line.ensures (line-beside c.wake-in-Drop-2.new.self c.wake_line.new.self aside c.line.result.now last))
     c.wake_line.ensures
@@ -48,10 +49,10 @@ returns-in_ok-wake-in-Drop-2-clause-ready g c = λ aside lags.
     let entries = c.args.core.now.entries in
     on_ok_weaker c.wake_line.result (λ last flow ready awake.
     line-ready setup entries (let kept = c.journal.ensures.kept in kept.legal) c.wake-in-Drop-2.new.self
-    c.wake_line.new.self c.in-Drop.key c.args.from c.line.result.now c.line.ensures last flow
-    (woken-ready setup entries c.wake-in-Drop.new.self c.wake-in-Drop-2.new.self c.in-Drop.key Writer c.args.from
+    c.wake_line.new.self c.key-key.result c.args.from c.line.result.now c.line.ensures last flow
+    (woken-ready setup entries c.wake-in-Drop.new.self c.wake-in-Drop-2.new.self c.key-key.result Writer c.args.from
     c.in_ok-wake-in-Drop-2.ensures flow
-    (woken-ready setup entries c.args.self.now c.wake-in-Drop.new.self c.in-Drop.key Reader c.args.from
+    (woken-ready setup entries c.args.self.now c.wake-in-Drop.new.self c.key-key.result Reader c.args.from
     c.in_ok-wake-in-Drop.ensures flow ready))) c.wake_line.ensures
 
 pub returns-in_default-event : goal.returns-in_default-event

@@ -24,4 +24,4 @@ returns-in-None-clause-ok g c =
     let own = c.args.self.now in
     let matches = patterns_match (g.L.Meaning.meaning c.args.machine.now.library.now) c.args.machine.now.program.now.predicates in
     moves_out c.args.machine.now.plan.now c.requires.verified matches own.frames.items own.values own.outcome _ c.in-None.ensures
-    (ap (λ (fs : List Frame). let s : State = record { frames = reverse fs; values = own.values; outcome = own.outcome } in s) c.clear.ensures.items)
+    (ap (λ (fs : List Frame). let s : State = record { frames = reverse fs; values = own.values; outcome = own.outcome } in s) c.new.ensures.items)

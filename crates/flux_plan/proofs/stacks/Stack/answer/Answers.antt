@@ -5,8 +5,8 @@ use Rattle.flux_plan.proofs.Acting.{top_first}
 use Rattle.flux_plan.proofs.Answering.{calls_here, behind_call, answered_last}
 use Rattle.flux_plan.proofs.stacks.Stack.answer.Goals as goal
 
-pub returns-clause-ok : goal.returns-clause-ok
-returns-clause-ok c =
+pub returns : goal.returns
+returns c =
     let own = c.args.self.now in
     let frames = own.frames.items in
     let top = rw c.deref.ensures.value at c.in-Some.ensures.value in
@@ -14,7 +14,7 @@ returns-clause-ok c =
     let placed = subst (ArePlaced c.args.plan.now) (top_first frames c.in-Some.top.now top) c.requires.placed in
     let next = behind_call c.args.plan.now c.requires.verified _ _ _ _ placed.0 c.at-exit.ensures called in
     let within = slice_get_within frames (length frames - 1) c.in-Some.top.now (sym top) in
-    let same : length c.take_result.new.self.frames.items ≡ length frames = ap length c.in_ok-take_result.ensures.frames in
+    let same : length c.take_result.new.self.frames.items ≡ length frames = ap length c.take_result.ensures.frames in
     let long : length frames ≡ c.len-innermost.result - 1 + 1 = omega (arith, within, same, c.len-innermost.ensures) in
-    rw (c.go_to.ensures, c.in_ok-take_result.ensures.frames)
-    (answered_last own c.take_result.new.self c.args.answer.now.result c.in-Some.top.now (c.len-innermost.result - 1) c.at-exit.result.0 top long next c.in_ok-take_result.ensures.ok)
+    rw (c.go_to.ensures, c.take_result.ensures.frames)
+    (answered_last own c.take_result.new.self c.args.answer.now.result c.in-Some.top.now (c.len-innermost.result - 1) c.at-exit.result.0 top long next c.take_result.ensures.taken)
