@@ -16,7 +16,9 @@ use Rattle.flux_laws.specs.Going.{IsBlocked, IsAtCall}
 use Rattle.flow_core.specs.declared.cores.Step.{Step}
 use Rattle.flow_core.specs.declared.cores.Step.TheVariants.{Ended, Calling, Waits, Job, Went}
 use Rattle.flow_core.specs.States.{CoreState, setup_in, begun_by, IsKept}
-use Rattle.flow_core.specs.Moves.{HasStepped, ComesWherever}
+use Rattle.flow_core.specs.declared.cores.AtOnce.{AtOnce}
+use Rattle.flow_core.specs.declared.cores.AtOnce.TheVariants as at_once
+use Rattle.flow_core.specs.Moves.{HasStepped, ComesWherever, HasSteppedAtOnce, ComesAtOnceWherever}
 use Rattle.flow_state.proofs.Tables.{not-both}
 use Rattle.flow_state.proofs.Ended.{next-goes_on, call-goes_on}
 
@@ -97,3 +99,44 @@ module _ {L : Type 0} (meaning : L → LibraryMeaning) (old new : CoreState L) (
       → IfOk r (ComesWherever meaning old flow)
   comes-if_ok (Ok step) h = comes-wherever step h
   comes-if_ok (Err e) h = tt
+
+  -- each step at once, too
+  at_once-wherever : (step : AtOnce) → HasSteppedAtOnce meaning old new flow step
+      → ComesAtOnceWherever meaning old flow step
+  at_once-wherever at_once.Ended has = let comes = comes-wherever Ended has in record {
+    ended = λ e. refl;
+    calling = λ some. let e = comes.calling some in absurd cc;
+    waits = comes.waits;
+    called = λ at idle. absurd (comes.job at idle);
+  }
+  at_once-wherever at_once.Calling has = let comes = comes-wherever Calling has in record {
+    ended = λ is. let e = comes.ended is in absurd cc;
+    calling = λ e. refl;
+    waits = comes.waits;
+    called = λ at idle. absurd (comes.job at idle);
+  }
+  at_once-wherever (at_once.Waits key holder) has = let comes = comes-wherever (Waits key holder) has in record {
+    ended = λ is. let e = comes.ended is in absurd cc;
+    calling = λ some. let e = comes.calling some in absurd cc;
+    waits = λ blocked. tt;
+    called = λ at idle. absurd (comes.job at idle);
+  }
+  at_once-wherever at_once.Called (made, makes) =
+      let may = makes.may in
+      record {
+        ended = λ ended. absurd (call-no_end made.node made.args may.next ended);
+        calling = λ some. absurd (false≢true (sym (ap (λ o. is_some o) makes.idle) ∙ some));
+        waits = λ blocked. absurd (blocked-no_call blocked (made.node, made.args, may.next));
+        called = λ at idle. refl;
+      }
+  at_once-wherever at_once.Went has = let comes = comes-wherever Went has in record {
+    ended = λ is. let e = comes.ended is in absurd cc;
+    calling = λ some. let e = comes.calling some in absurd cc;
+    waits = comes.waits;
+    called = λ at idle. absurd (comes.job at idle);
+  }
+
+  pub at_once-if_ok : {E : Type 0} (r : Result AtOnce E) → IfOk r (HasSteppedAtOnce meaning old new flow)
+      → IfOk r (ComesAtOnceWherever meaning old flow)
+  at_once-if_ok (Ok step) h = at_once-wherever step h
+  at_once-if_ok (Err e) h = tt

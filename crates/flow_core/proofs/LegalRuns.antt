@@ -34,11 +34,12 @@ use Rattle.flow_state.specs.Calls.{IsNextCall, made_of}
 use Rattle.flow_state.proofs.Agreeing.{answers-agree}
 use Rattle.flow_core.specs.States.{CoreState, setup_in, begun_by, opened, IsKept}
 use Rattle.flow_core.specs.declared.cores.Step.TheVariants as steps
+use Rattle.flow_core.specs.declared.cores.AtOnce.TheVariants as at_once
 use Rattle.flow_core.specs.declared.cores.Finish.TheVariants as finishes
 use Rattle.flow_state.proofs.Sets.{length-replaced}
 use Rattle.flow_state.proofs.Tables.{not-both}
-use Rattle.flow_core.specs.Moves.{with_entry, with_begun, MakesEvent, AddsWait, BeginsCall, FinishesCall, MakesCall}
-use Rattle.flow_core.specs.Laws.{IsAnswerAtBegin, IsAnswerNow, EndsCall, IsMoveOf, made_event, added_wait, begun_call, ended_call, IsRun, RunsAreLegal, StepsAreMoves, FinishesAreMoves, NoneLiveIsWhole}
+use Rattle.flow_core.specs.Moves.{with_entry, with_begun, MakesEvent, AddsWait, BeginsCall, FinishesCall, CallsAtOnce}
+use Rattle.flow_core.specs.Laws.{IsAnswerAtBegin, IsAnswerNow, EndsCall, IsMoveOf, made_event, added_wait, begun_call, ended_call, made_call, IsRun, RunsAreLegal, StepsAreMoves, StepsAtOnceAreMoves, FinishesAreMoves, NoneLiveIsWhole}
 use Rattle.flow_state.proofs.Ended.{has_ended-whole, none-all}
 
 -- ---- the answer on the cells of now
@@ -133,7 +134,7 @@ module _ {L : Type 0} (meaning : L → LibraryMeaning) (old : CoreState L) (kept
         subst (IsKept meaning) (sym adds.new_) (kept-entry (Wait key mode)
         (wait_is_legal setup old.entries flow key mode kept.legal may) (idle-next (Take key mode) may.next))
 
-    pub kept-call : (made : CallMade) (new : CoreState L) → MakesCall meaning old new flow made → IsKept meaning new
+    pub kept-call : (made : CallMade) (new : CoreState L) → CallsAtOnce meaning old new flow made → IsKept meaning new
     kept-call made new makes = subst (IsKept meaning) (sym makes.new_)
         (kept-entry (Call made) (call_is_legal setup old.entries flow made kept.legal makes.may) idle)
       where
@@ -198,6 +199,7 @@ module _ {L : Type 0} (meaning : L → LibraryMeaning) (old : CoreState L) (kept
     kept-move new (added_wait key mode adds) = kept-wait key mode new adds
     kept-move new (begun_call inputs begins) = kept-begin inputs new begins
     kept-move new (ended_call inputs answer ends) = kept-finish inputs answer new ends
+    kept-move new (made_call made makes) = kept-call made new makes
 
 -- ---- runs
 
@@ -257,6 +259,16 @@ steps_are_moves meaning old new flow (steps.Waits key holder) waited = by waited
     by (inr (place, stands, same)) = inl same
 steps_are_moves meaning old new flow (steps.Job job) begun = inr (begun_call begun.inputs begun.begins)
 steps_are_moves meaning old new flow steps.Went (event, makes) = inr (made_event event makes)
+
+pub steps_at_once_are_moves : {L : Type 0} (meaning : L → LibraryMeaning) → StepsAtOnceAreMoves meaning
+steps_at_once_are_moves meaning old new flow at_once.Ended has =
+    steps_are_moves meaning old new flow steps.Ended has
+steps_at_once_are_moves meaning old new flow at_once.Calling has =
+    steps_are_moves meaning old new flow steps.Calling has
+steps_at_once_are_moves meaning old new flow (at_once.Waits key holder) has =
+    steps_are_moves meaning old new flow (steps.Waits key holder) has
+steps_at_once_are_moves meaning old new flow at_once.Called (made, makes) = inr (made_call made makes)
+steps_at_once_are_moves meaning old new flow at_once.Went has = steps_are_moves meaning old new flow steps.Went has
 
 pub finishes_are_moves : {L : Type 0} (meaning : L → LibraryMeaning) → FinishesAreMoves meaning
 finishes_are_moves meaning old new flow inputs answer finishes.Went finished =

@@ -35,7 +35,7 @@ use Rattle.flow_state.proofs.Fitting.{ready-of}
 use Rattle.flow_state.proofs.Tables.{stands-next}
 use Rattle.flow_core.specs.declared.fields.Fields.{Fields}
 use Rattle.flow_core.specs.States.{CoreState, setup_in, begun_by, opened, IsKept}
-use Rattle.flow_core.specs.Moves.{with_entry, with_begun, MakesEvent, AddsWait, BeginsCall, FinishesCall, MakesCall, HasWaited}
+use Rattle.flow_core.specs.Moves.{with_entry, with_begun, MakesEvent, AddsWait, BeginsCall, FinishesCall, CallsAtOnce, HasWaited}
 use Rattle.flow_core.specs.steps.Fields.{core_of, AreFields}
 use Rattle.flow_core.proofs.LegalRuns.{kept-opened, kept-event, kept-wait, kept-call, kept-begin, kept-finish, ends-finished}
 
@@ -232,7 +232,7 @@ module _ {L : Type 0} (meaning : L → LibraryMeaning) (r : Fields L) (is : AreF
     -- a call that is made at once
     module _ (made : CallMade) (idle : begun_by (core_of r) flow.0 ≡ None) (new : FlowState L)
         (adds : states.AddsCall meaning state new flow made) (journal : Journal) where
-      pub makes-call : MakesCall meaning (core_of r) (core_of (Written new journal)) flow made
+      pub makes-call : CallsAtOnce meaning (core_of r) (core_of (Written new journal)) flow made
       makes-call = record { idle = idle; may = adds.may; new_ = core-written (Call made) new adds.new_ journal }
 
       pub call-running : journal.entries ≡ (let old = r.journal in old.entries) ++ record {

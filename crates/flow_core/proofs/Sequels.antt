@@ -8,7 +8,6 @@ use Rattle.flux_values.specs.declared.answers.Answer.{Answer}
 use Rattle.flux_values.specs.Meanings.{LibraryMeaning}
 use Rattle.flux_model.specs.declared.items.FlowNo.{FlowNo}
 use Rattle.flow_model.specs.Legal.{IsLegal}
-use Rattle.flow_model.specs.declared.journals.CallMade.{CallMade}
 use Rattle.flow_model.specs.declared.journals.Entry.{Entry}
 use Rattle.flow_model.specs.declared.journals.Event.{Event}
 use Rattle.flow_model.specs.declared.journals.Event.TheVariants.{Wait, Call}
@@ -17,14 +16,12 @@ use Rattle.flow_state.specs.States.{setup_by}
 use Rattle.flow_state.specs.Calls.{made_of}
 use Rattle.flow_core.specs.declared.cores.Finish.TheVariants.{Went}
 use Rattle.flow_core.specs.declared.cores.Step.{Step}
-use Rattle.flow_core.specs.declared.cores.Step.TheVariants as steps
 use Rattle.flow_core.specs.declared.cores.AtOnce.{AtOnce}
-use Rattle.flow_core.specs.declared.cores.AtOnce.TheVariants as at_once
 use Rattle.flow_core.specs.States.{CoreState, setup_in, begun_by}
-use Rattle.flow_core.specs.Moves.{with_entry, HasStepped, HasSteppedAtOnce, MakesCall, FinishesCall}
+use Rattle.flow_core.specs.Moves.{with_entry, HasStepped, HasSteppedAtOnce, FinishesCall}
 use Rattle.flow_core.specs.Runs.{SameSetting, LeavesOthers, GoesOn, GoesOnLegally}
-use Rattle.flow_core.specs.Laws.{IsMoveOf, made_event, added_wait, begun_call, ended_call}
-use Rattle.flow_core.proofs.LegalRuns.{steps_are_moves, finishes_are_moves}
+use Rattle.flow_core.specs.Laws.{IsMoveOf, made_event, added_wait, begun_call, ended_call, made_call}
+use Rattle.flow_core.proofs.LegalRuns.{steps_are_moves, steps_at_once_are_moves, finishes_are_moves}
 use Rattle.flow_state.proofs.Sets.{get-replaced_other}
 
 pub on-same : {L : Type 0} (old : CoreState L) → GoesOn old old
@@ -95,6 +92,7 @@ module _ {L : Type 0} (meaning : L → LibraryMeaning) (old new : CoreState L) (
     more = record { flow = flow; event = Call (made_of inputs answer) } ∷ [];
     added = refl;
   })
+  on-move (made_call made makes) = subst (GoesOn old) (sym makes.new_) (on-entry (Call made))
 
   others-stay : (call : Option Inputs) (other : ℕ) → flow.0 ≢ other
       → option_flatten (slice_get (slice_set old.begun flow.0 call) other) ≡ begun_by old other
@@ -109,6 +107,8 @@ module _ {L : Type 0} (meaning : L → LibraryMeaning) (old new : CoreState L) (
       (record { setting = record { setup_ = refl; halted_ = refl }; others = others-stay (Some inputs) })
   leaves-move (ended_call inputs answer ends) = subst (λ core. LeavesOthers old core flow) (sym ends.new_)
       (record { setting = record { setup_ = refl; halted_ = refl }; others = others-stay None })
+  leaves-move (made_call made makes) = subst (λ core. LeavesOthers old core flow) (sym makes.new_)
+      (record { setting = record { setup_ = refl; halted_ = refl }; others = λ other apart. refl })
 
   on-moves : (new ≡ old) ⊎ IsMoveOf meaning old new flow → GoesOn old new
   on-moves (inl same) = subst (GoesOn old) (sym same) (on-same old)
@@ -130,37 +130,14 @@ module _ {L : Type 0} (meaning : L → LibraryMeaning) (old new : CoreState L) (
   step-leaves (Err e) ok err = leaves-moves (inl err)
 
   -- behind a step at once
-  call-on : (made : CallMade) → MakesCall meaning old new flow made → GoesOn old new
-  call-on made makes = subst (GoesOn old) (sym makes.new_) (on-entry (Call made))
-
-  call-leaves : (made : CallMade) → MakesCall meaning old new flow made → LeavesOthers old new flow
-  call-leaves made makes = subst (λ core. LeavesOthers old core flow) (sym makes.new_)
-      (record { setting = record { setup_ = refl; halted_ = refl }; others = λ other apart. refl })
-
-  on-at_once : (step : AtOnce) → HasSteppedAtOnce meaning old new flow step → GoesOn old new
-  on-at_once at_once.Ended has = on-moves (steps_are_moves meaning old new flow steps.Ended has)
-  on-at_once at_once.Calling has = on-moves (steps_are_moves meaning old new flow steps.Calling has)
-  on-at_once (at_once.Waits key holder) has =
-      on-moves (steps_are_moves meaning old new flow (steps.Waits key holder) has)
-  on-at_once at_once.Called (made, makes) = call-on made makes
-  on-at_once at_once.Went has = on-moves (steps_are_moves meaning old new flow steps.Went has)
-
-  leaves-at_once : (step : AtOnce) → HasSteppedAtOnce meaning old new flow step → LeavesOthers old new flow
-  leaves-at_once at_once.Ended has = leaves-moves (steps_are_moves meaning old new flow steps.Ended has)
-  leaves-at_once at_once.Calling has = leaves-moves (steps_are_moves meaning old new flow steps.Calling has)
-  leaves-at_once (at_once.Waits key holder) has =
-      leaves-moves (steps_are_moves meaning old new flow (steps.Waits key holder) has)
-  leaves-at_once at_once.Called (made, makes) = call-leaves made makes
-  leaves-at_once at_once.Went has = leaves-moves (steps_are_moves meaning old new flow steps.Went has)
-
   pub at_once-on : {E : Type 0} (r : Result AtOnce E) → IfOk r (HasSteppedAtOnce meaning old new flow)
       → OnErr r (new ≡ old) → GoesOn old new
-  at_once-on (Ok step) ok err = on-at_once step ok
+  at_once-on (Ok step) ok err = on-moves (steps_at_once_are_moves meaning old new flow step ok)
   at_once-on (Err e) ok err = on-moves (inl err)
 
   pub at_once-leaves : {E : Type 0} (r : Result AtOnce E) → IfOk r (HasSteppedAtOnce meaning old new flow)
       → OnErr r (new ≡ old) → LeavesOthers old new flow
-  at_once-leaves (Ok step) ok err = leaves-at_once step ok
+  at_once-leaves (Ok step) ok err = leaves-moves (steps_at_once_are_moves meaning old new flow step ok)
   at_once-leaves (Err e) ok err = leaves-moves (inl err)
 
   -- behind a finished call

@@ -6,6 +6,7 @@ use Rattle.flux_values.specs.declared.answers.Mode.{Mode}
 use Rattle.flux_values.specs.Meanings.{LibraryMeaning}
 use Rattle.flux_library.specs.Libraries.{IsLawful}
 use Rattle.flux_model.specs.declared.programs.Program.{Program}
+use Rattle.flow_model.specs.declared.journals.CallMade.{CallMade}
 use Rattle.flow_model.specs.declared.journals.Event.{Event}
 use Rattle.flow_model.specs.declared.journals.Event.TheVariants.{Call}
 use Rattle.flux_model.specs.declared.items.FlowNo.{FlowNo}
@@ -22,8 +23,9 @@ use Rattle.flow_core.specs.States.{CoreState, setup_in, begun_by, opened, IsKept
 use Rattle.flow_model.specs.Legal.{IsWhole}
 use Rattle.flow_core.specs.Runs.{live_count}
 use Rattle.flow_core.specs.declared.cores.Step.{Step}
+use Rattle.flow_core.specs.declared.cores.AtOnce.{AtOnce}
 use Rattle.flow_core.specs.declared.cores.Finish.{Finish}
-use Rattle.flow_core.specs.Moves.{with_entry, with_begun, MakesEvent, AddsWait, BeginsCall, HasStepped, HasFinished}
+use Rattle.flow_core.specs.Moves.{with_entry, with_begun, MakesEvent, AddsWait, BeginsCall, CallsAtOnce, HasStepped, HasSteppedAtOnce, HasFinished}
 
 -- ---- answers of begun calls
 
@@ -49,12 +51,13 @@ module _ {L : Type 0} (meaning : L → LibraryMeaning) (old new : CoreState L) w
         ⊎ IsAnswerNow meaning old flow inputs answer
     pub new_ : new ≡ with_begun (with_entry old flow (Call (made_of inputs answer))) flow None
 
-  -- a move of a flow: an event, a wait, the begin of a call, or its end
+  -- a move of a flow: an event, a wait, the begin of a call, its end, or a call that is made at once
   pub data IsMoveOf (flow : FlowNo) : Type 0 where
     made_event : (event : Event) → MakesEvent meaning old new flow event → IsMoveOf flow
     added_wait : (key : Key) (mode : Mode) → AddsWait meaning old new flow key mode → IsMoveOf flow
     begun_call : (inputs : Inputs) → BeginsCall meaning old new flow inputs → IsMoveOf flow
     ended_call : (inputs : Inputs) (answer : Answer) → EndsCall flow inputs answer → IsMoveOf flow
+    made_call : (made : CallMade) → CallsAtOnce meaning old new flow made → IsMoveOf flow
 
   -- a move of some flow
   abbrev pub IsMove : Type 0
@@ -93,6 +96,11 @@ NoneLiveIsWhole {L} meaning = (core : CoreState L) → IsKept meaning core → l
 abbrev pub StepsAreMoves : {L : Type 0} → (L → LibraryMeaning) → Type 0
 StepsAreMoves {L} meaning = (old new : CoreState L) (flow : FlowNo) (step : Step L)
     → HasStepped meaning old new flow step → (new ≡ old) ⊎ IsMoveOf meaning old new flow
+
+-- so is what a step at once does
+abbrev pub StepsAtOnceAreMoves : {L : Type 0} → (L → LibraryMeaning) → Type 0
+StepsAtOnceAreMoves {L} meaning = (old new : CoreState L) (flow : FlowNo) (step : AtOnce)
+    → HasSteppedAtOnce meaning old new flow step → (new ≡ old) ⊎ IsMoveOf meaning old new flow
 
 -- and so is what a finished call does
 abbrev pub FinishesAreMoves : {L : Type 0} → (L → LibraryMeaning) → Type 0

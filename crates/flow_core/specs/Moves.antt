@@ -64,7 +64,7 @@ module _ {L : Type 0} (meaning : L → LibraryMeaning) (old new : CoreState L) (
     pub new_ : new ≡ with_begun (with_entry old flow (events.Call made)) flow None
 
   -- the flow's next event, a call that isn't begun, is added with its node's answer on the cells of this moment
-  pub record MakesCall (made : CallMade) : Type 0 where
+  pub record CallsAtOnce (made : CallMade) : Type 0 where
     pub idle : begun_by old flow.0 ≡ None
     pub may : MayCall (setup_in meaning old) old.entries flow made
     pub new_ : new ≡ with_entry old flow (events.Call made)
@@ -102,12 +102,12 @@ module _ {L : Type 0} (meaning : L → LibraryMeaning) (old new : CoreState L) (
   HasStepped (Job job) = HasBegun job
   HasStepped Went = (event : Event) × MakesEvent event
 
-  -- a step at once makes a call that would be begun, and does else what a step does
+  -- a step at once makes the call that a step would begin, and else does what a step does
   abbrev pub HasSteppedAtOnce : AtOnce → Type 0
   HasSteppedAtOnce at_once.Ended = HasStepped Ended
   HasSteppedAtOnce at_once.Calling = HasStepped Calling
   HasSteppedAtOnce (at_once.Waits key holder) = HasStepped (Waits key holder)
-  HasSteppedAtOnce at_once.Called = (made : CallMade) × MakesCall made
+  HasSteppedAtOnce at_once.Called = (made : CallMade) × CallsAtOnce made
   HasSteppedAtOnce at_once.Went = HasStepped Went
 
   -- ---- what a finished call does
@@ -140,3 +140,21 @@ pub record ComesWherever {L : Type 0} (meaning : L → LibraryMeaning) (old : Co
   pub calling : IsSome (begun_by old flow.0) → step ≡ Calling
   pub waits : IsBlocked (setup_in meaning old) old.entries flow.0 → IsWaits step
   pub job : IsAtCall (setup_in meaning old) old.entries flow.0 → begun_by old flow.0 ≡ None → IsJob step
+
+-- ---- and which step at once
+
+abbrev pub IsWaitsAtOnce : AtOnce → Type 0
+IsWaitsAtOnce at_once.Ended = ⊥
+IsWaitsAtOnce at_once.Calling = ⊥
+IsWaitsAtOnce (at_once.Waits key holder) = ⊤
+IsWaitsAtOnce at_once.Called = ⊥
+IsWaitsAtOnce at_once.Went = ⊥
+
+-- these four come wherever their cause is, too
+pub record ComesAtOnceWherever {L : Type 0} (meaning : L → LibraryMeaning) (old : CoreState L) (flow : FlowNo)
+    (step : AtOnce) : Type 0 where
+  pub ended : has_ended old.entries flow.0 ≡ true → step ≡ at_once.Ended
+  pub calling : IsSome (begun_by old flow.0) → step ≡ at_once.Calling
+  pub waits : IsBlocked (setup_in meaning old) old.entries flow.0 → IsWaitsAtOnce step
+  pub called : IsAtCall (setup_in meaning old) old.entries flow.0 → begun_by old flow.0 ≡ None
+      → step ≡ at_once.Called

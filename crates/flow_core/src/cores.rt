@@ -11,7 +11,7 @@ ghost use Rattle.flow_state.specs.Calls.{library_name};
 ghost use Rattle.flow_state.specs.Blockers.{IsBlockedAt};
 ghost use Rattle.flow_state.specs.Lines.{IsStop, IsWay, IsLineAt};
 ghost use Rattle.flow_core.specs.States.{setup_in, begun_by, opened, IsKept};
-ghost use Rattle.flow_core.specs.Moves.{HasStepped, HasSteppedAtOnce, HasFinished, ComesWherever, job_of};
+ghost use Rattle.flow_core.specs.Moves.{HasStepped, HasSteppedAtOnce, HasFinished, ComesWherever, ComesAtOnceWherever, job_of};
 ghost use Rattle.flow_core.specs.Runs.{live_count, GoesOn, LeavesOthers};
 
 use crate::calls::{CallDone, Job};
@@ -42,7 +42,7 @@ pub enum Step<L: Library> {
     Went,
 }
 
-/// What a step did that makes calls at once.
+/// What a step at once did.
 #[derive(Clone, Copy, PartialEq, Eq)]
 pub enum AtOnce {
     /// Nothing: the flow has had its `end`.
@@ -53,7 +53,7 @@ pub enum AtOnce {
     Waits { key: Key, holder: FlowNo },
     /// The flow's next event, a call, was made.
     Called,
-    /// The flow's next event was made, which is no call.
+    /// The flow's next event, which is no call, was made.
     Went,
 }
 
@@ -115,11 +115,11 @@ impl<L: Library> Core<L> {
         self.fields.step(flow)
     }
 
-    /// Lets a flow do what comes next, as `step` does, but makes a call at once: it is begun nowhere, and nothing is kept of
-    /// it but its entry. The gate is called before and after the call.
+    /// Does what `step` does, but makes a call at once: none is begun. The gate is called before and after the call.
     pub fn step_at_once<G: Gate>(&mut self, gate: &G, flow: FlowNo) -> Result<AtOnce, Memory>
         requires { flow.0 < length self.old.setup.items }
         ensures ok { IfOk result (HasSteppedAtOnce L.meaning self.old self.new flow) }
+        ensures each { IfOk result (ComesAtOnceWherever L.meaning self.old flow) }
         ensures err { OnErr result (self.new ≡ self.old) }
         ensures on { GoesOn self.old self.new }
         ensures others { LeavesOthers self.old self.new flow }
@@ -213,7 +213,7 @@ impl<L: Library> Core<L> {
 }
 
 impl<L: Library> Core<L> {
-    /// Whether a flow can go on.
+    /// Whether a flow has ended, is blocked, or is neither; whether its call is begun isn't asked.
     pub fn way(&self, flow: FlowNo) -> Way
         requires { flow.0 < length self.now.setup.items }
         ensures { IsWay (setup_in L.meaning self.now) self.now.entries flow.0 result }

@@ -1,4 +1,4 @@
-//! How calls are begun and finished.
+//! How calls are begun and finished, or made at once.
 
 ghost use Rattle.std.specs.Prelude.{◌≡◌, ◌<◌, ◌↔◌, [], ◌∷◌, ◌++◌, Some, None, length, IsTrue, IsSome, IfOk, OnOk, OnErr, option_map};
 ghost use Rattle.flow_model.specs.declared.journals.CallMade.{CallMade};
@@ -9,7 +9,7 @@ ghost use Rattle.flow_state.specs.Coming.{IsComing};
 ghost use Rattle.flow_state.specs.Calls.{IsReady, IsNextCall, IsAnswerOf, made_of};
 ghost use Rattle.flow_state.specs.Moves.{AddsCall};
 ghost use Rattle.flow_core.specs.States.{setup_in, begun_by};
-ghost use Rattle.flow_core.specs.Moves.{FinishesCall, HasBegun, MakesCall, job_of};
+ghost use Rattle.flow_core.specs.Moves.{FinishesCall, HasBegun, CallsAtOnce, job_of};
 ghost use Rattle.flow_core.specs.steps.Fields.{core_of, AreFields};
 
 use crate::calls::{Begun, Job, answer_of};
@@ -156,15 +156,14 @@ impl<L: Library> Fields<L> {
         requires idle { begun_by (core_of self.old) flow.0 ≡ None }
         ensures fields { AreFields L.meaning self.new }
         ensures ok { OnOk result ((made : CallMade)
-            × MakesCall L.meaning (core_of self.old) (core_of self.new) flow made) }
+            × CallsAtOnce L.meaning (core_of self.old) (core_of self.new) flow made) }
         ensures err { OnErr result (core_of self.new ≡ core_of self.old) }
     {
         let inputs = self.state.inputs(flow, node)?;
         gate.before(flow, node);
         let answer = self.answer_to(&inputs);
         gate.after(flow, node);
-        let (state, journal) = (&mut self.state, &mut self.journal);
-        add_call(state, journal, flow, &inputs, &answer?)?;
+        add_call(&mut self.state, &mut self.journal, flow, &inputs, &answer?)?;
         Ok(())
     }
 

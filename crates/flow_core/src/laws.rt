@@ -1,6 +1,6 @@
 //! What comes of every run of moves, and that a core's calls are such moves.
 
-ghost use Rattle.flow_core.specs.Laws.{RunsAreLegal, StepsAreMoves, FinishesAreMoves, NoneLiveIsWhole};
+ghost use Rattle.flow_core.specs.Laws.{RunsAreLegal, StepsAreMoves, StepsAtOnceAreMoves, FinishesAreMoves, NoneLiveIsWhole};
 
 use flux_library::Library;
 
@@ -10,9 +10,10 @@ pub fn runs_are_legal<L: Library>()
     ensures { RunsAreLegal L.meaning }
 {}
 
-/// What `step` and `finish` do is one such move, or none.
+/// What `step`, `step_at_once` and `finish` do is one such move, or none.
 pub fn calls_are_moves<L: Library>()
     ensures steps { StepsAreMoves L.meaning }
+    ensures at_once { StepsAtOnceAreMoves L.meaning }
     ensures finishes { FinishesAreMoves L.meaning }
 {}
 

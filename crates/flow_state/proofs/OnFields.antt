@@ -27,7 +27,7 @@ use Rattle.flux_plan.specs.declared.locals.Next.TheVariants as nexts
 use Rattle.flux_plan.specs.Moves.{next_in, IsReached, Advances}
 use Rattle.flux_table.specs.Tables.{Locks, holders_of, lines_of}
 use Rattle.flux_table.specs.Blockers as table
-use Rattle.flux_table.specs.Blockers.{MayWait, IsLowestOf}
+use Rattle.flux_table.specs.Blockers.{MayTake, MayWait, IsLowestOf}
 use Rattle.flux_table.specs.Changes.{Takes, Waits, Releases}
 use Rattle.flux_cells.specs.Kept.{cells_of}
 use Rattle.flow_state.specs.declared.places.Place.{Place}
@@ -38,7 +38,7 @@ use Rattle.flow_state.specs.steps.Places.{matches_in, HasPlan, MayAdvance, key_i
 use Rattle.flow_state.specs.steps.Table.{IsUndone}
 use Rattle.flow_state.specs.steps.Fields.{state_of, plans_of, IsAfter, AreFields}
 use Rattle.flow_state.proofs.Entries.{not_waiting-nowhere}
-use Rattle.flow_state.proofs.Tables.{table-back, blocks-to, may-wait, may-release}
+use Rattle.flow_state.proofs.Tables.{table-back, blocks-to, may-take, may-wait, may-release}
 use Rattle.flow_state.proofs.Sets.{replaced-same}
 use Rattle.flow_state.proofs.Ended.{live_in, live-still, live-less, next-goes_on, not-true, live-some}
 use Rattle.flow_state.proofs.AtPlaces.{place-key_for, place-reached, place-may_advance}
@@ -58,11 +58,6 @@ not-call-event key nexts.Ended made h = cc
 pub read-at : (places : List Place) (flow : ℕ) (place : Place) → flow < length places → place ≡ get_or places flow place
     → slice_get places flow ≡ Some place
 read-at places flow place within read = slice_get_read places (length places) flow place refl within read
-
-pub same-read : (places : List Place) (flow : ℕ) (a b : Place) → flow < length places → a ≡ get_or places flow a
-    → b ≡ get_or places flow b → a ≡ b
-same-read places flow a b within one two = let e = sym (read-at places flow a within one) ∙ read-at places flow b within
-    two in cc
 
 module _ {L : Type 0} (meaning : L → LibraryMeaning) (r : Fields L) (is : AreFields meaning r) where
   abbrev setup : Setup
@@ -252,6 +247,10 @@ module _ {L : Type 0} (meaning : L → LibraryMeaning) (r : Fields L) (is : AreF
         (place : Place) (read : place ≡ get_or items flow.0 place) where
       pub take-next : IsNext setup entries flow.0 (Take key mode)
       take-next = next-is (Take key mode) coming place read
+
+      pub may-take-it : MayTake (holders_of r.table) (lines_of r.table) flow.0 key mode
+      may-take-it = let after = is.after in may-take setup entries legal r.table after.table flow.0 key mode
+          (within-items (Take key mode) coming place read) take-next
 
       pub none-blocks : ((other : ℕ) → Blocks entries other flow.0 key mode → ⊥) → (other : ℕ)
           → table.Blocks (holders_of r.table key) (lines_of r.table key) other flow.0 mode → ⊥

@@ -11,7 +11,7 @@ pub struct Stop {
     pub stands: bool,
 }
 
-/// Whether a flow can go on: it has had its `end`, is blocked, or is free to make its next event.
+/// What keeps a flow from its next event: that it has had its `end`, that it is blocked, or nothing that the entries tell.
 #[derive(Clone, Copy, PartialEq, Eq)]
 pub enum Way {
     Ended,

@@ -4,7 +4,7 @@ ghost use Rattle.std.specs.Prelude.{◌≡◌, None, OnOk, OnErr};
 ghost use Rattle.std.specs.Arc.{arc_value};
 ghost use Rattle.flux_plan.specs.Moves.{Advances};
 ghost use Rattle.flux_table.specs.Tables.{holders_of, lines_of};
-ghost use Rattle.flux_table.specs.Blockers.{Blocks, IsLowestOf};
+ghost use Rattle.flux_table.specs.Blockers.{Blocks, IsLowestOf, MayTake};
 ghost use Rattle.flux_table.specs.Changes.{Takes};
 ghost use Rattle.flow_state.specs.steps.Places.{matches_by, HasPlan, MayAdvance};
 ghost use Rattle.flow_state.specs.steps.Table.{IsUndone};
@@ -26,6 +26,7 @@ pub fn take_on<L: Library>(
     key: Key,
     mode: Mode,
 ) -> Result<(), Memory>
+    requires may { MayTake (holders_of table.old) (lines_of table.old) flow.0 key mode }
     requires free { IsLowestOf (λ other.
         Blocks (holders_of table.old key) (lines_of table.old key) other flow.0 mode) None }
     requires comes { let matches = matches_by (L.meaning (arc_value setup.now.library))

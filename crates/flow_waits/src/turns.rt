@@ -1,4 +1,4 @@
-//! A flow's turn: its next move, with its calls run and finished.
+//! A flow's turn: its next move, with its call made.
 
 ghost use Rattle.std.specs.Prelude.{◌≡◌, ◌<◌, length, IfOk, OnOk, OnErr, IsSome};
 ghost use Rattle.flow_core.specs.States.{setup_in, begun_by};
@@ -20,7 +20,7 @@ pub enum Turn {
     InLine,
     /// The wait at its take.
     Waited,
-    /// Its call, run and finished.
+    /// Its call.
     Called,
     /// Another event.
     Went,

@@ -19,7 +19,7 @@ use std::alloc::Global;
 const LAST_LINES: usize = 64;
 /// How many bytes a page is to have.
 const PAGE_LENGTH: usize = 32_768;
-/// How many bytes a page has room for: a sixteenth more, since as many lines may have more than those behind them.
+/// How many bytes a page has room for: a sixteenth more, since its lines may be longer than those it was reckoned by.
 const PAGE_ROOM: usize = 34_816;
 
 /// The one text of a journal in format 1.
@@ -80,11 +80,13 @@ fn print_later(
     Ok(pages)
 }
 
-/// How many lines a page is to have, if they are as long as so many lines of so many bytes.
+/// How many lines a page is to have, if they are as long as so many lines of so many bytes; at most twice as many, as they
+/// may be longer.
 fn lines_in_page(lines: usize, length: usize) -> usize
     ensures { 0 < result }
 {
-    (lines.saturating_mul(PAGE_LENGTH) / length.max(1)).max(1)
+    let more = lines.saturating_mul(PAGE_LENGTH) / length.max(1);
+    more.min(lines.saturating_mul(2)).max(1)
 }
 
 /// The page of the entries from a place on, which are let go.

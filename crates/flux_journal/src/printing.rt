@@ -1,13 +1,13 @@
 //! The text of a journal: one line for each event. And the text of an item.
 
-ghost use Rattle.std.specs.Prelude.{◌≡◌, ◌++◌, [], if◌then◌else◌, IfOk, OnOk, codes, map, length, slice_get};
+ghost use Rattle.std.specs.Prelude.{◌≡◌, ◌++◌, [], if◌then◌else◌, IfOk, OnOk, codes, length, slice_get};
 ghost use Rattle.std.specs.List.{flat_map};
 ghost use Rattle.std.specs.Fmt.{decimal};
 ghost use Rattle.flux_values.specs.Texts.{printed_value, printed_text};
-ghost use Rattle.flux_model.specs.Texts.{node_name, source_name, printed_item, printed_values, comma_separated, printed_mode};
-ghost use Rattle.flow_model.specs.Texts.{printed_key, printed_session, printed_result, printed_put, printed_change, printed_emission, printed_call, printed_exit, printed_end, printed_event, printed_entry, printed_journal};
+ghost use Rattle.flux_model.specs.Texts.{node_name, source_name, printed_item, printed_values, printed_mode};
+ghost use Rattle.flow_model.specs.Texts.{printed_key, printed_session, printed_result, printed_put, printed_change, printed_emission, printed_call, printed_exit, printed_end, printed_entry, printed_journal};
 ghost use Rattle.flux_journal.specs.Formats.{head_line, printed_journal_2};
-ghost use Rattle.flux_journal.specs.Logs.{printed_sent, logged_call, logged_event, logged_entry, printed_log, item_line, printed_batch};
+ghost use Rattle.flux_journal.specs.Logs.{printed_sent, logged_call, logged_entry, printed_log, item_line, printed_batch};
 ghost use Rattle.flux_journal.specs.steps.Listed.{listed, line_end, answered, called};
 ghost use Rattle.flux_journal.specs.steps.KeyPhrases.{key_word};
 

@@ -140,8 +140,9 @@ impl Table {
 
     /// Lets a flow take a key from which no other flow blocks it.
     pub fn take(&mut self, flow: FlowNo, key: Key, mode: Mode) -> Result<(), Memory>
-        requires { IsLowestOf (λ other. Blocks (holders_of self.old key) (lines_of self.old key) other flow.0 mode)
-            None }
+        requires may { MayTake (holders_of self.old) (lines_of self.old) flow.0 key mode }
+        requires free { IsLowestOf (λ other. Blocks (holders_of self.old key) (lines_of self.old key) other flow.0
+            mode) None }
         ensures ok { OnOk result (Takes self.old self.new flow.0 key mode) }
         ensures err { OnErr result (self.new ≡ self.old) }
     {

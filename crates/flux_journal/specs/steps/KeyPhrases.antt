@@ -7,6 +7,7 @@ use Rattle.flux_journal.specs.declared.key_phrases.KeyPhrase.TheVariants.{Take, 
 use Rattle.flux_journal.specs.declared.key_phrases.KeyPhrases.{KeyPhrases}
 use Rattle.flux_journal.specs.declared.key_phrases.ClassPhrases.{ClassPhrases}
 
+-- the word of a phrase, with its blanks
 abbrev pub key_word : KeyPhrase → List ℕ
 key_word Take = codes " take "
 key_word Wait = codes " wait "
@@ -17,6 +18,7 @@ abbrev pub key_mark : Bool → List ℕ
 key_mark true = codes "@"
 key_mark false = []
 
+-- the word, the class's name and the mark
 abbrev pub key_text : KeyPhrase → Bool → List ℕ → List ℕ
 key_text phrase numbered name = key_word phrase ++ name ++ key_mark numbered
 
@@ -31,6 +33,7 @@ abbrev pub class_text_in : ClassPhrases → Bool → KeyPhrase → List ℕ
 class_text_in phrases true phrase = key_text_in phrases.numbered phrase
 class_text_in phrases false phrase = key_text_in phrases.plain phrase
 
+-- the phrases of a class's keys, with a number or without
 abbrev pub key_phrases_with : Bool → List ℕ → KeyPhrases
 key_phrases_with numbered name = record {
   taking = key_text Take numbered name;
@@ -38,6 +41,7 @@ key_phrases_with numbered name = record {
   dropping = key_text Drop numbered name;
 }
 
+-- those of a class
 abbrev pub class_phrases_of : Class → ClassPhrases
 class_phrases_of class = record {
   plain = key_phrases_with false class.name;

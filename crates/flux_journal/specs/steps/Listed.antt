@@ -22,10 +22,11 @@ abbrev pub separator : List Value → List ℕ
 separator [] = []
 separator (value ∷ values) = codes ", "
 
--- a call as far as its result, and without what it emits
+-- a call as far as its result
 abbrev pub answered : Program → CallMade → List ℕ
 answered p made =
     codes "call " ++ node_name p made.node ++ codes " " ++ printed_values made.args ++ codes " " ++ printed_result made.answer.result
 
+-- and with its puts
 abbrev pub called : Program → CallMade → List ℕ
 called p made = answered p made ++ flat_map printed_put made.answer.puts

@@ -6,6 +6,7 @@ use Rattle.flux_journal.specs.declared.phrases.Phrase.{Phrase}
 use Rattle.flux_journal.specs.declared.phrases.Phrase.TheVariants.{Enter, Call, Exit, Done}
 use Rattle.flux_journal.specs.declared.phrases.NodePhrases.{NodePhrases}
 
+-- how a node's line goes on behind its flow's number
 abbrev pub phrase_text : Phrase → List ℕ → List ℕ
 phrase_text Enter name = codes " enter " ++ name ++ codes "\n"
 phrase_text Call name = codes " call " ++ name ++ codes " ("
@@ -19,6 +20,7 @@ text_in phrases Call = phrases.call
 text_in phrases Exit = phrases.exit
 text_in phrases Done = phrases.done
 
+-- all phrases of a name
 abbrev pub phrases_with : List ℕ → NodePhrases
 phrases_with name = record {
   enter = phrase_text Enter name;
@@ -27,6 +29,7 @@ phrases_with name = record {
   done = phrase_text Done name;
 }
 
+-- those of a node
 abbrev pub phrases_of : Node → NodePhrases
 phrases_of node = phrases_with node.name
 

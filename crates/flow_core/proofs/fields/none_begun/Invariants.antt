@@ -1,4 +1,4 @@
-use Rattle.std.proofs.Common.{◌≡◌, List, Option, None, map, take}
+use Rattle.std.proofs.Common.{◌≡◌, Option, None, map, take}
 use Rattle.flux_model.specs.declared.items.Item.{Item}
 use Rattle.flow_state.specs.declared.inputs.Inputs.{Inputs}
 use Rattle.flow_core.proofs.fields.none_begun.Given as goal

@@ -1,7 +1,7 @@
 use Rattle.std.proofs.Common.{false, refl}
 use Rattle.flow_model.specs.declared.journals.Event.TheVariants as events
 use Rattle.flow_state.specs.declared.places.Place.{Place}
-use Rattle.flow_state.proofs.OnFields.{may-advance, none-blocks, take-moved, still-running, moved-makes, moved-goes_on}
+use Rattle.flow_state.proofs.OnFields.{may-advance, may-take-it, none-blocks, take-moved, still-running, moved-makes, moved-goes_on}
 use Rattle.flow_state.proofs.fields.Fields.get_behind.Goals as goal
 
 pub advance-requires : goal.advance-requires
@@ -10,8 +10,13 @@ advance-requires g c =
     (may-advance g.L.Meaning.meaning c.args.self.now c.requires.fields c.args.flow (events.Take c.args.key c.args.mode)
     c.requires.coming c.index_mut-place.result.now c.index_mut-place.ensures.value)
 
-pub take-requires : goal.take-requires
-take-requires g c =
+pub take-requires-clause-may : goal.take-requires-clause-may
+take-requires-clause-may g c =
+    may-take-it g.L.Meaning.meaning c.args.self.now c.requires.fields c.args.flow c.args.key c.args.mode
+    c.requires.coming c.index_mut-place.result.now c.index_mut-place.ensures.value
+
+pub take-requires-clause-free : goal.take-requires-clause-free
+take-requires-clause-free g c =
     none-blocks g.L.Meaning.meaning c.args.self.now c.requires.fields c.args.flow c.args.key c.args.mode
     c.requires.coming c.index_mut-place.result.now c.index_mut-place.ensures.value c.requires.free
 

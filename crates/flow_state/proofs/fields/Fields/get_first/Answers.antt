@@ -1,8 +1,13 @@
 use Rattle.std.proofs.Common.{refl}
 use Rattle.flow_model.specs.declared.journals.Event.TheVariants as events
 use Rattle.flow_state.specs.declared.places.Place.{Place}
-use Rattle.flow_state.proofs.OnFields.{at-place, may-advance, none-blocks, take-moved, undone-running, moved-makes, moved-goes_on}
+use Rattle.flow_state.proofs.OnFields.{at-place, may-advance, may-take-it, none-blocks, take-moved, undone-running, moved-makes, moved-goes_on}
 use Rattle.flow_state.proofs.fields.Fields.get_first.Goals as goal
+
+pub take_on-requires-clause-may : goal.take_on-requires-clause-may
+take_on-requires-clause-may g c =
+    may-take-it g.L.Meaning.meaning c.args.self.now c.requires.fields c.args.flow c.args.key c.args.mode
+    c.requires.coming c.index_mut-place.result.now c.index_mut-place.ensures.value
 
 pub take_on-requires-clause-free : goal.take_on-requires-clause-free
 take_on-requires-clause-free g c =

@@ -14,7 +14,7 @@ there c =
 
 pub take-requires : goal.take-requires
 take-requires c =
-    subst (λ o. IsLowestOf (λ other. Blocks (holding_in o) (line_in o) other c.args.flow.0 c.args.mode) None) (there c) c.requires
+    subst (λ o. IsLowestOf (λ other. Blocks (holding_in o) (line_in o) other c.args.flow.0 c.args.mode) None) (there c) c.requires.free
 
 pub returns-in-Some-clause-ok : goal.returns-in-Some-clause-ok
 returns-in-Some-clause-ok c =
