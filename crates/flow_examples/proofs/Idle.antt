@@ -1,6 +1,6 @@
 -- Who is blocked beside a call that is run elsewhere.
-use Rattle.std.proofs.Common.{◌≡◌, ℕ, zero, suc, inl, inr, List, [], ◌∷◌, refl, arith}
-use Rattle.std.specs.Prelude.{Option, Some, None}
+use Rattle.std.proofs.Common.{zero, suc, inl, inr, List, [], ◌∷◌, refl, arith}
+use Rattle.std.specs.Prelude.{None}
 use Rattle.flux_values.specs.declared.answers.Mode.TheVariants.{Writer}
 use Rattle.flow_model.specs.declared.journals.Event.{Event}
 use Rattle.flow_model.specs.declared.journals.Event.TheVariants.{Take, Enter, End}

@@ -5,3 +5,4 @@ mod Legality
 mod Orders
 mod Rounds
 mod Idle
+mod AtOnce

@@ -1,19 +1,15 @@
 -- Why a journal is in an order, and why others aren't.
-use Rattle.std.proofs.Common.{◌≡◌, ◌<◌, ◌⊎◌, ℕ, zero, suc, ap, inl, inr, List, [], ◌∷◌, ◌++◌, drop, refl, sym, subst, ◌∙◌, arith}
-use Rattle.std.specs.List.{Contains}
-use Rattle.flux_values.specs.declared.answers.Mode.{Mode}
+use Rattle.std.proofs.Common.{◌≡◌, ◌<◌, ℕ, zero, suc, ap, inl, inr, List, [], ◌∷◌, ◌++◌, drop, sym, subst, ◌∙◌, arith}
 use Rattle.flux_model.specs.declared.items.FlowNo.{FlowNo}
 use Rattle.flow_model.specs.declared.journals.Entry.{Entry}
 use Rattle.flow_model.specs.declared.journals.Event.{Event}
 use Rattle.flow_model.specs.declared.journals.Event.TheVariants.{Enter, Wait}
-use Rattle.flow_model.specs.declared.journals.Outcome.{Outcome}
 use Rattle.flow_model.specs.Events.{IsLive}
-use Rattle.flow_model.specs.Waits.{StandsAt}
 use Rattle.flux_laws.specs.Going.{IsBlocked, CanGoOn}
-use Rattle.flow_orders.specs.Turns.{IsInLine, MakesMove}
+use Rattle.flow_orders.specs.Turns.{MakesMove}
 use Rattle.flow_orders.specs.Drains.{DrainsTo}
-use Rattle.flow_orders.specs.Round.{EndsTurn, IsOnTurn, HasHadTurn, LooksFrom, HasTurn}
-use Rattle.flow_orders.specs.Follow.{Rests, IsTurn}
+use Rattle.flow_orders.specs.Round.{EndsTurn, IsOnTurn, LooksFrom, HasTurn}
+use Rattle.flow_orders.specs.Follow.{IsTurn}
 use Rattle.flow_examples.proofs.Ends.{nothing_past}
 use Rattle.flow_examples.specs.Small.{no, by}
 use Rattle.flow_examples.specs.Orders.{side_by_side, RoundBeginsWithTheFirst, TurnsLast, ListedComeFirst, LowestComesFirst}

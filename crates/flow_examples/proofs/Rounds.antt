@@ -1,5 +1,5 @@
 -- Why the journal of one flow is what the event loop makes of it.
-use Rattle.std.proofs.Common.{◌≡◌, ◌<◌, ◌⊎◌, ℕ, zero, suc, ap, inl, inr, List, [], ◌∷◌, ◌++◌, drop, take, refl, sym, subst, ◌∙◌, arith}
+use Rattle.std.proofs.Common.{◌≡◌, ℕ, zero, suc, ap, inl, inr, List, [], ◌∷◌, ◌++◌, drop, take, refl, sym, subst, ◌∙◌, arith}
 use Rattle.std.specs.List.{Contains}
 use Rattle.std.proofs.lemmas.List.{append_assoc}
 use Rattle.flux_values.specs.declared.answers.CallResult.TheVariants as results

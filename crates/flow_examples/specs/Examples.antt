@@ -6,6 +6,8 @@ use Rattle.flow_examples.specs.Orders.{OneFlowGoesRound, RoundBeginsWithTheFirst
 use Rattle.flow_examples.specs.Idle.{OthersAreBlocked, HolderCanGoOn}
 use Rattle.flow_examples.specs.Legality.{FailedIsWhole, OthersAnswersAreRefused, BegunIsNotWhole}
 use Rattle.flow_examples.specs.Shared.{AnswersAreCarried, NoValueIsMade, NoValueIsLost}
+use Rattle.flow_examples.specs.AtOnce.{CallIsMade, BegunCallWaits, BegunCallIsNotMade, HeldIsBlocked, HeldIsNotFree}
+use Rattle.flow_examples.specs.KeptKeys.{KeysAreKept, NoNumberIsLost, NoNumberIsMade}
 use Rattle.flow_examples.specs.Paging.{PagesAreJoined, NoPageIsLost, NoPageIsTwice, NoPageIsMoved}
 
 pub record Examples : Type 0 where
@@ -23,6 +25,10 @@ pub record Examples : Type 0 where
   pub goes_round : OneFlowGoesRound
   pub others_blocked : OthersAreBlocked
   pub carried : AnswersAreCarried
+  pub made_at_once : CallIsMade
+  pub begun_waits : BegunCallWaits
+  pub held_is_blocked : HeldIsBlocked
+  pub keys_kept : KeysAreKept
   pub joined : PagesAreJoined
 
 pub record Refused : Type 0 where
@@ -42,6 +48,10 @@ pub record Refused : Type 0 where
   pub holder : HolderCanGoOn
   pub made : NoValueIsMade
   pub lost : NoValueIsLost
+  pub made_twice : BegunCallIsNotMade
+  pub free : HeldIsNotFree
+  pub number_lost : NoNumberIsLost
+  pub number_made : NoNumberIsMade
   pub left_out : NoPageIsLost
   pub twice : NoPageIsTwice
   pub moved : NoPageIsMoved

@@ -6,5 +6,7 @@ pub mod Legality
 pub mod Orders
 pub mod Idle
 pub mod Shared
+pub mod AtOnce
+pub mod KeptKeys
 pub mod Paging
 pub mod Examples

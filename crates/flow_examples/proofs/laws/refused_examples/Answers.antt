@@ -1,8 +1,11 @@
+use Rattle.std.proofs.Common.{ap}
+use Rattle.flow_model.specs.declared.journals.Key.{Key}
 use Rattle.flow_examples.proofs.Held.{takes_apart, sections_apart}
 use Rattle.flow_examples.proofs.Waiting.{own_take, only_blocked, once, not_passed, cycle_found}
 use Rattle.flow_examples.proofs.Legality.{answers_refused, begun_not_whole}
 use Rattle.flow_examples.proofs.Orders.{first_begins, turns_last, listed_first, lowest_first}
 use Rattle.flow_examples.proofs.Idle.{holder_goes_on}
+use Rattle.flow_examples.proofs.AtOnce.{begun_not_made, held_not_free}
 use Rattle.flow_examples.proofs.laws.refused_examples.Goals as goal
 
 pub returns : goal.returns
@@ -23,6 +26,10 @@ returns c = record {
   holder = holder_goes_on;
   made = λ value same. cc;
   lost = λ same. cc;
+  made_twice = begun_not_made;
+  free = held_not_free;
+  number_lost = λ same. let none = ap (λ (key : Key). key.id) same in cc;
+  number_made = λ same. let none = ap (λ (key : Key). key.id) same in cc;
   left_out = ((λ same. cc), λ same. cc);
   twice = λ same. cc;
   moved = λ same. cc;

@@ -4,6 +4,7 @@ use Rattle.flow_examples.proofs.Waiting.{may_wait}
 use Rattle.flow_examples.proofs.Legality.{failed_whole}
 use Rattle.flow_examples.proofs.Rounds.{goes_round}
 use Rattle.flow_examples.proofs.Idle.{others_blocked}
+use Rattle.flow_examples.proofs.AtOnce.{call_made, held_blocked}
 use Rattle.std.specs.FinMap.{gets}
 use Rattle.flow_examples.proofs.laws.worked_examples.Goals as goal
 
@@ -23,5 +24,9 @@ returns c = record {
   goes_round = goes_round;
   others_blocked = others_blocked;
   carried = (refl, refl);
+  made_at_once = call_made;
+  begun_waits = (refl, refl);
+  held_is_blocked = held_blocked;
+  keys_kept = (refl, refl, refl);
   joined = (refl, refl, refl);
 }
