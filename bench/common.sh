@@ -1,7 +1,8 @@
 # What the benches share; each reads it with its own words. It sets
 # - program: the first word, or the built program, which is proved and built first where it isn't;
 # - folder: an empty folder that goes when the bench ends;
-# - least: a command that gives the least time of five runs of its words, in microseconds, without what they print;
+# - timed: a command that gives the time of one run of its words, in microseconds, without what they print;
+# - least: a command that gives the least time of five runs of its words;
 # - held: a command that gives the most memory that a run of its words held, in bytes, without what it prints.
 set -euo pipefail
 top="$(cd "$(dirname "${BASH_SOURCE[0]}")/.." && pwd)"
@@ -13,15 +14,16 @@ fi
 folder="$(mktemp -d)"
 trap 'rm -rf "$folder"' EXIT
 
+timed() {
+    local start end
+    start="${EPOCHREALTIME/./}"
+    "$@" >/dev/null
+    end="${EPOCHREALTIME/./}"
+    echo $((end - start))
+}
+
 least() {
-    local best= start end
-    for _ in 1 2 3 4 5; do
-        start="${EPOCHREALTIME/./}"
-        "$@" >/dev/null
-        end="${EPOCHREALTIME/./}"
-        if [ -z "$best" ] || [ $((end - start)) -lt "$best" ]; then best=$((end - start)); fi
-    done
-    echo "$best"
+    for _ in 1 2 3 4 5; do timed "$@"; done | sort -n | head -n 1
 }
 
 held() {

@@ -4,6 +4,7 @@ use denote.Param.Send.{IsSend, IsSync, sendable, view_send}
 use denote.Param.SendFields.{declared_send}
 use Rattle.std.proofs.Crossing.{send as heap_send, crosses}
 use Rattle.flux_values.specs.declared.meanings.Meaning as meaning
+use Rattle.flux_values.proofs.lists.List.TheSendSync.{the_send as list_send}
 use Rattle.flow_model.proofs.journals.Journal.TheSendSync.{the_send as journal_send}
 use Rattle.flux_table.proofs.tables.Table.TheSendSync.{the_send as locks_send}
 use Rattle.flux_cells.proofs.kept.Cells.TheSendSync.{the_send as cells_send}
@@ -33,7 +34,10 @@ module _ (L : RattleType) (m : meaning.Ghosts L.Denot) where
           search (locks_send, sendable) depth 40,
           (
             search (cells_send, sendable) depth 40,
-            (search sendable depth 40, (search (made_send, sendable) depth 40, tt)),
+            (
+              search sendable depth 40,
+              (search (list_send, crosses, sendable) depth 40, (search (made_send, sendable) depth 40, tt)),
+            ),
           ),
         ),
       ),

@@ -1,8 +1,11 @@
 //! How calls are begun and finished, or made at once.
 
-ghost use Rattle.std.specs.Prelude.{◌≡◌, ◌<◌, ◌↔◌, [], ◌∷◌, ◌++◌, Some, None, length, IsTrue, IsSome, IfOk, OnOk, OnErr, option_map};
+ghost use Rattle.std.specs.Prelude.{◌≡◌, ◌<◌, ◌↔◌, List, [], ◌∷◌, ◌++◌, Some, None, length, IsTrue, IsSome, IfOk, OnOk, OnErr, option_map};
+ghost use Rattle.flux_model.specs.declared.items.FlowNo.{FlowNo};
 ghost use Rattle.flow_model.specs.declared.journals.CallMade.{CallMade};
+ghost use Rattle.flow_model.specs.declared.journals.Entry.{Entry};
 ghost use Rattle.flow_model.specs.declared.journals.Event.TheVariants as events;
+ghost use Rattle.flux_laws.specs.Moves.{MayCall};
 ghost use Rattle.flow_state.specs.declared.coming.Coming.TheVariants as comings;
 ghost use Rattle.flow_state.specs.States.{setup_at};
 ghost use Rattle.flow_state.specs.Coming.{IsComing};
@@ -22,37 +25,54 @@ use flux_library::Library;
 use flux_model::{FlowNo, NodeNo};
 use flux_values::Memory;
 
-/// The event of a call, which shares the call's arguments and its answer.
-fn call_event(inputs: &Inputs, answer: &SharedAnswer) -> Result<Event, Memory>
-    ensures { IfOk result (λ event. event ≡ events.Call (made_of inputs.now answer.now)) }
+/// A call with its answer, both shared.
+fn share_call(inputs: &Inputs, answer: &SharedAnswer) -> Result<CallMade, Memory>
+    ensures { IfOk result (λ made. made ≡ made_of inputs.now answer.now) }
 {
-    Ok(Event::Call(CallMade {
+    Ok(CallMade {
         node: inputs.node,
         args: inputs.args.share()?,
         answer: answer.share()?,
-    }))
+    })
 }
 
-/// Adds a flow's call, which comes next, with its answer. The entry shares what it is given, and copies nothing.
+/// The call of the last entry, if it is one.
+fn last_call(journal: &Journal) -> Option<&CallMade>
+    ensures { (before : List Entry) (flow : FlowNo) (made : CallMade)
+        → journal.now.entries ≡ before ++ record { flow = flow; event = events.Call made } ∷ []
+        → option_map (λ call. call.now) result ≡ Some made }
+{
+    match journal.entries.last() {
+        Some(
+            Entry {
+                event: Event::Call(made),
+                ..
+            },
+        ) => Some(made),
+        _ => None,
+    }
+}
+
+/// Adds a flow's call, which comes next.
 fn add_call<L: Library>(
     state: &mut State<L>,
     journal: &mut Journal,
     flow: FlowNo,
-    inputs: &Inputs,
-    answer: &SharedAnswer,
+    made: CallMade,
 ) -> Result<(), Memory>
-    requires next { IsNextCall (setup_at L.meaning state.old) state.old.entries flow.0 inputs.now }
-    requires right { IsAnswerOf (L.meaning state.old.setup.library) state.old.setup.program inputs.now
-        answer.now }
-    ensures adds { OnOk result (AddsCall L.meaning state.old state.new flow (made_of inputs.now answer.now)) }
+    requires { MayCall (setup_at L.meaning state.old) state.old.entries flow made }
+    ensures adds { OnOk result (AddsCall L.meaning state.old state.new flow made) }
     ensures written { OnOk result (journal.new.entries ≡ journal.old.entries
-        ++ record { flow = flow; event = events.Call (made_of inputs.now answer.now) } ∷ []) }
+        ++ record { flow = flow; event = events.Call made } ∷ []) }
     ensures still { OnErr result (state.new ≡ state.old) }
     ensures back { OnErr result (journal.new.entries ≡ journal.old.entries) }
 {
-    let event = call_event(inputs, answer)?;
+    let event = Event::Call(made);
     write(journal, Entry { flow, event })?;
-    match state.answer(flow, inputs, answer) {
+    let Some(made) = last_call(journal) else {
+        unreachable!()
+    };
+    match state.answer(flow, made) {
         Ok(()) => Ok(()),
         Err(memory) => {
             take_back(journal);
@@ -143,7 +163,8 @@ impl<L: Library> Fields<L> {
             inputs.now answer.now) }
         ensures err { OnErr result (core_of self.new ≡ core_of self.old) }
     {
-        add_call(&mut self.state, &mut self.journal, flow, inputs, answer)?;
+        let made = share_call(inputs, answer)?;
+        add_call(&mut self.state, &mut self.journal, flow, made)?;
         self.begun[flow.0 as usize] = None;
         Ok(())
     }
@@ -163,7 +184,8 @@ impl<L: Library> Fields<L> {
         gate.before(flow, node);
         let answer = self.answer_to(&inputs);
         gate.after(flow, node);
-        add_call(&mut self.state, &mut self.journal, flow, &inputs, &answer?)?;
+        let made = inputs.answered(answer?);
+        add_call(&mut self.state, &mut self.journal, flow, made)?;
         Ok(())
     }
 

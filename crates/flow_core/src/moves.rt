@@ -25,6 +25,7 @@ use flux_values::Memory;
 
 impl<L: Library> Fields<L> {
     /// Makes a flow's next event, which is what comes.
+    #[inline(always)]
     fn go(&mut self, flow: FlowNo, coming: Coming, event: Event) -> Result<AtOnce, Memory>
         requires fields { AreFields L.meaning self.old }
         requires comes { Comes (setup_in L.meaning (core_of self.old)) self.old.state.entries flow.0 coming }
@@ -44,6 +45,7 @@ impl<L: Library> Fields<L> {
     }
 
     /// Lets a flow stand at the key of its next take, which others block, unless it stands there.
+    #[inline(always)]
     fn wait(&mut self, flow: FlowNo, key: Key, mode: Mode, holder: FlowNo) -> Result<AtOnce, Memory>
         requires fields { AreFields L.meaning self.old }
         requires next { IsNext (setup_in L.meaning (core_of self.old)) self.old.state.entries flow.0
@@ -69,6 +71,7 @@ impl<L: Library> Fields<L> {
     }
 
     /// Lets a flow take a key, or wait for it.
+    #[inline(always)]
     fn take(&mut self, flow: FlowNo, key: Key, mode: Mode) -> Result<AtOnce, Memory>
         requires fields { AreFields L.meaning self.old }
         requires comes { Comes (setup_in L.meaning (core_of self.old)) self.old.state.entries flow.0
@@ -88,6 +91,7 @@ impl<L: Library> Fields<L> {
     }
 
     /// Lets a flow do what comes next, which is no call.
+    #[inline(always)]
     fn pass(&mut self, flow: FlowNo, coming: Coming) -> Result<AtOnce, Memory>
         requires fields { AreFields L.meaning self.old }
         requires comes { Comes (setup_in L.meaning (core_of self.old)) self.old.state.entries flow.0 coming }

@@ -7,6 +7,7 @@ use Rattle.flux_model.specs.declared.programs.Body.{Body}
 use Rattle.flux_model.specs.declared.programs.Body.TheVariants.{Concrete, Abstract}
 use Rattle.flux_model.specs.declared.programs.Node.{Node}
 use Rattle.flux_model.specs.declared.programs.NodeNo.{NodeNo}
+use Rattle.flux_model.specs.declared.items.FlowNo.{FlowNo}
 use Rattle.flow_model.specs.declared.journals.Entry.{Entry}
 use Rattle.flow_model.specs.Setup.{Setup}
 use Rattle.flow_model.specs.Walk.{before_call}
@@ -14,6 +15,7 @@ use Rattle.flow_model.specs.CellsAfter.{cells_after}
 use Rattle.flow_model.specs.Answers.{IsBodyAnswer, IsNodeAnswer}
 use Rattle.flow_model.specs.Events.{CallIsNext}
 use Rattle.flux_laws.specs.Calls.{cells_of_body, cells_of_node}
+use Rattle.flux_laws.specs.Moves.{MayCall}
 use Rattle.flow_state.specs.declared.inputs.Inputs.{Inputs}
 use Rattle.flow_state.specs.Calls.{body_name, node_name, IsAnswerBy, IsAnswerOf, IsNextCall, made_of}
 
@@ -36,6 +38,14 @@ module _ (setup : Setup) (entries : List Entry) (flow : ℕ) (inputs : Inputs) (
       → IsAnswerOf setup.meaning setup.program inputs answer ↔ IsNodeAnswer setup flow (cells_after setup entries)
       (slice_get setup.program.nodes inputs.node.0) (made_of inputs answer)
   answers-agree call = agree-node (slice_get setup.program.nodes inputs.node.0) call.cells_
+
+-- with the library's answer the call that comes next may be made
+pub may-call : (setup : Setup) (entries : List Entry) (flow : FlowNo) (inputs : Inputs) (answer : Answer)
+    → IsNextCall setup entries flow.0 inputs → IsAnswerOf setup.meaning setup.program inputs answer
+    → MayCall setup entries flow (made_of inputs answer)
+may-call setup entries flow inputs answer call right =
+    let agree = answers-agree setup entries flow.0 inputs answer call in
+    record { next = call.next; right = agree.0 right }
 
 -- at most one call comes next
 pub calls-unique : (setup : Setup) (entries : List Entry) (flow : ℕ) (one other : NodeNo) (a b : List Value)

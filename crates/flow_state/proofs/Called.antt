@@ -3,9 +3,10 @@ use Rattle.std.proofs.Common.{◌≡◌, ◌<◌, ℕ, List, [], ◌∷◌, ◌+
 use Rattle.std.specs.List.{slice_get, slice_set}
 use Rattle.std.specs.Option.{option_map}
 use Rattle.std.specs.Vec.{with_item}
+use Rattle.std.proofs.lemmas.Option.{slice_get-map}
+use Rattle.std.proofs.lemmas.Simd.{map-map}
 use Rattle.flux_values.specs.declared.values.Value.{Value}
 use Rattle.flux_values.specs.declared.answers.Answer.{Answer}
-use Rattle.flux_values.specs.declared.meanings.Sig.{Sig}
 use Rattle.flux_values.specs.declared.meanings.CellUse.{CellUse}
 use Rattle.flux_values.specs.Cells.{CellMap}
 use Rattle.flux_values.specs.Meanings.{LibraryMeaning}
@@ -14,16 +15,18 @@ use Rattle.flux_model.specs.declared.programs.Hold.{Hold}
 use Rattle.flux_model.specs.declared.programs.Node.{Node}
 use Rattle.flux_model.specs.declared.programs.NodeNo.{NodeNo}
 use Rattle.flux_model.specs.declared.programs.Program.{Program}
-use Rattle.flux_model.specs.declared.programs.Body.{Body}
 use Rattle.flux_model.specs.declared.items.FlowNo.{FlowNo}
+use Rattle.flux_model.specs.declared.programs.SourceLine.{SourceLine}
+use Rattle.flux_model.specs.declared.items.Item.{Item}
 use Rattle.flow_model.specs.declared.journals.Key.{Key}
+use Rattle.flow_model.specs.declared.journals.CallMade.{CallMade}
 use Rattle.flow_model.specs.declared.journals.Entry.{Entry}
 use Rattle.flow_model.specs.declared.journals.Event.TheVariants.{Call}
-use Rattle.flow_model.specs.Setup.{Setup}
-use Rattle.flow_model.specs.Keys.{Cells}
-use Rattle.flux_model.specs.Locks.{declared}
+use Rattle.flow_model.specs.Setup.{Setup, item_of}
+use Rattle.flow_model.specs.Keys.{Cells, flow_key}
+use Rattle.flux_model.specs.Locks.{declared, declared_on}
 use Rattle.flow_model.specs.CellsAfter.{class_named, key_of, cell_key, after_puts, after_event, cells_after}
-use Rattle.flow_model.specs.Answers.{cell_at, cells_for}
+use Rattle.flow_model.specs.Answers.{cell_at}
 use Rattle.flow_model.specs.Events.{CallIsNext}
 use Rattle.flow_model.specs.Legal.{IsLegal}
 use Rattle.flux_laws.specs.Going.{IsAtCall}
@@ -42,35 +45,47 @@ use Rattle.flow_state.specs.declared.inputs.Inputs.{Inputs}
 use Rattle.flow_state.specs.declared.places.Place.{Place}
 use Rattle.flow_state.specs.declared.fields.Fields.{Fields}
 use Rattle.flow_state.specs.States.{setup_at}
-use Rattle.flow_state.specs.Calls.{IsReady, IsAnswerOf, IsNextCall, made_of}
+use Rattle.flow_state.specs.Calls.{IsReady, IsNextCall}
 use Rattle.flow_state.specs.Moves.{AddsCall}
-use Rattle.flow_state.specs.steps.Cells.{class_in, cells_by}
-use Rattle.flow_state.specs.steps.Reads.{IsKnown, IsSigIn, IsSigOf, IsGuarded, AreRead, AreKeys}
+use Rattle.flow_state.specs.steps.Cells.{class_in, classes_by, classes_guarded, uses_found, uses_of, classes_of, classes_read, cells_under, keys_by}
+use Rattle.flow_state.specs.steps.Reads.{IsKnown, AreRead}
 use Rattle.flow_state.specs.steps.Places.{matches_in, HasPlan, MayAnswer, key_in, IsPlaceOf, IsComing}
 use Rattle.flow_state.specs.steps.Fields.{state_of, plans_of, IsAfter, AreFields}
-use Rattle.flow_state.proofs.Agreeing.{answers-agree, calls-unique}
+use Rattle.flow_state.proofs.Agreeing.{calls-unique}
 use Rattle.flow_state.proofs.Asked.{call-coming}
-use Rattle.flow_state.proofs.Fitting.{HasFit, cells_read-known, sig-same, sound-guarded}
+use Rattle.flow_state.proofs.Fitting.{HasFit, cells_read-known, known-guarded}
 use Rattle.flow_state.proofs.Fitting.{fit-of as fits, ready-of as readies}
 use Rattle.flow_state.proofs.Ended.{live_in, live-still}
 use Rattle.flow_state.proofs.AtPlaces.{place-key_for, place-may_answer}
 use Rattle.flow_state.proofs.Moved.{here, coming-there, call-next, moved-call}
 
--- what is read where no constraint is declared
-pub none-read : (meaning : LibraryMeaning) (p : Program) (cells : Cells) (session node : ℕ) → IsKnown meaning p node
-    → IsGuarded meaning p node → declared p node ≡ [] → (read : List CellMap) → read ≡ []
-    → AreRead meaning p cells session node read
-none-read meaning p cells session node known guarded none read empty =
-    let found : IsSigOf meaning (slice_get p.nodes node) known.sig =
-    subst (λ (o : Option Node). IsSigOf meaning o known.sig) (sym known.is_found)
-    (subst (λ (b : Body). IsSigIn meaning b known.sig) (sym known.is_name) known.is_sig) in
-    record {
-      sig = known.sig;
-      is_sig = found;
-      read_ = empty ∙ sym
-          (ap (λ (uses : List CellUse). cells_by p cells session (declared p node) uses)
-          (guarded none known.sig found));
-    }
+-- a flow's keys of the classes that a node declares
+record AreKeys (setup : Setup) (flow node : ℕ) (keys : List Key) : Type 0 where
+  pub item : Item
+  pub is_item : item_of setup flow ≡ Some item
+  pub line : SourceLine
+  pub is_line : slice_get setup.program.sources item.source.0 ≡ Some line
+  pub keys_ : keys ≡ map (λ (hold : Hold). flow_key setup.program setup.meaning line item.values hold.class)
+      (declared setup.program node)
+
+-- the classes of the cells that a known node uses; where it declares no constraint it uses none
+guarded : (p : Program) (declared : List Hold) (uses : List CellUse) → (declared ≡ [] → uses ≡ [])
+    → classes_guarded p declared uses ≡ classes_by p declared uses
+guarded p [] uses none = sym (ap (classes_by p []) (none refl))
+guarded p (hold ∷ declared) uses none = refl
+
+pub classes-known : (meaning : LibraryMeaning) (p : Program) (node : ℕ) (known : IsKnown meaning p node)
+    → (let sig = known.sig in (declared p node ≡ [] → sig.cells ≡ [])
+    → slice_get (classes_read meaning p) node ≡ Some (classes_by p (declared p node) sig.cells))
+classes-known meaning p node known none =
+    let found = known.found in
+    let sig = known.sig in
+    slice_get-map (classes_of meaning p) p.nodes node
+    ∙ ap (λ (o : Option Node). option_map (classes_of meaning p) o) known.is_found
+    ∙ ap (λ (uses : List CellUse). Some (classes_guarded p found.declared uses))
+    (ap (uses_of meaning) known.is_name ∙ ap uses_found known.is_sig)
+    ∙ ap (λ (o : Option Node). Some (classes_guarded p (declared_on o) sig.cells)) (sym known.is_found)
+    ∙ ap (λ (classes : List (Option ClassNo)). Some classes) (guarded p (declared p node) sig.cells none)
 
 module _ {L : Type 0} (meaning : L → LibraryMeaning) (r : Fields L) (is : AreFields meaning r) (flow : FlowNo) where
   abbrev setup : Setup
@@ -120,9 +135,6 @@ module _ {L : Type 0} (meaning : L → LibraryMeaning) (r : Fields L) (is : AreF
     pub known-next : IsKnown setup.meaning setup.program node.0
     known-next = let fit = fit-of node (values_at place.local) call-is in fit.known
 
-    pub guarded-next : IsGuarded setup.meaning setup.program node.0
-    guarded-next = let given = is.given in sound-guarded setup.meaning setup.program given.kinds given.sound node.0
-
     pub called-there : (let own = own-at place at in called_in own.plan place.local ≡ Some node)
     called-there =
         let c : IsComing setup (plans_of r) items flow.0 (nexts.Call node) = record {
@@ -151,15 +163,19 @@ module _ {L : Type 0} (meaning : L → LibraryMeaning) (r : Fields L) (is : AreF
         read → read ≡ cells_read setup flow.0 node.0 entries
     read-right read are =
         let known = known-next in
-        let sig = are.sig in
+        let sig = known.sig in
         let after = is.after in
         let key_is : (name : List ℕ) → option_map (key_in setup.program place.session)
         (class_in setup.program (declared setup.program node.0) name) ≡ cell_key setup flow.0 node.0 name =
         λ name. key-of_class (class_named setup.program node.0 name) in
+        let same : Some are.classes ≡ Some (classes_by setup.program (declared setup.program node.0) sig.cells) =
+        sym are.are_classes ∙ classes-known setup.meaning setup.program node.0 known
+        (let given = is.given in known-guarded setup.meaning setup.program given.kinds given.sound node.0 known) in
+        let classes : are.classes ≡ classes_by setup.program (declared setup.program node.0) sig.cells = cc in
         are.read_
+        ∙ ap (cells_under setup.program (cells_of r.cells) place.session) classes
+        ∙ map-map _ _ sig.cells
         ∙ (λ i. map (λ (use_ : CellUse). cell_at (after.cells_ i) (key_is use_.name i)) sig.cells)
-        ∙ ap (λ (s : Sig). cells_for setup flow.0 node.0 (cells_after setup entries) (Some s))
-        (sym (sig-same setup.meaning setup.program node.0 known sig are.is_sig))
         ∙ sym (cells_read-known setup flow.0 node.0 entries known)
 
     pub begins-right : (inputs : Inputs) → inputs.node ≡ node → inputs.args ≡ values_at place.local
@@ -172,8 +188,8 @@ module _ {L : Type 0} (meaning : L → LibraryMeaning) (r : Fields L) (is : AreF
     }
 
     -- the keys of its node's classes
-    pub keys-right : (keys : List Key) → keys ≡ map (λ (hold : Hold). key_in setup.program place.session hold.class)
-        (declared setup.program node.0) → AreKeys setup flow.0 node.0 keys
+    keys-right : (keys : List Key) → keys ≡ keys_by setup.program place.session (declared setup.program node.0)
+        → AreKeys setup flow.0 node.0 keys
     keys-right keys are =
         let own = own-at place at in
         record {
@@ -203,27 +219,24 @@ module _ {L : Type 0} (meaning : L → LibraryMeaning) (r : Fields L) (is : AreF
 
   -- ---- a call that is made
 
-  right-answer : (inputs : Inputs) → IsNextCall setup entries flow.0 inputs → (answer : Answer)
-      → IsAnswerOf setup.meaning setup.program inputs answer → MayCall setup entries flow (made_of inputs answer)
-  right-answer inputs call answer right =
-      let agree = answers-agree setup entries flow.0 inputs answer call in
-      record { next = call.next; right = agree.0 right }
-
-  module _ (inputs : Inputs) (call : IsNextCall setup entries flow.0 inputs) where
+  module _ (call : CallMade) (may : MayCall setup entries flow call) where
     pub call-within : flow.0 < length setup.items
-    call-within = call-item setup entries flow.0 inputs.node inputs.args call.next
+    call-within = call-item setup entries flow.0 call.node call.args may.next
 
-  module _ (inputs : Inputs) (call : IsNextCall setup entries flow.0 inputs)
-      (coming : IsComing setup (plans_of r) items flow.0 (nexts.Call inputs.node)) (place : Place)
-      (at : slice_get items flow.0 ≡ Some place) (answer : Answer)
-      (right : IsAnswerOf setup.meaning setup.program inputs answer)
+  module _ (call : CallMade) (may : MayCall setup entries flow call)
+      (coming : IsComing setup (plans_of r) items flow.0 (nexts.Call call.node)) (place : Place)
+      (at : slice_get items flow.0 ≡ Some place)
       (new : Place) (answered : HasPlan (plans_of r) setup.items flow.0
-      (λ plan. IsAnswered plan place.local answer new.local)) (session : new.session ≡ place.session)
+      (λ plan. let answer = call.answer in IsAnswered plan place.local answer new.local))
+      (session : new.session ≡ place.session)
       (stands : new.stands ≡ place.stands)
-      (keys : List Key) (are_keys : AreKeys setup flow.0 inputs.node.0 keys) (cells : Kept)
-      (put : cells_of cells ≡ applied setup.program keys (cells_of r.cells) answer.puts)
+      (cells : Kept) (put : let answer = call.answer in cells_of cells ≡ applied setup.program
+      (keys_by setup.program place.session (declared setup.program call.node.0)) (cells_of r.cells) answer.puts)
       (made : List Entry)
-      (added : made ≡ entries ++ record { flow = flow; event = Call (made_of inputs answer) } ∷ []) where
+      (added : made ≡ entries ++ record { flow = flow; event = Call call } ∷ []) where
+    abbrev answer : Answer
+    answer = call.answer
+
     abbrev Made : Fields L
     Made = record {
       alloc = r.alloc;
@@ -232,21 +245,24 @@ module _ {L : Type 0} (meaning : L → LibraryMeaning) (r : Fields L) (is : AreF
       table = r.table;
       cells = cells;
       live = r.live;
+      reads = r.reads;
       made = made;
     }
 
-    args-same : values_at place.local ≡ inputs.args
-    args-same = (calls-unique setup entries flow.0 inputs.node inputs.node (values_at place.local) inputs.args
-        (call-is inputs.node coming place at) call.next).1
+    args-same : values_at place.local ≡ call.args
+    args-same = (calls-unique setup entries flow.0 call.node call.node (values_at place.local) call.args
+        (call-is call.node coming place at) may.next).1
 
-    cells-put : cells_of cells ≡ after_event setup flow.0 (cells_after setup entries) (Call (made_of inputs answer))
+    cells-put : cells_of cells ≡ after_event setup flow.0 (cells_after setup entries) (Call call)
     cells-put =
         let after = is.after in
+        let are_keys = keys-right call.node coming place at
+        (keys_by setup.program place.session (declared setup.program call.node.0)) refl in
         put ∙ ap (λ (ks : List Key). applied setup.program ks (cells_of r.cells) answer.puts) are_keys.keys_
-        ∙ applied-after_puts setup flow.0 inputs.node.0 (keys_at setup are_keys.item are_keys.line inputs.node.0)
+        ∙ applied-after_puts setup flow.0 call.node.0 (keys_at setup are_keys.item are_keys.line call.node.0)
         (cells_of r.cells) answer.puts
-        (key_named-keys_at setup flow.0 inputs.node.0 are_keys.item are_keys.line are_keys.is_item are_keys.is_line)
-        ∙ ap (λ (cs : Cells). after_puts setup flow.0 inputs.node.0 cs answer.puts) after.cells_
+        (key_named-keys_at setup flow.0 call.node.0 are_keys.item are_keys.line are_keys.is_item are_keys.is_line)
+        ∙ ap (λ (cs : Cells). after_puts setup flow.0 call.node.0 cs answer.puts) after.cells_
 
     pub made-running : AreFields meaning Made
     made-running = record {
@@ -254,14 +270,15 @@ module _ {L : Type 0} (meaning : L → LibraryMeaning) (r : Fields L) (is : AreF
       after = subst (λ (es : List Entry). IsAfter setup (plans_of r) es (slice_set items flow.0 new) r.table
           (cells_of cells)) (sym added)
           (moved-call setup (plans_of r) is.given entries items r.table (cells_of r.cells) is.after flow place new at
-          (made_of inputs answer) (right-answer inputs call answer right) answered session stands (own-at place at)
-          (called-there inputs.node coming place at) args-same (cells_of cells) cells-put);
-      live = is.live ∙ sym (live-still entries flow (Call (made_of inputs answer)) (length setup.items) refl) ∙ ap
+          call may answered session stands (own-at place at)
+          (called-there call.node coming place at) args-same (cells_of cells) cells-put);
+      live = is.live ∙ sym (live-still entries flow (Call call) (length setup.items) refl) ∙ ap
           (λ (es : List Entry). live_in es (length setup.items)) (sym added);
+      reads_ = is.reads_;
     }
 
-    pub made-adds : AddsCall meaning (state_of r) (state_of Made) flow (made_of inputs answer)
+    pub made-adds : AddsCall meaning (state_of r) (state_of Made) flow call
     made-adds = record {
-      may = right-answer inputs call answer right;
+      may = may;
       new_ = λ i. record (state_of r) { entries = added i };
     }

@@ -31,7 +31,7 @@ use Rattle.flux_laws.proofs.FittingCalls.{next_calls_fit}
 use Rattle.flux_laws.proofs.Members.{in-from_contains}
 use Rattle.flow_state.specs.declared.inputs.Inputs.{Inputs}
 use Rattle.flow_state.specs.Calls.{node_name, body_name, library_name, IsReadyBy, IsReady, IsNextCall}
-use Rattle.flow_state.specs.steps.Reads.{IsKnown, IsSigIn, IsSigOf, IsGuarded}
+use Rattle.flow_state.specs.steps.Reads.{IsKnown}
 
 -- ---- nodes
 
@@ -72,42 +72,23 @@ cells_read-known setup flow node entries known =
     ∙ ap (cells_of_body setup flow node entries) known.is_name
     ∙ ap (cells_for setup flow node (cells_after setup entries)) known.is_sig
 
--- a signature that was found is that of the known node
-pub sig-same : (meaning : LibraryMeaning) (p : Program) (node : ℕ) (known : IsKnown meaning p node) (sig : Sig)
-    → IsSigOf meaning (slice_get p.nodes node) sig → known.sig ≡ sig
-sig-same meaning p node known sig is =
-    let h : IsSigIn meaning (Concrete known.name) sig =
-    subst (λ (b : Body). IsSigIn meaning b sig) known.is_name
-    (subst (λ (o : Option Node). IsSigOf meaning o sig) known.is_found is) in
-    let e : Some known.sig ≡ Some sig = sym known.is_sig ∙ h in
-    cc
+-- a known node of a sound program that declares no constraint uses no cell
+guarded-sig : (p : Program) (node : ℕ) (uses : List CellUse) → AllByRecursion (IsProtected p node) uses
+    → declared p node ≡ [] → uses ≡ []
+guarded-sig p node [] all none = refl
+guarded-sig p node (use_ ∷ uses) (own, all) none = absurd (in-from_contains [] own.hold
+    (subst (λ (holds : List Hold). Contains holds own.hold) none own.declares))
 
--- in a sound program cells are guarded
-guarded-sig : (meaning : LibraryMeaning) (p : Program) (node : ℕ) (sig : Sig)
-    → AllByRecursion (IsProtected p node) sig.cells → declared p node ≡ [] → sig.cells ≡ []
-guarded-sig meaning p node sig all none = by sig.cells refl all
-  where
-    by : (uses : List CellUse) → sig.cells ≡ uses → AllByRecursion (IsProtected p node) uses → sig.cells ≡ []
-    by [] is all = is
-    by (use_ ∷ uses) is (own, all) = absurd (in-from_contains [] own.hold
-        (subst (λ (holds : List Hold). Contains holds own.hold) none own.declares))
-
-pub sound-guarded : (meaning : LibraryMeaning) (p : Program) (kinds : ℕ → NodeKinds) → IsSound meaning p kinds
-    → (node : ℕ) → IsGuarded meaning p node
-sound-guarded meaning p kinds sound node none sig is = by (slice_get p.nodes node) refl is
-  where
-    in_body : (found : Node) → slice_get p.nodes node ≡ Some found → (body : Body) → found.body ≡ body
-        → IsSigIn meaning body sig → sig.cells ≡ []
-    in_body found at (Concrete name) body_is is_sig =
-        let protected : AreCellsProtected meaning p node (Concrete name) =
-        subst (λ (b : Body). AreCellsProtected meaning p node b) body_is (sound.protected node found at) in
-        guarded-sig meaning p node sig (subst (λ (o : Option Sig). IfSome o
-        (λ s. AllByRecursion (IsProtected p node) s.cells)) is_sig protected) none
-    in_body found at (Abstract cases) body_is is_sig = absurd is_sig
-
-    by : (o : Option Node) → slice_get p.nodes node ≡ o → IsSigOf meaning o sig → sig.cells ≡ []
-    by None at is_sig = absurd is_sig
-    by (Some found) at is_sig = in_body found at found.body refl is_sig
+pub known-guarded : (meaning : LibraryMeaning) (p : Program) (kinds : ℕ → NodeKinds) → IsSound meaning p kinds
+    → (node : ℕ) (known : IsKnown meaning p node) → declared p node ≡ []
+    → (let sig = known.sig in sig.cells ≡ [])
+known-guarded meaning p kinds sound node known none =
+    let sig = known.sig in
+    let protected : AreCellsProtected meaning p node (Concrete known.name) =
+    subst (λ (b : Body). AreCellsProtected meaning p node b) known.is_name
+    (sound.protected node known.found known.is_found) in
+    guarded-sig p node sig.cells (subst (λ (o : Option Sig). IfSome o
+    (λ s. AllByRecursion (IsProtected p node) s.cells)) known.is_sig protected) none
 
 pub known-some : (meaning : LibraryMeaning) (p : Program) (node : ℕ) → IsKnown meaning p node
     → IsSome (slice_get p.nodes node)

@@ -103,6 +103,7 @@ module _ {L : Type 0} (meaning : L → LibraryMeaning) (r : Fields L) (is : AreF
       table = locks;
       cells = r.cells;
       live = live;
+      reads = r.reads;
       made = made;
     }
 
@@ -115,6 +116,7 @@ module _ {L : Type 0} (meaning : L → LibraryMeaning) (r : Fields L) (is : AreF
           (subst (λ (ps : List Place). IsAfter setup (plans_of r) entries ps r.table (cells_of r.cells))
           (sym (replaced-same items flow.0 place at)) is.after);
       live = is.live;
+      reads_ = is.reads_;
     }
 
     pub place-of : (place : Place) → flow.0 < length setup.items → place ≡ get_or items flow.0 place
@@ -181,6 +183,7 @@ module _ {L : Type 0} (meaning : L → LibraryMeaning) (r : Fields L) (is : AreF
           after = subst (λ (es : List Entry). IsAfter setup (plans_of r) es (slice_set items flow.0 new) locks
               (cells_of r.cells)) (sym added) moved.holds;
           live = counted ∙ ap (λ (es : List Entry). live_in es (length setup.items)) (sym added);
+          reads_ = is.reads_;
         }
 
         pub moved-makes : AddsEvent meaning (state_of r) (state_of (Moved new locks made live)) flow event
@@ -289,6 +292,7 @@ module _ {L : Type 0} (meaning : L → LibraryMeaning) (r : Fields L) (is : AreF
                 (sym (replaced-same items flow.0 place (at-place (Take key mode) coming place read)))
                 (record { legal = after.legal; places_ = after.places_; table = table; cells_ = after.cells_ });
             live = is.live;
+            reads_ = is.reads_;
           }
 
     module _ (key : Key) (mode : Mode) (may : MayStand setup entries flow key mode) where
@@ -330,6 +334,7 @@ module _ {L : Type 0} (meaning : L → LibraryMeaning) (r : Fields L) (is : AreF
               may place (read-there place wait-within read) new local session stands locks waits);
           live = is.live ∙ sym (live-still entries flow (Wait key mode) (length setup.items) refl) ∙ ap
               (λ (es : List Entry). live_in es (length setup.items)) (sym added);
+          reads_ = is.reads_;
         }
 
         pub waits-added : AddsWait meaning (state_of r) (state_of (Moved new locks made r.live)) flow key mode

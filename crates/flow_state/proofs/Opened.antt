@@ -31,6 +31,7 @@ use Rattle.flow_state.specs.States.{setup_at, MayRun}
 use Rattle.flow_state.specs.steps.Starts.{IsFreshPlace, AreFreshPlaces}
 use Rattle.flow_state.specs.steps.Places.{IsPlaceOf, ArePlaces}
 use Rattle.flow_state.specs.steps.Table.{IsTable}
+use Rattle.flow_state.specs.steps.Cells.{classes_read}
 use Rattle.flow_state.specs.steps.Fields.{state_of, plans_of, IsGiven, IsAfter, AreFields}
 use Rattle.flow_state.proofs.Ended.{live_in, live-all}
 use Rattle.flow_state.proofs.AtPlaces.{has-line, line-plan}
@@ -156,8 +157,10 @@ pub opened-running : {L : Type 0} (meaning : L → LibraryMeaning) (r : Fields L
     → (let setup = setup_at meaning (state_of r) in let places =
     r.places in AreFreshPlaces setup.meaning setup.program setup.items places.items) → r.table ≡ []
     → (let setup = r.setup in cells_of r.cells ≡ cells_of setup.opening)
-    → (let setup = r.setup in r.live ≡ length setup.items) → AreFields meaning r
-opened-running {L} meaning r given none are_fresh no_locks same live =
+    → (let setup = r.setup in r.live ≡ length setup.items)
+    → (let setup = setup_at meaning (state_of r) in r.reads ≡ classes_read setup.meaning setup.program)
+    → AreFields meaning r
+opened-running {L} meaning r given none are_fresh no_locks same live reads =
     let setup : Setup = setup_at meaning (state_of r) in
     let places = r.places in
     let sound = given.sound in
@@ -173,6 +176,7 @@ opened-running {L} meaning r given none are_fresh no_locks same live =
           });
       live = live ∙ sym (live-all (length own.items)) ∙ ap (λ (es : List Entry). live_in es (length own.items))
           (sym none);
+      reads_ = reads;
     }
 
 pub may-sources : (meaning : LibraryMeaning) (p : Program) (plans : List Plan) (items : List Item)

@@ -1,7 +1,6 @@
 -- One place of a list is replaced.
-use Rattle.std.proofs.Common.{◌≡◌, ◌⊎◌, inl, inr, ℕ, zero, suc, true, eqb, List, [], ◌∷◌, length, map, Some, refl, sym, ap, ◌∙◌, arith}
+use Rattle.std.proofs.Common.{◌≡◌, ◌⊎◌, inl, inr, ℕ, zero, suc, List, [], ◌∷◌, length, map, Some, refl, sym, ap, ◌∙◌, arith}
 use Rattle.std.specs.List.{slice_get, slice_set}
-use Rattle.std.proofs.lemmas.Bool.{eqb-true}
 
 pub length-replaced : {X : Type 0} (xs : List X) (k : ℕ) (x : X) → length (slice_set xs k x) ≡ length xs
 length-replaced [] k x = refl
@@ -46,11 +45,6 @@ pub get-replaced : {X : Type 0} (xs : List X) (k : ℕ) (x y : X) → slice_get 
 get-replaced [] k x y is = absurd cc
 get-replaced (z ∷ xs) zero x y is = refl
 get-replaced (z ∷ xs) (suc k) x y is = get-replaced xs k x y is
-
--- a list without elements
-pub no-elements : {X : Type 0} (xs : List X) → eqb (length xs) 0 ≡ true → xs ≡ []
-no-elements [] e = refl
-no-elements (x ∷ xs) e = let none = eqb-true (length (x ∷ xs)) 0 e in absurd (omega (arith, none))
 
 pub get-replaced_other : {X : Type 0} (xs : List X) (k n : ℕ) (x : X) → (k ≡ n → ⊥)
     → slice_get (slice_set xs k x) n ≡ slice_get xs n

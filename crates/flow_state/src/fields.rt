@@ -19,10 +19,12 @@ use flux_library::Library;
 use flux_model::{ClassNo, FlowNo};
 use flux_plan::Next;
 use flux_table::Table;
+use flux_values::List;
 use std::alloc::Global;
 
 /// What a state keeps beside its setup: each flow's place, who holds each key and waits for it, the cells, how many
-/// flows have not ended, and, for clauses alone, the entries that were made.
+/// flows have not ended, the classes of the cells that each node uses, and, for clauses alone, the entries that were
+/// made.
 #[derive(Drop)]
 pub struct Fields<L: Library> {
     pub alloc: Global,
@@ -31,11 +33,13 @@ pub struct Fields<L: Library> {
     pub table: Table,
     pub cells: Cells,
     pub live: u32,
+    pub reads: List<List<Option<ClassNo>>>,
     pub made: Made,
 }
 
 impl<L: Library> Fields<L> {
     /// What comes next at a flow's place in its plan.
+    #[inline(always)]
     pub fn next(&self, flow: FlowNo) -> Next
         requires fields { AreFields L.meaning self.now }
         requires flow { flow.0 < length self.now.setup.items }
@@ -58,6 +62,7 @@ impl<L: Library> Fields<L> {
     }
 
     /// A flow's key of a class.
+    #[inline(always)]
     pub fn key(&self, flow: FlowNo, class: ClassNo) -> Key
         requires fields { AreFields L.meaning self.now }
         requires flow { flow.0 < length self.now.setup.items }
@@ -72,6 +77,7 @@ impl<L: Library> Fields<L> {
     }
 
     /// What comes next for a flow.
+    #[inline(always)]
     pub fn coming(&self, flow: FlowNo) -> Coming
         requires fields { AreFields L.meaning self.now }
         requires flow { flow.0 < length self.now.setup.items }

@@ -1,6 +1,9 @@
 //! What calls are given.
 
-use flow_model::Carried;
+ghost use Rattle.std.specs.Prelude.{◌≡◌};
+ghost use Rattle.flow_state.specs.Calls.{made_of};
+
+use flow_model::{CallMade, Carried, SharedAnswer};
 use flux_model::NodeNo;
 use flux_values::{Cell, List};
 
@@ -14,5 +17,16 @@ pub struct Inputs {
 impl Drop for Inputs {
     fn drop(self) {
         let Inputs { node, args, cells } = self;
+    }
+}
+
+impl Inputs {
+    /// The call with its answer, as an entry has it. The cells are let go, so that puts change them where they are.
+    pub fn answered(self, answer: SharedAnswer) -> CallMade
+        ensures { result ≡ made_of self answer }
+    {
+        let Inputs { node, args, cells } = self;
+        drop(cells);
+        CallMade { node, args, answer }
     }
 }

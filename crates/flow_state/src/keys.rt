@@ -1,18 +1,17 @@
 //! The keys of a flow's classes, and the cells under them.
 
-ghost use Rattle.std.specs.Prelude.{◌≡◌, map as mapped, IfOk};
-ghost use Rattle.std.specs.List.{find};
+ghost use Rattle.std.specs.Prelude.{◌≡◌, IfOk, OnOk, OnErr};
 ghost use Rattle.std.specs.Option.{option_map};
-ghost use Rattle.flow_model.specs.CellsAfter.{is_named};
 ghost use Rattle.flow_model.specs.Answers.{cell_at};
 ghost use Rattle.flux_cells.specs.Kept.{cells_of};
+ghost use Rattle.flux_cells.specs.Applied.{applied};
 ghost use Rattle.flow_state.specs.steps.Places.{key_in};
-ghost use Rattle.flow_state.specs.steps.Cells.{declares_named, class_in, cells_by};
+ghost use Rattle.flow_state.specs.steps.Cells.{keys_by, cells_under};
 
 use flow_model::Key;
 use flux_cells::Cells;
 use flux_model::{Class, ClassNo, Hold, Program};
-use flux_values::{Cell, CellUse, List, Memory};
+use flux_values::{Cell, List, Memory, Put};
 use std::alloc::Global;
 
 /// The key of a class, with a session's number where the class is a session's.
@@ -27,14 +26,8 @@ pub fn key_in(p: &Program, session: u64, class: ClassNo) -> Key
 }
 
 /// The keys of constraints.
-pub fn keys_in(
-    alloc: Global,
-    p: &Program,
-    session: u64,
-    declared: &[Hold],
-) -> Result<Vec<Key>, Memory>
-    ensures { IfOk result (λ keys. keys.items
-        ≡ mapped (λ hold. key_in p.now session hold.class) declared.now) }
+fn keys_in(alloc: Global, p: &Program, session: u64, declared: &[Hold]) -> Result<Vec<Key>, Memory>
+    ensures { IfOk result (λ keys. keys.items ≡ keys_by p.now session declared.now) }
 {
     let mut keys = Vec::new(alloc);
     for hold in declared {
@@ -43,26 +36,29 @@ pub fn keys_in(
     Ok(keys)
 }
 
-fn is_named(p: &Program, class: ClassNo, name: &[u8]) -> bool
-    ensures { result ≡ declares_named p.now name.now class }
+/// Applies puts to the cells under the keys of constraints in a session.
+pub fn apply_in(
+    alloc: Global,
+    p: &Program,
+    cells: &mut Cells,
+    session: u64,
+    declared: &[Hold],
+    puts: &List<Put>,
+) -> Result<(), Memory>
+    ensures ok { OnOk result (cells_of cells.new
+        ≡ applied p.now (keys_by p.now session declared.now) (cells_of cells.old) puts.now) }
+    ensures err { OnErr result (cells_of cells.new ≡ cells_of cells.old) }
 {
-    match p.classes.get(class.0 as usize) {
-        Some(class) => name == class.name.as_bytes(),
-        None => false,
+    match declared {
+        [hold] => cells.apply(&[key_in(p, session, hold.class)], puts, p),
+        _ => {
+            let keys = keys_in(alloc, p, session, declared)?;
+            cells.apply(keys.as_slice(), puts, p)
+        }
     }
 }
 
-/// The class of a name among constraints.
-fn class_in(p: &Program, declared: &[Hold], name: &[u8]) -> Option<ClassNo>
-    ensures { result ≡ class_in p.now declared.now name.now }
-{
-    declared
-        .iter()
-        .find(|hold| is_named(p, hold.class, name))
-        .map(|hold| hold.class)
-}
-
-/// The cell under the key of a name's class.
+/// The cell under the key of a class; an empty one where there is none.
 fn cell_in(
     alloc: Global,
     p: &Program,
@@ -82,22 +78,20 @@ fn cell_in(
     }
 }
 
-/// The cells that a node uses, in order, by the classes of their names among its constraints.
-pub fn cells_in(
+/// The cells under the keys of classes in a session, in order.
+pub fn cells_under(
     alloc: Global,
     p: &Program,
     cells: &Cells,
     session: u64,
-    declared: &[Hold],
-    uses: &[CellUse],
+    classes: &[Option<ClassNo>],
 ) -> Result<List<Cell>, Memory>
     ensures { IfOk result (λ read. read
-        ≡ cells_by p.now (cells_of cells.now) session declared.now uses.now) }
+        ≡ cells_under p.now (cells_of cells.now) session classes.now) }
 {
     let mut read = List::new(alloc);
-    for cell in uses {
-        let class = class_in(p, declared, cell.name.as_bytes());
-        read.add(cell_in(alloc, p, cells, session, class)?)?;
+    for class in classes {
+        read.add(cell_in(alloc, p, cells, session, *class)?)?;
     }
     Ok(read)
 }

@@ -24,6 +24,7 @@ mod stops;
 mod takes;
 mod tales;
 mod turns;
+mod uses;
 
 pub use coming::Coming;
 pub use inputs::Inputs;

@@ -2,12 +2,10 @@
 
 ghost use Rattle.std.specs.Prelude.{◌≡◌, [], ◌∷◌, ◌++◌};
 ghost use Rattle.flow_model.specs.declared.journals.Event.TheVariants as events;
-ghost use Rattle.flow_state.specs.Calls.{made_of};
 ghost use Rattle.flow_state.specs.steps.Tales.{told};
 
-use crate::inputs::Inputs;
 use crate::tales::{Last, Tale};
-use flow_model::{Entry, SharedAnswer};
+use flow_model::{CallMade, Entry};
 use flux_model::FlowNo;
 use std::marker::Model;
 use std::snapshot::Snapshot;
@@ -49,18 +47,11 @@ impl Made {
     }
 
     /// A call more, with its answer.
-    pub fn add_call(&mut self, flow: FlowNo, inputs: &Inputs, answer: &SharedAnswer)
-        ensures { self.new ≡ self.old
-            ++ record { flow = flow; event = events.Call (made_of inputs.now answer.now) } ∷ [] }
+    pub fn add_call(&mut self, flow: FlowNo, made: &CallMade)
+        ensures { self.new ≡ self.old ++ record { flow = flow; event = events.Call made.now } ∷ [] }
     {
         let before = std::mem::replace(&mut self.tale, told(Last::Nothing));
-        self.tale = told(Last::Call(
-            before,
-            flow,
-            inputs.node,
-            Snapshot::of(&inputs.args),
-            Snapshot::of(answer),
-        ));
+        self.tale = told(Last::Call(before, flow, Snapshot::of(made)));
     }
 }
 

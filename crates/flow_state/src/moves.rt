@@ -20,6 +20,7 @@ use flux_values::Memory;
 
 impl<L: Library> Fields<L> {
     /// Makes a flow's next event, which changes no keys.
+    #[inline(always)]
     pub fn go(&mut self, flow: FlowNo, event: Event) -> Result<(), Memory>
         requires fields { AreFields L.meaning self.old }
         requires coming { IsEventComing (setup_at L.meaning (state_of self.old)) (plans_of self.old)
@@ -58,6 +59,7 @@ impl<L: Library> Fields<L> {
     }
 
     /// Makes a flow's drop of a key.
+    #[inline(always)]
     pub fn give(&mut self, flow: FlowNo, key: Key) -> Result<(), Memory>
         requires fields { AreFields L.meaning self.old }
         requires coming { IsEventComing (setup_at L.meaning (state_of self.old)) (plans_of self.old)
@@ -78,6 +80,7 @@ impl<L: Library> Fields<L> {
     }
 
     /// Makes a flow's take of a key, which no flow blocks.
+    #[inline(always)]
     pub fn get(&mut self, flow: FlowNo, key: Key, mode: Mode) -> Result<(), Memory>
         requires fields { AreFields L.meaning self.old }
         requires coming { IsEventComing (setup_at L.meaning (state_of self.old)) (plans_of self.old)
@@ -120,6 +123,7 @@ impl<L: Library> Fields<L> {
     }
 
     /// The same for a flow that stands nowhere.
+    #[inline(always)]
     fn get_first(&mut self, flow: FlowNo, key: Key, mode: Mode) -> Result<(), Memory>
         requires fields { AreFields L.meaning self.old }
         requires coming { IsEventComing (setup_at L.meaning (state_of self.old)) (plans_of self.old)

@@ -38,6 +38,7 @@ impl<L: Library> Drop for Setup<L> {
 
 impl<L: Library> Setup<L> {
     /// The plan that a flow goes by.
+    #[inline(always)]
     fn plan(&self, flow: FlowNo) -> &VerifiedPlan
         requires { IsSome (plan_of_item (arc_value self.now.plans) (slice_get self.now.items flow.0)) }
         ensures { plan_of_item (arc_value self.now.plans) (slice_get self.now.items flow.0)
@@ -53,6 +54,7 @@ impl<L: Library> Setup<L> {
     }
 
     /// What comes next at a flow's place.
+    #[inline(always)]
     pub fn next(&self, flow: FlowNo, local: &Local) -> Next
         requires { let matches = matches_by (L.meaning (arc_value self.now.library))
             (arc_value self.now.program) in
@@ -82,6 +84,7 @@ impl<L: Library> Setup<L> {
     }
 
     /// Makes the event that comes next at a flow's place.
+    #[inline(always)]
     pub fn advance(&self, flow: FlowNo, local: &mut Local) -> Result<(), Memory>
         requires { let matches = matches_by (L.meaning (arc_value self.now.library))
             (arc_value self.now.program) in

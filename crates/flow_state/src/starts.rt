@@ -12,6 +12,7 @@ use crate::fields::Fields;
 use crate::made::Made;
 use crate::places::Place;
 use crate::setups::Setup;
+use crate::uses::classes_read;
 use flux_library::Library;
 use flux_library::answers::copies;
 use flux_model::{Item, SourceLine};
@@ -77,6 +78,7 @@ impl<L: Library> Fields<L> {
         let cells = setup.opening.copy()?;
         let places = setup.places(alloc)?;
         let live = setup.items.len() as u32;
+        let reads = classes_read(alloc, &*setup.library, &setup.program)?;
         Ok(Fields {
             alloc,
             setup,
@@ -84,6 +86,7 @@ impl<L: Library> Fields<L> {
             table: Table::new(alloc),
             cells,
             live,
+            reads,
             made: Made::new(),
         })
     }

@@ -8,11 +8,11 @@ ghost use Rattle.flow_model.specs.Events.{IsNext};
 ghost use Rattle.flow_model.specs.Waits.{Blocks, IsNoWaitLast};
 ghost use Rattle.flux_laws.specs.Going.{IsBlocked, IsAtCall};
 ghost use Rattle.flux_laws.specs.Growth.{has_ended};
-ghost use Rattle.flux_laws.specs.Moves.{MayStand};
+ghost use Rattle.flux_laws.specs.Moves.{MayStand, MayCall};
 ghost use Rattle.flux_table.specs.Blockers.{IsLowestOf};
 ghost use Rattle.flux_cells.specs.Kept.{cells_of};
 ghost use Rattle.flow_state.specs.States.{setup_of, setup_at, live_at, MayRun, IsLegalState};
-ghost use Rattle.flow_state.specs.Calls.{IsReady, IsNextCall, IsAnswerOf, made_of};
+ghost use Rattle.flow_state.specs.Calls.{IsReady, IsNextCall};
 ghost use Rattle.flow_state.specs.declared.coming.Coming.TheVariants as comings;
 ghost use Rattle.flow_state.specs.Coming.{IsComing, Comes};
 ghost use Rattle.flow_state.specs.Blockers.{IsHeldBy, IsAhead, IsBlockedAt};
@@ -24,7 +24,7 @@ use crate::fields::Fields;
 use crate::inputs::Inputs;
 use crate::setups::Setup;
 use crate::stops::{Stop, Way};
-use flow_model::{Key, SharedAnswer};
+use flow_model::{CallMade, Key};
 use flux_cells::Cells;
 use flux_library::Library;
 use flux_model::{FlowNo, Mode, NodeNo};
@@ -123,6 +123,7 @@ impl<L: Library> State<L> {
 
 impl<L: Library> State<L> {
     /// What comes next for a flow.
+    #[inline(always)]
     pub fn next(&self, flow: FlowNo) -> Coming
         requires { flow.0 < length self.now.setup.items }
         ensures { Comes (setup_at L.meaning self.now) self.now.entries flow.0 result }
@@ -166,6 +167,7 @@ impl<L: Library> State<L> {
     }
 
     /// Whether a flow can go on.
+    #[inline(always)]
     pub fn way(&self, flow: FlowNo) -> Way
         requires { flow.0 < length self.now.setup.items }
         ensures { IsWay (setup_at L.meaning self.now) self.now.entries flow.0 result }
@@ -217,6 +219,7 @@ impl<L: Library> State<L> {
 
 impl<L: Library> State<L> {
     /// Makes a flow's next event, as `next` told it, which is neither a call nor blocked.
+    #[inline(always)]
     pub fn make(&mut self, flow: FlowNo, coming: Coming) -> Result<(), Memory>
         requires comes { Comes (setup_at L.meaning self.old) self.old.entries flow.0 coming }
         requires may { MayMake (setup_at L.meaning self.old) self.old.entries flow }
@@ -245,19 +248,11 @@ impl<L: Library> State<L> {
     }
 
     /// Makes the call that comes next for a flow, with the library's answer.
-    pub fn answer(
-        &mut self,
-        flow: FlowNo,
-        inputs: &Inputs,
-        answer: &SharedAnswer,
-    ) -> Result<(), Memory>
-        requires next { IsNextCall (setup_at L.meaning self.old) self.old.entries flow.0 inputs.now }
-        requires right { IsAnswerOf (L.meaning self.old.setup.library) self.old.setup.program inputs.now
-            answer.now }
-        ensures ok { OnOk result
-            (AddsCall L.meaning self.old self.new flow (made_of inputs.now answer.now)) }
+    pub fn answer(&mut self, flow: FlowNo, made: &CallMade) -> Result<(), Memory>
+        requires { MayCall (setup_at L.meaning self.old) self.old.entries flow made.now }
+        ensures ok { OnOk result (AddsCall L.meaning self.old self.new flow made.now) }
         ensures err { OnErr result (self.new ≡ self.old) }
     {
-        self.fields.answer(flow, inputs, answer)
+        self.fields.answer(flow, made)
     }
 }

@@ -1,7 +1,7 @@
 //! Lists of entries that take no memory: each is its last entry with those before it, as clauses see them.
 
-use flow_model::{Carried, Entry, SharedAnswer};
-use flux_model::{FlowNo, NodeNo};
+use flow_model::{CallMade, Entry};
+use flux_model::FlowNo;
 use std::marker::Model;
 use std::snapshot::Snapshot;
 
@@ -11,7 +11,7 @@ use std::snapshot::Snapshot;
 pub enum Last {
     Nothing,
     Entry(Snapshot<Tale>, Snapshot<Entry>),
-    Call(Snapshot<Tale>, FlowNo, NodeNo, Snapshot<Carried>, Snapshot<SharedAnswer>),
+    Call(Snapshot<Tale>, FlowNo, Snapshot<CallMade>),
 }
 
 /// Some entries, by their last one.

@@ -58,8 +58,8 @@ fn check_answer<L: Library>(
     if !same_answer(answer, made.answer.as_answer()) {
         return Ok(Some(Rule::Answer));
     }
-    // The journal's own answer, which is the same and can be shared.
-    state.answer(flow, inputs, &made.answer)?;
+    // With the call as the journal has it: its answer is the same, and can be shared.
+    state.answer(flow, made)?;
     Ok(None)
 }
 

@@ -1,5 +1,5 @@
 -- Look-ups in the map of cells.
-use Rattle.std.proofs.Common.{◌≡◌, Bool, true, false, cond, Option, refl, sym, ap, ◌∙◌, unwrap_or}
+use Rattle.std.proofs.Common.{◌≡◌, Bool, true, false, cond, Option, sym, ap, ◌∙◌, unwrap_or}
 use Rattle.std.specs.Ordering.{is_eq}
 use Rattle.std.specs.Map.{lookup}
 use Rattle.flux_values.specs.Cells.{CellMap, no_cell}

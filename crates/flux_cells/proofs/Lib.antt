@@ -3,4 +3,5 @@ pub mod CellLemmas
 pub mod Settling
 pub mod Overlays
 pub mod Copied
+pub mod OneChange
 pub mod AfterPuts

@@ -5,6 +5,7 @@ ghost use Rattle.flux_values.specs.Cells.{no_cell};
 ghost use Rattle.flux_cells.specs.Kept.{cells_of};
 ghost use Rattle.flux_cells.specs.Applied.{applied};
 
+use crate::alone::put_alone;
 use crate::touched::{copies_under, put_all, settle};
 use flow_model::Key;
 use flux_model::Program;
@@ -65,6 +66,9 @@ impl Cells {
         ensures ok { OnOk result (cells_of self.new ≡ applied p.now keys.now (cells_of self.old) puts.now) }
         ensures err { OnErr result (cells_of self.new ≡ cells_of self.old) }
     {
+        if let [put] = puts.as_slice() {
+            return put_alone(self.alloc, &mut self.cells, keys, put, p);
+        }
         let mut touched = copies_under(self.alloc, &self.cells, keys)?;
         put_all(self.alloc, &mut touched, puts.as_slice(), p)?;
         settle(self.alloc, &mut self.cells, keys, touched)

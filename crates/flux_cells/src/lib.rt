@@ -4,6 +4,7 @@
 //! it first, and changes nothing where there is none.
 #![tactic(auto)]
 
+mod alone;
 mod kept;
 mod touched;
 

@@ -1,8 +1,8 @@
-//! Copies of the cells that puts touch, and how they are put back all at once.
+//! What one put does to one cell; copies of the cells that puts touch, and how they are put back all at once.
 
 ghost use Rattle.std.specs.Prelude.{◌≡◌, IfOk, OnOk, OnErr, IsTrue, ◌↔◌, map as mapped, unwrap_or, option_copied, Some};
 ghost use Rattle.std.specs.List.{position};
-ghost use Rattle.flux_values.specs.Cells.{no_cell};
+ghost use Rattle.flux_values.specs.Cells.{no_cell, changed};
 ghost use Rattle.flow_model.specs.CellsAfter.{is_named};
 ghost use Rattle.flux_cells.specs.Kept.{NoneIsEmpty, kept_at, cells_of};
 ghost use Rattle.flux_cells.specs.Applied.{class_of};
@@ -65,9 +65,17 @@ fn put_in(
     let Some(place) = place_named(touched, p, put.cell.as_bytes()) else {
         return Ok(());
     };
+    put_on(alloc, &mut touched[place].1, put)
+}
+
+/// Applies a put to a cell.
+pub fn put_on(alloc: Global, cell: &mut Cell, put: &Put) -> Result<(), Memory>
+    ensures ok { OnOk result (cell.new ≡ changed cell.old put.now.name put.now.value) }
+    ensures err { OnErr result (cell.new ≡ cell.old) }
+{
     let name = put.name.again(alloc)?;
     let value = copy_value(alloc, &put.value)?;
-    touched[place].1.put(name, value)
+    cell.put(name, value)
 }
 
 fn copy_value(alloc: Global, value: &Option<Value>) -> Result<Option<Value>, Memory>
@@ -86,7 +94,8 @@ fn place_named(touched: &[(Key, Cell)], p: &Program, name: &[u8]) -> Option<usiz
     touched.iter().position(|(key, _)| has_name(p, *key, name))
 }
 
-fn has_name(p: &Program, key: Key, name: &[u8]) -> bool
+/// Whether a key's class has a name.
+pub fn has_name(p: &Program, key: Key, name: &[u8]) -> bool
     ensures { result ≡ is_named name.now (class_of p.now key) }
 {
     match p.classes.get(key.class.0 as usize) {
@@ -178,7 +187,14 @@ fn has_empty(cells: &BTreeMap<Key, Cell>, key: Key) -> bool
     ensures { IsTrue result ↔ (kept_at cells.now.entries key ≡ Some no_cell) }
 {
     match cells.get(&key) {
-        Some(cell) => cell.name_at(0).is_none(),
+        Some(cell) => is_empty(cell),
         None => false,
     }
+}
+
+/// Whether a cell has no names.
+pub fn is_empty(cell: &Cell) -> bool
+    ensures { IsTrue result ↔ (cell.now ≡ no_cell) }
+{
+    cell.name_at(0).is_none()
 }

@@ -18,3 +18,4 @@ pub mod Paged
 pub mod Entered
 pub mod Exemplary
 pub mod Decimals
+pub mod Quoted

@@ -10,3 +10,4 @@ pub mod Examples
 pub mod Paged
 pub mod Phrases
 pub mod KeyPhrases
+pub mod Quotes

@@ -4,6 +4,7 @@ ghost use Rattle.std.specs.Prelude.{◌≡◌, ◌≤◌, ◌++◌, [], OnOk, le
 ghost use Rattle.std.specs.Fmt.{decimal};
 ghost use Rattle.flux_values.specs.Texts.{printed_value};
 
+use crate::quotes::append_quoted;
 use flux_values::{Bytes, Memory, Value};
 use std::alloc::Global;
 
@@ -42,6 +43,7 @@ pub fn append_value(alloc: Global, out: &mut Bytes, value: &Value) -> Result<(),
 }
 
 /// Adds a value's spelling, and bytes behind it, at the end. After an `Err` a part of them may stand there.
+#[inline(always)]
 pub fn append_value_with(
     alloc: Global,
     out: &mut Bytes,
@@ -52,6 +54,7 @@ pub fn append_value_with(
 {
     match value {
         Value::Int(number) if *number >= 0 => append_number_with(out, *number as u64, behind),
+        Value::Text(text) => append_quoted(out, b"", text.as_bytes(), behind),
         _ => {
             flux_spelling::append_value(alloc, out, value)?;
             out.append(behind)

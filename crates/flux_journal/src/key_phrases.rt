@@ -1,25 +1,40 @@
 //! What stands in the lines of keys that are taken, waited for and dropped, by the class of the key.
 
 ghost use Rattle.std.specs.Prelude.{◌≡◌, ◌++◌, [], IfOk, OnOk, map};
-ghost use Rattle.flux_journal.specs.steps.KeyPhrases.{key_text, key_text_in, class_text_in, key_phrases_with, class_phrases_of};
+ghost use Rattle.flux_journal.specs.steps.KeyPhrases.{key_behind, key_text, key_text_in, class_text_in, key_phrases_with, class_phrases_of};
 
-use flux_model::Class;
+use flux_model::{Class, Mode};
 use flux_values::{Bytes, List, Memory};
 use std::alloc::Global;
 
-/// How a key's line goes on behind its flow's number: a word, and the name of the key's class.
+/// How a key's line goes on behind its flow's number: a word, the key, in which mode it is taken or waited for, and LF.
 #[derive(Clone, Copy)]
 pub enum KeyPhrase {
-    Take,
-    Wait,
+    Take(Mode),
+    Wait(Mode),
     Drop,
+}
+
+impl KeyPhrase {
+    /// What stands behind the key.
+    pub fn behind(self) -> &'static [u8]
+        ensures { result.now ≡ key_behind self }
+    {
+        match self {
+            KeyPhrase::Take(Mode::Reader) | KeyPhrase::Wait(Mode::Reader) => b"?\n",
+            KeyPhrase::Take(Mode::Writer) | KeyPhrase::Wait(Mode::Writer) => b"!\n",
+            KeyPhrase::Drop => b"\n",
+        }
+    }
 }
 
 /// The phrases of a class's keys, either of those without a number or of those with one.
 #[derive(Drop)]
 struct KeyPhrases {
-    taking: Bytes,
-    waiting: Bytes,
+    taking_to_read: Bytes,
+    taking_to_write: Bytes,
+    waiting_to_read: Bytes,
+    waiting_to_write: Bytes,
     dropping: Bytes,
 }
 
@@ -28,14 +43,16 @@ impl KeyPhrases {
         ensures { result.now ≡ key_text_in self.now phrase }
     {
         match phrase {
-            KeyPhrase::Take => self.taking.as_bytes(),
-            KeyPhrase::Wait => self.waiting.as_bytes(),
+            KeyPhrase::Take(Mode::Reader) => self.taking_to_read.as_bytes(),
+            KeyPhrase::Take(Mode::Writer) => self.taking_to_write.as_bytes(),
+            KeyPhrase::Wait(Mode::Reader) => self.waiting_to_read.as_bytes(),
+            KeyPhrase::Wait(Mode::Writer) => self.waiting_to_write.as_bytes(),
             KeyPhrase::Drop => self.dropping.as_bytes(),
         }
     }
 }
 
-/// A class's phrases. Those of keys with a number end with `@`.
+/// A class's phrases. Those of keys with a number end with `@`, the others with LF.
 #[derive(Drop)]
 pub struct ClassPhrases {
     plain: KeyPhrases,
@@ -83,8 +100,10 @@ fn print_keys(alloc: Global, numbered: bool, name: &[u8]) -> Result<KeyPhrases, 
     ensures { IfOk result (λ phrases. phrases ≡ key_phrases_with numbered name.now) }
 {
     Ok(KeyPhrases {
-        taking: print_key(alloc, KeyPhrase::Take, numbered, name)?,
-        waiting: print_key(alloc, KeyPhrase::Wait, numbered, name)?,
+        taking_to_read: print_key(alloc, KeyPhrase::Take(Mode::Reader), numbered, name)?,
+        taking_to_write: print_key(alloc, KeyPhrase::Take(Mode::Writer), numbered, name)?,
+        waiting_to_read: print_key(alloc, KeyPhrase::Wait(Mode::Reader), numbered, name)?,
+        waiting_to_write: print_key(alloc, KeyPhrase::Wait(Mode::Writer), numbered, name)?,
         dropping: print_key(alloc, KeyPhrase::Drop, numbered, name)?,
     })
 }
@@ -97,7 +116,7 @@ fn print_key(alloc: Global, phrase: KeyPhrase, numbered: bool, name: &[u8]) -> R
     Ok(out)
 }
 
-/// Adds a word and a class's name, and `@` where a number comes.
+/// Adds a word and a class's name, and `@` where a number comes, or else what stands behind the key.
 pub fn append_key_phrase(
     out: &mut Bytes,
     phrase: KeyPhrase,
@@ -107,10 +126,10 @@ pub fn append_key_phrase(
     ensures { OnOk result (out.new ≡ out.old ++ key_text phrase numbered name.now) }
 {
     out.append(match phrase {
-        KeyPhrase::Take => b" take ",
-        KeyPhrase::Wait => b" wait ",
+        KeyPhrase::Take(_) => b" take ",
+        KeyPhrase::Wait(_) => b" wait ",
         KeyPhrase::Drop => b" drop ",
     })?;
     out.append(name)?;
-    out.append(if numbered { b"@" } else { b"" })
+    out.append(if numbered { b"@" } else { phrase.behind() })
 }

@@ -21,6 +21,7 @@ mod pages;
 mod paging;
 mod phrases;
 mod printing;
+mod quotes;
 mod texts;
 
 pub use faults::{JournalFault, LineFault};

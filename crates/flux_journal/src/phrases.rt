@@ -5,7 +5,7 @@ ghost use Rattle.std.specs.Fmt.{decimal};
 ghost use Rattle.flux_model.specs.Texts.{node_name, class_name};
 ghost use Rattle.flow_model.specs.Texts.{printed_key};
 ghost use Rattle.flux_journal.specs.steps.Phrases.{phrase_text, text_in, phrases_with, phrases_of, ArePhrasesOf};
-ghost use Rattle.flux_journal.specs.steps.KeyPhrases.{key_word, key_text, AreKeyPhrasesOf};
+ghost use Rattle.flux_journal.specs.steps.KeyPhrases.{key_word, key_behind, key_text, AreKeyPhrasesOf};
 
 use crate::digits::{append_number, append_number_with};
 use crate::key_phrases::{ClassPhrases, KeyPhrase, append_key_phrase, lay_out_classes};
@@ -108,6 +108,7 @@ impl<'a> Phrases<'a> {
     }
 
     /// Adds a flow's number and a node's phrase.
+    #[inline(always)]
     pub fn append(
         &self,
         out: &mut Bytes,
@@ -127,31 +128,29 @@ impl<'a> Phrases<'a> {
         }
     }
 
-    /// Adds a flow's number, a word and a key, and what stands behind the key.
+    /// Adds the line of a key that a flow takes, waits for or drops.
+    #[inline(always)]
     pub fn append_key(
         &self,
         out: &mut Bytes,
         flow: FlowNo,
         phrase: KeyPhrase,
         key: Key,
-        behind: &[u8],
     ) -> Result<(), Memory>
         ensures { OnOk result (out.new ≡ out.old ++ (decimal flow.0
-            ++ key_word phrase ++ printed_key self.now key ++ behind.now)) }
+            ++ key_word phrase ++ printed_key self.now key ++ key_behind phrase)) }
     {
         match key.id {
-            None => {
-                self.append_class(out, flow, phrase, key.class, false)?;
-                out.append(behind)
-            }
+            None => self.append_class(out, flow, phrase, key.class, false),
             Some(number) => {
                 self.append_class(out, flow, phrase, key.class, true)?;
-                append_number_with(out, number, behind)
+                append_number_with(out, number, phrase.behind())
             }
         }
     }
 
     /// Adds a flow's number and a class's phrase.
+    #[inline(always)]
     fn append_class(
         &self,
         out: &mut Bytes,

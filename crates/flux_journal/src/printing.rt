@@ -4,19 +4,18 @@ ghost use Rattle.std.specs.Prelude.{◌≡◌, ◌++◌, [], if◌then◌else◌
 ghost use Rattle.std.specs.List.{flat_map};
 ghost use Rattle.std.specs.Fmt.{decimal};
 ghost use Rattle.flux_values.specs.Texts.{printed_value, printed_text};
-ghost use Rattle.flux_model.specs.Texts.{node_name, source_name, printed_item, printed_values, printed_mode};
-ghost use Rattle.flow_model.specs.Texts.{printed_key, printed_session, printed_result, printed_put, printed_change, printed_emission, printed_call, printed_exit, printed_end, printed_entry, printed_journal};
+ghost use Rattle.flux_model.specs.Texts.{node_name, source_name, printed_item, printed_values};
+ghost use Rattle.flow_model.specs.Texts.{printed_result, printed_put, printed_change, printed_emission, printed_call, printed_exit, printed_end, printed_entry, printed_journal};
 ghost use Rattle.flux_journal.specs.Formats.{head_line, printed_journal_2};
 ghost use Rattle.flux_journal.specs.Logs.{printed_sent, logged_call, logged_entry, printed_log, item_line, printed_batch};
 ghost use Rattle.flux_journal.specs.steps.Listed.{listed, line_end, answered, called};
-ghost use Rattle.flux_journal.specs.steps.KeyPhrases.{key_word};
 
 use crate::digits::{append_number, append_number_with, append_value, append_value_with};
 use crate::key_phrases::KeyPhrase;
 use crate::phrases::{Phrase, Phrases, node_name};
-use flow_model::{CallMade, Entry, Event, Journal, Key, Outcome};
-use flux_model::{CallResult, FlowNo, Item, Mode, NodeNo, Program, Put, SourceNo};
-use flux_spelling::append_text;
+use crate::quotes::append_quoted;
+use flow_model::{CallMade, Entry, Event, Journal, Outcome};
+use flux_model::{CallResult, FlowNo, Item, NodeNo, Program, Put, SourceNo};
 use flux_values::{Bytes, List, Memory, Value};
 use std::alloc::Global;
 
@@ -230,33 +229,10 @@ fn append_entry(
         Event::Exit(node, outcome) => append_exit(out, phrases, flow, *node, *outcome),
         Event::Choose(case) => append_choice(out, flow, *case),
         Event::End(outcome) => append_end(out, flow, *outcome),
-        Event::Take(key, mode) => {
-            append_hold(out, phrases, flow, KeyPhrase::Take, key.key(), *mode)
-        }
-        Event::Wait(key, mode) => {
-            append_hold(out, phrases, flow, KeyPhrase::Wait, key.key(), *mode)
-        }
-        Event::Drop(key) => phrases.append_key(out, flow, KeyPhrase::Drop, key.key(), b"\n"),
+        Event::Take(key, mode) => phrases.append_key(out, flow, KeyPhrase::Take(*mode), key.key()),
+        Event::Wait(key, mode) => phrases.append_key(out, flow, KeyPhrase::Wait(*mode), key.key()),
+        Event::Drop(key) => phrases.append_key(out, flow, KeyPhrase::Drop, key.key()),
     }
-}
-
-/// Adds the line of a key that is taken or waited for.
-fn append_hold(
-    out: &mut Bytes,
-    phrases: &Phrases,
-    flow: FlowNo,
-    phrase: KeyPhrase,
-    key: Key,
-    mode: Mode,
-) -> Result<(), Memory>
-    ensures { OnOk result (out.new ≡ out.old ++ (decimal flow.0
-        ++ key_word phrase ++ printed_key phrases.now key ++ printed_mode mode ++ codes "\n")) }
-{
-    let behind = match mode {
-        Mode::Reader => b"?\n",
-        Mode::Writer => b"!\n",
-    };
-    phrases.append_key(out, flow, phrase, key, behind)
 }
 
 /// Adds the line of the case that a flow chose.
@@ -316,6 +292,7 @@ fn append_end(out: &mut Bytes, flow: FlowNo, outcome: Outcome) -> Result<(), Mem
 }
 
 /// Adds a call's line.
+#[inline(always)]
 fn append_call(
     alloc: Global,
     out: &mut Bytes,
@@ -335,6 +312,7 @@ fn append_call(
 }
 
 /// Adds a call's line without what is emitted.
+#[inline(always)]
 fn append_called(
     alloc: Global,
     out: &mut Bytes,
@@ -349,6 +327,7 @@ fn append_called(
 }
 
 /// Adds a call's line as far as its result, and LF where the line ends there.
+#[inline(always)]
 fn append_answered(
     alloc: Global,
     out: &mut Bytes,
@@ -366,6 +345,7 @@ fn append_answered(
 }
 
 /// Adds a call's arguments and its result, and LF where the line ends there.
+#[inline(always)]
 fn append_result(
     alloc: Global,
     out: &mut Bytes,
@@ -394,6 +374,7 @@ fn append_result(
 }
 
 /// Adds values with commas between them, and what stands behind the last.
+#[inline(always)]
 fn append_listed(
     alloc: Global,
     out: &mut Bytes,
@@ -435,39 +416,31 @@ fn append_put(alloc: Global, out: &mut Bytes, put: &Put) -> Result<(), Memory>
     ensures { OnOk result (out.new ≡ out.old ++ printed_put put.now) }
 {
     match &put.value {
-        None => append_change(out, b" cut ", put),
+        None => append_change(out, b" cut ", put, b""),
         Some(value) => {
-            append_change(out, b" put ", put)?;
-            out.append(b" ")?;
+            append_change(out, b" put ", put, b" ")?;
             append_value(alloc, out, value)
         }
     }
 }
 
-fn append_change(out: &mut Bytes, word: &[u8], put: &Put) -> Result<(), Memory>
+/// Adds a word, a put's cell and name, and what stands behind them.
+fn append_change(out: &mut Bytes, word: &[u8], put: &Put, behind: &[u8]) -> Result<(), Memory>
     ensures { OnOk result (out.new ≡ out.old ++ (word.now ++ put.now.cell ++ codes " "
-        ++ printed_text put.now.name)) }
+        ++ printed_text put.now.name ++ behind.now)) }
 {
     append_pair(out, word, put.cell.as_bytes())?;
-    out.append(b" ")?;
-    append_text(out, put.name.as_bytes())
+    append_quoted(out, b" ", put.name.as_bytes(), behind)
 }
 
 /// Adds what a call emits, if it emits anything, and LF.
 fn append_emission(out: &mut Bytes, emission: &[u8]) -> Result<(), Memory>
     ensures { OnOk result (out.new ≡ out.old ++ (printed_emission emission.now ++ codes "\n")) }
 {
-    if !emission.is_empty() {
-        append_emitted(out, emission)?;
+    if emission.is_empty() {
+        return out.append(b"\n");
     }
-    out.append(b"\n")
-}
-
-fn append_emitted(out: &mut Bytes, emission: &[u8]) -> Result<(), Memory>
-    ensures { OnOk result (out.new ≡ out.old ++ (codes " emits " ++ printed_text emission.now)) }
-{
-    out.append(b" emits ")?;
-    append_text(out, emission)
+    append_quoted(out, b" emits ", emission, b"\n")
 }
 
 fn source_name(program: &Program, source: SourceNo) -> &[u8]

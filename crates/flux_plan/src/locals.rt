@@ -93,6 +93,7 @@ impl Local {
     }
 
     /// What comes next, at rest.
+    #[inline(always)]
     pub fn next<L: Library>(&self, machine: &Machine<'_, L>) -> Next
         requires verified { IsVerified machine.now.plan.now }
         requires sized { IsSized machine.now.plan.now }
@@ -112,6 +113,7 @@ impl Local {
     }
 
     /// Makes the event that comes next.
+    #[inline(always)]
     pub fn advance<L: Library>(&mut self, machine: &Machine<'_, L>) -> Result<(), Memory>
         requires verified { IsVerified machine.now.plan.now }
         requires sized { IsSized machine.now.plan.now }

@@ -123,6 +123,7 @@ impl<L: Library> Machine<'_, L> {
 
 impl Plan {
     /// The segment's `exit`, and the instruction at a place of a node's segment.
+    #[inline(always)]
     pub fn at(&self, node: NodeNo, place: u32) -> (u32, &Instr)
         requires verified { IsVerified self.now }
         requires sized { IsSized self.now }
@@ -141,6 +142,7 @@ impl Plan {
 
 impl<L: Library> Machine<'_, L> {
     /// The silent step of the innermost frame at a place.
+    #[inline(always)]
     fn turn(
         &self,
         frame: &Frame,
@@ -179,6 +181,7 @@ impl<L: Library> Machine<'_, L> {
     }
 
     /// Where the silent steps from a place of the innermost frame lead to.
+    #[inline(always)]
     pub fn land(&self, frames: &[Frame], place: u32, values: &[Value], outcome: Outcome) -> Landing
         requires verified { IsVerified self.now.plan.now }
         requires sized { IsSized self.now.plan.now }

@@ -16,6 +16,7 @@ use flux_values::Memory;
 
 /// What a flow does next. A pattern's number points into the program's predicates; one that points at nothing there, or
 /// at a name that the library doesn't have, matches nothing.
+#[inline(always)]
 pub fn next<L: Library>(p: &Program, plan: &VerifiedPlan, local: &Local, library: &L) -> Next
     requires reached { let matches = patterns_match (L.meaning library.now) p.now.predicates in
         IsReached plan.now matches local.now }
@@ -38,6 +39,7 @@ pub fn rests(plan: &VerifiedPlan)
 }
 
 /// Makes the event that comes next, which is no call. It takes memory for the frame of a node that is entered.
+#[inline(always)]
 pub fn advance<L: Library>(
     p: &Program,
     plan: &VerifiedPlan,

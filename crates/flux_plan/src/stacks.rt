@@ -54,6 +54,7 @@ impl Stack {
     }
 
     /// Enters a node over so many frames, with the values at hand and all being well.
+    #[inline(always)]
     fn enter(&mut self, depth: usize, frame: Frame) -> Result<(), Memory>
         requires most { depth ≤ length self.old.frames.items }
         requires inputs { frame.inputs ≡ self.old.values }
@@ -85,6 +86,7 @@ impl Stack {
     }
 
     /// Enters a node with the values at hand over so many frames, the innermost of which goes to a place.
+    #[inline(always)]
     fn enter_over(
         &mut self,
         depth: usize,
@@ -110,6 +112,7 @@ impl Stack {
     }
 
     /// Leaves all but so many frames, the innermost of which goes to a place.
+    #[inline(always)]
     fn leave(&mut self, depth: usize, place: u32, outcome: Outcome)
         requires some { 0 < depth }
         requires most { depth ≤ length self.old.frames.items }
@@ -122,6 +125,7 @@ impl Stack {
     }
 
     /// Goes where silent steps lead to.
+    #[inline(always)]
     fn settle(&mut self, landing: Landing) -> Result<(), Memory>
         requires some { 0 < landing.depth }
         requires most { landing.depth ≤ length self.old.frames.items }
@@ -154,6 +158,7 @@ impl Stack {
     }
 
     /// The place of the innermost frame behind the event that comes next; none where the flow ends.
+    #[inline(always)]
     fn behind<L: Library>(&self, machine: &Machine<'_, L>) -> Option<u32>
         requires verified { IsVerified machine.now.plan.now }
         requires sized { IsSized machine.now.plan.now }
@@ -187,6 +192,7 @@ impl Stack {
     }
 
     /// Makes the event that comes next, and the silent steps behind it.
+    #[inline(always)]
     pub fn advance<L: Library>(&mut self, machine: &Machine<'_, L>) -> Result<(), Memory>
         requires verified { IsVerified machine.now.plan.now }
         requires sized { IsSized machine.now.plan.now }
@@ -213,6 +219,7 @@ impl Stack {
     }
 
     /// What comes next, at rest.
+    #[inline(always)]
     pub fn next<L: Library>(&self, machine: &Machine<'_, L>) -> Next
         requires verified { IsVerified machine.now.plan.now }
         requires sized { IsSized machine.now.plan.now }

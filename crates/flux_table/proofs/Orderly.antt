@@ -115,9 +115,14 @@ orderly_wait held line last orderly free nowhere = record {
   once = once_more line last orderly.once nowhere;
 }
 
--- the same, whether or not there was memory
+-- what holds of a line with one more and of the line before, holds after a push, whether or not there was memory
+pub pushed_or_not : {E : Type 0} (Is : List Waiter → Type 0) (line after : List Waiter) (last : Waiter) (pushed : Result (Unit {0}) E)
+    → OnOk pushed (after ≡ line ++ last ∷ []) → OnErr pushed (after ≡ line) → Is (line ++ last ∷ []) → Is line → Is after
+pushed_or_not Is line after last (Ok _) ok err more same = subst Is (sym ok) more
+pushed_or_not Is line after last (Err _) ok err more same = subst Is (sym err) same
+
 pub orderly_push : {E : Type 0} (held : Holding) (line after : List Waiter) (last : Waiter) (pushed : Result (Unit {0}) E) → IsOrderly held line
     → held last.flow.0 ≡ None → StandsNowhere line last.flow.0
     → OnOk pushed (after ≡ line ++ last ∷ []) → OnErr pushed (after ≡ line) → IsOrderly held after
-orderly_push held line after last (Ok _) orderly free nowhere ok err = subst (IsOrderly held) (sym ok) (orderly_wait held line last orderly free nowhere)
-orderly_push held line after last (Err _) orderly free nowhere ok err = subst (IsOrderly held) (sym err) orderly
+orderly_push held line after last pushed orderly free nowhere ok err =
+    pushed_or_not (IsOrderly held) line after last pushed ok err (orderly_wait held line last orderly free nowhere) orderly

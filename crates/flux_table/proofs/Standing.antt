@@ -85,13 +85,13 @@ lowest_of_both One Other Both a b (Some low) left right either first second leas
 
 -- ---- one waiter more
 
-pub stands_still : (line : List Waiter) (waiter : Waiter) (mode : Mode) (n : ℕ) → StandsAgainst line n mode → StandsAgainst (line ++ waiter ∷ []) n mode
+stands_still : (line : List Waiter) (waiter : Waiter) (mode : Mode) (n : ℕ) → StandsAgainst line n mode → StandsAgainst (line ++ waiter ∷ []) n mode
 stands_still line waiter mode n is = record { their = is.their; stands = Contains-append_left line (waiter ∷ []) _ is.stands; against = is.against }
 
-pub stands_last : (line : List Waiter) (waiter : Waiter) (mode : Mode) → conflict waiter.mode mode ≡ true → StandsAgainst (line ++ waiter ∷ []) waiter.flow.0 mode
+stands_last : (line : List Waiter) (waiter : Waiter) (mode : Mode) → conflict waiter.mode mode ≡ true → StandsAgainst (line ++ waiter ∷ []) waiter.flow.0 mode
 stands_last line waiter mode against = record { their = waiter.mode; stands = Contains-push line waiter; against = against }
 
-pub stands_cases : (line : List Waiter) (waiter : Waiter) (mode : Mode) (n : ℕ) → StandsAgainst (line ++ waiter ∷ []) n mode
+stands_cases : (line : List Waiter) (waiter : Waiter) (mode : Mode) (n : ℕ) → StandsAgainst (line ++ waiter ∷ []) n mode
     → StandsAgainst line n mode ⊎ ((waiter.flow.0 ≡ n) × (conflict waiter.mode mode ≡ true))
 stands_cases line waiter mode n is =
     elim (Contains-push_cases line waiter _ is.stands) [

@@ -1,14 +1,13 @@
-//! The line of a key: who waits there, first come first, with two sets in which the lowest of them is found.
+//! The line of a key: who waits there, first come first, with a set of the readers and one of the writers, in which
+//! the lowest of them is found.
 
-ghost use Rattle.std.specs.Prelude.{◌≡◌, ◌++◌, ◌∷◌, [], ◌↔◌, ◌==◌, List, OnOk, OnErr, IsTrue};
+ghost use Rattle.std.specs.Prelude.{◌≡◌, ◌++◌, ◌∷◌, [], ◌↔◌, ◌==◌, List, OnOk, OnErr, IsTrue, IsFalse};
 ghost use Rattle.std.specs.List.{position};
-ghost use Rattle.flux_values.specs.declared.answers.Mode.{Mode};
-ghost use Rattle.flux_values.specs.declared.answers.Mode.TheVariants.{Reader};
 ghost use Rattle.flux_table.specs.declared.locks.Waiter.{Waiter};
-ghost use Rattle.flux_table.specs.Locks.{StandsNowhere, StandOnce};
+ghost use Rattle.flux_table.specs.Locks.{StandsNowhere};
 ghost use Rattle.flux_table.specs.Blockers.{StandsAgainst, IsLowestOf, IsEither, line_before};
 ghost use Rattle.flux_table.specs.Changes.{line_without};
-ghost use Rattle.flux_table.specs.Lines.{has, HasAgainst};
+ghost use Rattle.flux_table.specs.Lines.{has, HasThose, IsKept};
 
 use crate::locks::Waiter;
 use crate::queues::Queue;
@@ -18,12 +17,12 @@ use std::alloc::Global;
 use std::collections::BTreeSet;
 use std::marker::Model;
 
-/// Those that wait for a key, first come first. Each flow stands there once. Two sets have the flows of all waiters
-/// and those of the writers, so that the lowest is found without a walk.
+/// Those that wait for a key, first come first. Each flow stands there once, and is also in one of two sets, that of
+/// the readers or that of the writers, so that the lowest is found without a walk.
 #[derive(Drop)]
 pub struct Line {
     order: Queue,
-    waiting: BTreeSet<FlowNo>,
+    readers: BTreeSet<FlowNo>,
     writers: BTreeSet<FlowNo>,
 }
 
@@ -36,7 +35,7 @@ impl Model for Line {
 
     ghost view = { λ l. l.order };
 
-    ghost invariant = { λ l. IsKept l.order l.waiting l.writers };
+    ghost invariant = { λ l. IsKept l.order l.readers l.writers };
 }
 
 impl Line {
@@ -46,7 +45,7 @@ impl Line {
     {
         Line {
             order: Queue::new(alloc),
-            waiting: BTreeSet::new(alloc),
+            readers: BTreeSet::new(alloc),
             writers: BTreeSet::new(alloc),
         }
     }
@@ -71,13 +70,9 @@ impl Line {
         ensures ok { OnOk result (self.new ≡ self.old ++ waiter ∷ []) }
         ensures err { OnErr result (self.new ≡ self.old) }
     {
-        add(&mut self.waiting, waiter, Mode::Writer)?;
-        match push_writer(&mut self.order, &mut self.writers, waiter) {
-            Ok(()) => Ok(()),
-            Err(refused) => {
-                take_out(&mut self.waiting, waiter.flow);
-                Err(refused)
-            }
+        match waiter.mode {
+            Mode::Reader => push_with(&mut self.order, &mut self.readers, waiter),
+            Mode::Writer => push_with(&mut self.order, &mut self.writers, waiter),
         }
     }
 
@@ -85,27 +80,43 @@ impl Line {
     pub fn leave(&mut self, flow: FlowNo)
         ensures { self.new ≡ line_without self.old flow.0 }
     {
-        if !self.waiting.contains(&flow) {
+        if self.order.is_empty() || !take_out(&mut self.readers, &mut self.writers, flow) {
             return;
         }
-        take_out(&mut self.waiting, flow);
-        take_out(&mut self.writers, flow);
         if let Some(place) = place_of(self.order.as_slice(), flow) {
             self.order.remove(place);
         }
     }
 
     /// The lowest-numbered flow in conflict with a mode that stands before a flow, or in all of the line. Only for a
-    /// flow that stands there is the line walked, from its front up to the flow.
+    /// flow that stands there behind others is the line walked, from its front up to the flow.
     pub fn lowest_against(&self, flow: FlowNo, mode: Mode) -> Option<FlowNo>
         ensures { IsLowestOf (λ other. StandsAgainst (line_before self.now flow.0) other mode) result }
     {
-        if self.waiting.contains(&flow) {
-            return stander_against(self.order.as_slice(), flow, mode);
+        let line = self.order.as_slice();
+        if line.first()?.flow == flow {
+            return None;
         }
+        if self.stands(flow) {
+            return stander_against(line, flow, mode);
+        }
+        self.lowest_of_all(mode)
+    }
+
+    /// Whether a flow stands there.
+    fn stands(&self, flow: FlowNo) -> bool
+        ensures { IsFalse result ↔ StandsNowhere self.now flow.0 }
+    {
+        self.writers.contains(&flow) || self.readers.contains(&flow)
+    }
+
+    /// The lowest-numbered flow in conflict with a mode that stands anywhere there.
+    fn lowest_of_all(&self, mode: Mode) -> Option<FlowNo>
+        ensures { IsLowestOf (λ other. StandsAgainst self.now other mode) result }
+    {
         match mode {
             Mode::Reader => lowest_of(&self.writers),
-            Mode::Writer => lowest_of(&self.waiting),
+            Mode::Writer => lower(lowest_of(&self.readers), lowest_of(&self.writers)),
         }
     }
 }
@@ -151,45 +162,30 @@ fn lowest_of(flows: &BTreeSet<FlowNo>) -> Option<FlowNo>
     flows.first().copied()
 }
 
-/// Adds a flow that comes to a line, where it is in conflict with the mode that a set goes by.
-fn add(flows: &mut BTreeSet<FlowNo>, waiter: Waiter, mode: Mode) -> Result<(), Memory>
-    ensures ok { OnOk result ((line : List Waiter) → HasAgainst flows.old line mode
-        → HasAgainst flows.new (line ++ waiter ∷ []) mode) }
-    ensures err { OnErr result (flows.new ≡ flows.old) }
-{
-    if conflict(waiter.mode, mode) {
-        flows.insert(waiter.flow)?;
-    }
-    Ok(())
-}
-
-/// Takes out a flow that leaves a line.
-fn take_out(flows: &mut BTreeSet<FlowNo>, flow: FlowNo)
-    ensures { (line : List Waiter) (mode : Mode) → StandOnce line → HasAgainst flows.old line mode
-        → HasAgainst flows.new (line_without line flow.0) mode }
-{
-    let _ = flows.remove(&flow);
-}
-
-/// Puts a flow at the end of a line, and among its writers where it is one.
-fn push_writer(
-    line: &mut Queue,
-    writers: &mut BTreeSet<FlowNo>,
-    waiter: Waiter,
-) -> Result<(), Memory>
+/// Puts a flow at the end of a line, and into the set of the flows that stand there in its mode.
+fn push_with(line: &mut Queue, flows: &mut BTreeSet<FlowNo>, waiter: Waiter) -> Result<(), Memory>
     requires nowhere { StandsNowhere line.old waiter.flow.0 }
-    requires once { StandOnce line.old }
-    requires writers { HasAgainst writers.old line.old Reader }
+    requires flows { HasThose flows.old line.old waiter.mode }
     ensures ok { OnOk result (line.new ≡ line.old ++ waiter ∷ []) }
     ensures err { OnErr result (line.new ≡ line.old) }
-    ensures writers { HasAgainst writers.new line.new Reader }
+    ensures flows { HasThose flows.new line.new waiter.mode }
 {
-    add(writers, waiter, Mode::Reader)?;
+    flows.insert(waiter.flow)?;
     match line.push(waiter) {
         Ok(()) => Ok(()),
         Err(refused) => {
-            take_out(writers, waiter.flow);
+            let _ = flows.remove(&waiter.flow);
             Err(refused)
         }
     }
+}
+
+/// Takes a flow that leaves a line out of the set that has it, and answers whether one had it.
+fn take_out(readers: &mut BTreeSet<FlowNo>, writers: &mut BTreeSet<FlowNo>, flow: FlowNo) -> bool
+    ensures stands { (line : List Waiter) → IsKept line readers.old writers.old
+        → IsFalse result ↔ StandsNowhere line flow.0 }
+    ensures kept { (line : List Waiter) → IsKept line readers.old writers.old
+        → IsKept (line_without line flow.0) readers.new writers.new }
+{
+    writers.remove(&flow) || readers.remove(&flow)
 }

@@ -20,6 +20,7 @@ use Rattle.flow_state.specs.declared.places.Place.{Place}
 use Rattle.flow_state.specs.declared.fields.Fields.{Fields}
 use Rattle.flow_state.specs.States.{FlowState, setup_of, setup_at, live_at}
 use Rattle.flow_state.specs.steps.Places.{ArePlaces}
+use Rattle.flow_state.specs.steps.Cells.{classes_read}
 use Rattle.flow_state.specs.steps.Table.{IsTable}
 
 -- ---- what the fields stand for
@@ -57,3 +58,4 @@ pub record AreFields {L : Type 0} (meaning : L → LibraryMeaning) (r : Fields L
   pub given : IsGiven (setup_at meaning (state_of r)) (plans_of r)
   pub after : IsAfterIn meaning r
   pub live : r.live ≡ live_at (state_of r)
+  pub reads_ : let setup = setup_at meaning (state_of r) in r.reads ≡ classes_read setup.meaning setup.program

@@ -9,7 +9,4 @@ use Rattle.flow_state.specs.declared.tales.Last.TheVariants as lasts
 abbrev pub told : Last → List Entry
 told lasts.Nothing = []
 told (lasts.Entry before entry) = before.value ++ entry.value ∷ []
-told (lasts.Call before flow node args answer) = before.value ++ record {
-  flow = flow;
-  event = Call (record { node = node; args = args.value; answer = answer.value });
-} ∷ []
+told (lasts.Call before flow made) = before.value ++ record { flow = flow; event = Call made.value } ∷ []

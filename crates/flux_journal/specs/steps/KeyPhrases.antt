@@ -1,7 +1,9 @@
--- Steps of printing the lines of keys: what stands in them before the key's number, by the name of the key's class.
+-- Steps of printing the lines of keys: what stands in them around the key's number, by the name of the key's class.
 use Rattle.std.specs.Prelude.{◌≡◌, ℕ, List, [], ◌∷◌, ◌++◌, map, codes, ⊤, Bool, true, false}
 use Rattle.flux_model.specs.declared.programs.Program.{Program}
 use Rattle.flux_model.specs.declared.programs.Class.{Class}
+use Rattle.flux_values.specs.declared.answers.Mode.TheVariants.{Reader, Writer}
+use Rattle.flux_model.specs.Texts.{printed_mode}
 use Rattle.flux_journal.specs.declared.key_phrases.KeyPhrase.{KeyPhrase}
 use Rattle.flux_journal.specs.declared.key_phrases.KeyPhrase.TheVariants.{Take, Wait, Drop}
 use Rattle.flux_journal.specs.declared.key_phrases.KeyPhrases.{KeyPhrases}
@@ -9,23 +11,31 @@ use Rattle.flux_journal.specs.declared.key_phrases.ClassPhrases.{ClassPhrases}
 
 -- the word of a phrase, with its blanks
 abbrev pub key_word : KeyPhrase → List ℕ
-key_word Take = codes " take "
-key_word Wait = codes " wait "
+key_word (Take mode) = codes " take "
+key_word (Wait mode) = codes " wait "
 key_word Drop = codes " drop "
 
--- what stands between a class's name and a key's number
-abbrev pub key_mark : Bool → List ℕ
-key_mark true = codes "@"
-key_mark false = []
+-- what stands behind a phrase's key: how the key is held, and LF
+abbrev pub key_behind : KeyPhrase → List ℕ
+key_behind (Take mode) = printed_mode mode ++ codes "\n"
+key_behind (Wait mode) = printed_mode mode ++ codes "\n"
+key_behind Drop = codes "\n"
 
--- the word, the class's name and the mark
+-- what stands behind a class's name: the mark before a key's number, or else what stands behind the key
+abbrev pub name_behind : KeyPhrase → Bool → List ℕ
+name_behind phrase true = codes "@"
+name_behind phrase false = key_behind phrase
+
+-- the word, the class's name and what stands behind the name
 abbrev pub key_text : KeyPhrase → Bool → List ℕ → List ℕ
-key_text phrase numbered name = key_word phrase ++ name ++ key_mark numbered
+key_text phrase numbered name = key_word phrase ++ name ++ name_behind phrase numbered
 
 -- one of the phrases of keys
 abbrev pub key_text_in : KeyPhrases → KeyPhrase → List ℕ
-key_text_in phrases Take = phrases.taking
-key_text_in phrases Wait = phrases.waiting
+key_text_in phrases (Take Reader) = phrases.taking_to_read
+key_text_in phrases (Take Writer) = phrases.taking_to_write
+key_text_in phrases (Wait Reader) = phrases.waiting_to_read
+key_text_in phrases (Wait Writer) = phrases.waiting_to_write
 key_text_in phrases Drop = phrases.dropping
 
 -- one of a class's phrases
@@ -36,8 +46,10 @@ class_text_in phrases false phrase = key_text_in phrases.plain phrase
 -- the phrases of a class's keys, with a number or without
 abbrev pub key_phrases_with : Bool → List ℕ → KeyPhrases
 key_phrases_with numbered name = record {
-  taking = key_text Take numbered name;
-  waiting = key_text Wait numbered name;
+  taking_to_read = key_text (Take Reader) numbered name;
+  taking_to_write = key_text (Take Writer) numbered name;
+  waiting_to_read = key_text (Wait Reader) numbered name;
+  waiting_to_write = key_text (Wait Writer) numbered name;
   dropping = key_text Drop numbered name;
 }
 

@@ -1,9 +1,10 @@
-use Rattle.std.proofs.Common.{◌≡◌, ◌∙◌, refl, sym, subst}
+use Rattle.std.proofs.Common.{◌∙◌, refl, sym, subst}
 use Rattle.flow_model.specs.declared.journals.Event.TheVariants as events
 use Rattle.flow_model.specs.declared.journals.CallMade.{CallMade}
 use Rattle.flow_model.specs.Setup.{Setup}
 use Rattle.flow_state.specs.States.{setup_at}
-use Rattle.flow_state.specs.Moves.{with_entry}
+use Rattle.flux_laws.specs.Moves.{MayCall}
+use Rattle.flow_state.proofs.Agreeing.{may-call}
 use Rattle.flux_audit.proofs.Checking.{first_answer, next_call, right_answer, same_made}
 use Rattle.flux_audit.proofs.calls.check_answer.Goals as goal
 
@@ -20,11 +21,17 @@ returns-then-not-same_answer g c =
     first_answer setup before c.args.flow c.requires.flow (events.Call made) (next_call setup before c.args.flow.0 inputs made answer nodes args next.next)
     (λ told. let t = c.if-not-same_answer.ensures.1 (right_answer setup before c.args.flow.0 inputs made answer nodes args next c.requires.right told ∙ sym c.as_answer.ensures) in absurd cc)
 
-pub returns : goal.returns
-returns g c =
+pub answer-requires : goal.answer-requires
+answer-requires g c =
     let setup : Setup = setup_at g.L.Meaning.meaning c.args.state.now in
     let before = c.args.state.now.entries in
     let made = c.args.made.now in
-    let adds = c.in_ok-answer.ensures.ok in
-    subst (λ (m : CallMade). c.answer.new.self ≡ with_entry c.args.state.now c.args.flow (events.Call m))
-    (same_made setup before c.args.flow.0 c.args.inputs.now made c.args.made.now.answer c.requires.node c.requires.args refl) adds.new_
+    let inputs = c.args.inputs.now in
+    let answer = c.args.answer.now in
+    let same = c.if-not-same_answer.ensures.0 refl ∙ c.as_answer.ensures in
+    subst (λ (m : CallMade). MayCall setup before c.args.flow m)
+    (same_made setup before c.args.flow.0 inputs made answer c.requires.node c.requires.args same)
+    (may-call setup before c.args.flow inputs answer c.requires.next c.requires.right)
+
+pub returns : goal.returns
+returns g c = let adds = c.in_ok-answer.ensures.ok in adds.new_

@@ -14,7 +14,7 @@ pub returns : goal.returns
 returns c =
     let there = subst (λ l. Some c.in-Some.place ≡ position (is_meant c.args.p.now c.as_bytes.result.now) l) c.deref.ensures.value c.in-Some.ensures in
     let place = subst (λ name. Some c.in-Some.place ≡ position (is_meant c.args.p.now name) c.args.touched.now.items) c.as_bytes.ensures.same there in
-    on_ok_weaker c.put.result (λ done.
-    ap (λ cell. set c.args.touched.now.items c.in-Some.place (c.index_mut.result.now.0, cell)) (done ∙ ap (λ n. changed c.index_mut.result.now.1 n c.in_ok-value.value) c.in_ok-name.ensures ∙ ap (changed c.index_mut.result.now.1 c.args.put.now.name) c.in_ok-value.ensures)
+    on_ok_weaker c.put_on.result (λ done.
+    ap (λ cell. set c.args.touched.now.items c.in-Some.place (c.index_mut.result.now.0, cell)) done
     ∙ ap (λ e. set c.args.touched.now.items c.in-Some.place (e.0, changed e.1 c.args.put.now.name c.args.put.now.value)) c.index_mut.ensures.value
-    ∙ put_there c.args.p.now c.args.touched.now.items c.args.put.now c.in-Some.place c.index_mut.result.now place) c.put.ensures.ok
+    ∙ put_there c.args.p.now c.args.touched.now.items c.args.put.now c.in-Some.place c.index_mut.result.now place) c.put_on.ensures.ok

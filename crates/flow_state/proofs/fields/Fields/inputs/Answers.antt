@@ -1,6 +1,6 @@
 use Rattle.std.proofs.Common.{refl}
 use Rattle.flow_state.proofs.OnFields.{read-there}
-use Rattle.flow_state.proofs.Called.{call-there, known-next, guarded-next, begins-right, ready-of}
+use Rattle.flow_state.proofs.Called.{call-there, known-next, begins-right, ready-of}
 use Rattle.flow_state.proofs.fields.Fields.inputs.Goals as goal
 
 pub cells_for-requires-clause-known : goal.cells_for-requires-clause-known
@@ -13,15 +13,8 @@ cells_for-requires-clause-known g c =
     (read-there g.L.Meaning.meaning c.args.self.now c.requires.fields c.args.flow c.index-place.result.now
     c.requires.flow c.index-place.ensures)
 
-pub cells_for-requires-clause-protected : goal.cells_for-requires-clause-protected
-cells_for-requires-clause-protected g c =
-    let (args, call) = c.requires.at in
-    let (next, there) = c.rests.ensures in
-    guarded-next g.L.Meaning.meaning c.args.self.now c.requires.fields c.args.flow c.args.node
-    (call-there g.L.Meaning.meaning c.args.self.now c.requires.fields c.args.flow c.args.node args call next there)
-    c.index-place.result.now
-    (read-there g.L.Meaning.meaning c.args.self.now c.requires.fields c.args.flow c.index-place.result.now
-    c.requires.flow c.index-place.ensures)
+pub cells_for-requires-clause-reads : goal.cells_for-requires-clause-reads
+cells_for-requires-clause-reads g c = c.requires.fields.reads_
 
 pub returns-clause-next : goal.returns-clause-next
 returns-clause-next g c =

@@ -1,32 +1,24 @@
-use Rattle.std.proofs.Common.{◌++◌, ◌∷◌, [], sym, subst}
-use Rattle.flux_values.specs.declared.answers.Mode.TheVariants.{Writer}
-use Rattle.flux_table.specs.Locks.{StandsNowhere, StandOnce}
-use Rattle.flux_table.specs.Lines.{HasAgainst}
-use Rattle.flux_table.proofs.Orderly.{once_more}
-use Rattle.flux_table.proofs.Sets.{against_undone}
+use Rattle.std.proofs.Common.{sym, subst}
+use Rattle.flux_table.specs.Locks.{StandsNowhere}
+use Rattle.flux_table.proofs.Sets.{kept_reader, kept_writer}
 use Rattle.flux_table.proofs.lines.Line.push.Goals as goal
 
-pub push_writer-requires-clause-nowhere : goal.push_writer-requires-clause-nowhere
-push_writer-requires-clause-nowhere c = subst (λ l. StandsNowhere l c.args.waiter.flow.0) (sym c.self.view_is) c.requires
+pub push_with-requires-clause-nowhere : goal.push_with-requires-clause-nowhere
+push_with-requires-clause-nowhere c = subst (λ l. StandsNowhere l c.args.waiter.flow.0) (sym c.self.view_is) c.requires
 
-pub invariant_of-self-in-Ok : goal.invariant_of-self-in-Ok
-invariant_of-self-in-Ok c = let a = c.in-Ok.ensures in
-    let line = c.self.inside.order in
-    let nowhere = subst (λ l. StandsNowhere l c.args.waiter.flow.0) (sym c.self.view_is) c.requires in
-    record {
-      once = subst StandOnce (sym c.in-Ok.ensures.ok) (once_more line c.args.waiter c.self.invariant.once nowhere);
-      waiting = subst (λ l. HasAgainst c.add.new.flows l Writer) (sym c.in-Ok.ensures.ok) (c.in_ok-add.ensures.ok line c.self.invariant.waiting);
-      writers = c.push_writer.ensures.writers;
-    }
+pub push_with-requires-in-Writer-clause-nowhere : goal.push_with-requires-in-Writer-clause-nowhere
+push_with-requires-in-Writer-clause-nowhere c = subst (λ l. StandsNowhere l c.args.waiter.flow.0) (sym c.self.view_is) c.requires
 
-pub invariant_of-self-in-Err : goal.invariant_of-self-in-Err
-invariant_of-self-in-Err c =
-    let line = c.self.inside.order in
-    let nowhere = subst (λ l. StandsNowhere l c.args.waiter.flow.0) (sym c.self.view_is) c.requires in
-    record {
-      once = subst StandOnce (sym c.in-Err.ensures.err) c.self.invariant.once;
-      waiting = subst (λ l. HasAgainst c.take_out.new.flows l Writer) (sym c.in-Err.ensures.err)
-          (against_undone c.take_out.new.flows line c.args.waiter Writer nowhere c.self.invariant.once
-          (λ once. c.take_out.ensures (line ++ c.args.waiter ∷ []) Writer once (c.in_ok-add.ensures.ok line c.self.invariant.waiting)));
-      writers = c.push_writer.ensures.writers;
-    }
+pub invariant_of-self : goal.invariant_of-self
+invariant_of-self c =
+    let pushed = c.push_with.ensures in
+    kept_reader c.self.inside.order c.push_with.new.line c.args.waiter c.push_with.result c.push_with.new.flows c.self.inside.writers c.in-Reader.is
+    (subst (λ l. StandsNowhere l c.args.waiter.flow.0) (sym c.self.view_is) c.requires) pushed.ok pushed.err
+    c.self.invariant.once pushed.flows c.self.invariant.writers
+
+pub invariant_of-self-in-Writer : goal.invariant_of-self-in-Writer
+invariant_of-self-in-Writer c =
+    let pushed = c.push_with-in-Writer.ensures in
+    kept_writer c.self.inside.order c.push_with-in-Writer.new.line c.args.waiter c.push_with-in-Writer.result c.self.inside.readers c.push_with-in-Writer.new.flows c.in-Writer.is
+    (subst (λ l. StandsNowhere l c.args.waiter.flow.0) (sym c.self.view_is) c.requires) pushed.ok pushed.err
+    c.self.invariant.once pushed.flows c.self.invariant.readers
