@@ -57,7 +57,7 @@ def bad_byte(it, at):
     if byte in (b"-", b">"):
         return f"`{byte.decode()}` is only part of `->` or `=>`."
     if byte == b'"':
-        return "A program has no texts in quotes: they stand in items."
+        return "A program has no texts in quotes: only items have them."
     if byte >= b"\x80":
         return f"The byte {byte.hex().upper()} begins no token: outside comments, names have the letters A to Z and a to z alone."
     shown = f"`{byte.decode()}`" if 32 < byte[0] < 127 else f"The byte {byte.hex().upper()}"
@@ -85,16 +85,29 @@ def may_stand(found, at):
         yield shown
 
 
+def lacks_semicolon(it, at):
+    """Where a `;` is missing at the end of a line before the fault: the byte after that line's last token. Else None."""
+    found = text.tokens(it.data)
+    index = next((place for place, token in enumerate(found) if token.at == at), 0)
+    if index == 0 or "`;`" not in may_stand(found, at):
+        return None
+    before = found[index - 1]
+    end = before.at + len(before.text)
+    return end if b"\n" in it.data[end:at] else None
+
+
 def unexpected(it, at):
+    if lacks_semicolon(it, at) is not None:
+        return "A `;` is missing at the end of this line."
     found = text.tokens(it.data)
     wanted = [*may_stand(found, at)]
     here = next(token for token in found if token.at == at)
-    there = "the text ends" if here.kind == "end" else f"`{here.text}` stands there"
+    there = "the text ends" if here.kind == "end" else f"found `{here.text}`"
     if here.kind == "reserved" and here.text != "_" and "a name" in wanted:
         there += ", which is a reserved word and no name"
     if len(wanted) > 1:
         wanted = [", ".join(wanted[:-1]), wanted[-1]]
-    return f"Here may stand {' or '.join(wanted)}, but {there}."
+    return f"Expected {' or '.join(wanted)}, but {there}."
 
 
 def twice_named(it, at):
@@ -200,7 +213,8 @@ def join_types(it, at):
 
 def case_count(it, at):
     flow = next(one for one in it.of(Flow) if one.at == at)
-    return f"Here stand {len(flow.patterns)} patterns, and `{flow.name}` takes {it.takes(flow.name)}: one for each."
+    count = f"{len(flow.patterns)} pattern" + "s" * (len(flow.patterns) != 1)
+    return f"This case has {count}, and `{flow.name}` takes {it.takes(flow.name)}: one pattern for each."
 
 
 def case_types(it, at):
@@ -331,7 +345,7 @@ def item_types(it, data, line):
     inside = re.sub(rb'"(\\.|[^"\\])*"', b'"', line.partition(b"(")[2].rpartition(b")")[0])
     values = [one.strip() for one in inside.split(b",")] if inside.strip() else []
     found = ["text" if one.startswith(b'"') else "bool" if one in (b"true", b"false") else "int" for one in values]
-    return f"`{name}` gives {it.gives(name)}, and here stand {listed(found)}."
+    return f"`{name}` gives {it.gives(name)}, but this line has {listed(found)}."
 
 
 def too_many_items(it, data, line):
@@ -339,3 +353,50 @@ def too_many_items(it, data, line):
 
 
 ITEMS = {1: bad_item, 2: unknown_source, 3: item_types, 4: too_many_items}
+
+
+# ---- further faults of the same text
+
+
+def unread(it, at):
+    """Later declarations that can't be read, each with the place where its reading ends."""
+    reader = text.Reader(text.tokens(it.data))
+    while reader.tokens[reader.next].kind != "end":
+        try:
+            reader.declaration()
+        except text.Unread as fault:
+            where = fault.args[0].at
+            if where > at:
+                yield where, unexpected(it, where)
+            while reader.tokens[reader.next].kind != "end" and not reader.takes(";"):
+                reader.next += 1
+
+
+def unknown(it, at):
+    """Names that are no node, and library nodes that aren't there, past a place."""
+    used = [member for flow in it.of(Flow) for member in flow.members]
+    used += [line.target for line in it.sources()] + [line.handler for line in it.of(Handler)]
+    for token in used:
+        if token.at > at and token.text not in it.order:
+            yield token.at, unknown_node(it, token.at)
+    for line in it.of(Signature):
+        if line.at > at and text.library_name(line.name) not in it.library:
+            yield line.at, not_in_library(it, line.at)
+
+
+def unjoined(it, at):
+    """Members past a place that don't take what the member before gives."""
+    for flow in it.of(Flow):
+        for first, second in zip(flow.members, flow.members[1:]):
+            types = it.types(first.text), it.types(second.text)
+            if second.at > at and all(types) and types[0][1] != types[1][0]:
+                yield second.at, join_types(it, second.at)
+
+
+def further(it, at, number):
+    """The first faults of a text past its proved one, by this script's own reading: each a place and a sentence."""
+    found = {}
+    for rule in (unread, unknown, unjoined) if number > 3 else ():
+        for where, sentence in rule(it, at):
+            found.setdefault(where, sentence)
+    return sorted(found.items())

@@ -150,7 +150,7 @@ class Reader:
             self.take("=>")
             return Handler(name.text, name.at, codes, self.name())
         if word != "atomic":
-            raise Unread(self.tokens[self.next])
+            raise Unread(self.tokens[self.next - 1])
         name = self.name()
         self.take(":")
         self.take("{")

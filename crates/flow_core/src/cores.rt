@@ -9,7 +9,7 @@ ghost use Rattle.flux_cells.specs.Kept.{cells_of};
 ghost use Rattle.flow_state.specs.States.{MayRun};
 ghost use Rattle.flow_state.specs.Calls.{library_name};
 ghost use Rattle.flow_state.specs.Blockers.{IsBlockedAt};
-ghost use Rattle.flow_state.specs.Lines.{IsStop, IsWay, IsLineAt};
+ghost use Rattle.flow_state.specs.Lines.{IsBlockedTake, IsReadiness, IsLineAt};
 ghost use Rattle.flow_core.specs.States.{setup_in, begun_by, opened, IsKept};
 ghost use Rattle.flow_core.specs.Moves.{HasStepped, HasSteppedAtOnce, HasFinished, ComesWherever, ComesAtOnceWherever, job_of};
 ghost use Rattle.flow_core.specs.Runs.{live_count, GoesOn, LeavesOthers};
@@ -18,7 +18,7 @@ use crate::calls::{CallDone, Job};
 use crate::fields::Fields;
 use crate::gates::Gate;
 use flow_model::{Journal, Key};
-use flow_state::{Setup, Stop, Way};
+use flow_state::{BlockedTake, Readiness, Setup};
 use flux_cells::Cells;
 use flux_library::Library;
 use flux_model::FlowNo;
@@ -111,6 +111,7 @@ impl<L: Library> Core<L> {
         ensures err { OnErr result (self.new ≡ self.old) }
         ensures on { GoesOn self.old self.new }
         ensures others { LeavesOthers self.old self.new flow }
+        ensures kept { IsKept L.meaning self.new }
     {
         self.fields.step(flow)
     }
@@ -137,6 +138,7 @@ impl<L: Library> Core<L> {
         ensures err { OnErr result (self.new ≡ self.old) }
         ensures on { GoesOn self.old self.new }
         ensures others { LeavesOthers self.old self.new done.now.flow }
+        ensures kept { IsKept L.meaning self.new }
     {
         let flow = done.flow();
         let inputs = done.inputs();
@@ -214,20 +216,20 @@ impl<L: Library> Core<L> {
 
 impl<L: Library> Core<L> {
     /// Whether a flow has ended, is blocked, or is neither; whether its call is begun isn't asked.
-    pub fn way(&self, flow: FlowNo) -> Way
+    pub fn readiness(&self, flow: FlowNo) -> Readiness
         requires { flow.0 < length self.now.setup.items }
-        ensures { IsWay (setup_in L.meaning self.now) self.now.entries flow.0 result }
+        ensures { IsReadiness (setup_in L.meaning self.now) self.now.entries flow.0 result }
     {
-        self.fields.state.way(flow)
+        self.fields.state.readiness(flow)
     }
 
     /// Where a flow is blocked.
-    pub fn stop_at(&self, flow: FlowNo) -> Option<Stop>
+    pub fn blocked_take(&self, flow: FlowNo) -> Option<BlockedTake>
         requires { flow.0 < length self.now.setup.items }
         ensures { MatchOption result (IsBlocked (setup_in L.meaning self.now) self.now.entries flow.0 → ⊥)
-            (IsStop (setup_in L.meaning self.now) self.now.entries flow.0) }
+            (IsBlockedTake (setup_in L.meaning self.now) self.now.entries flow.0) }
     {
-        self.fields.state.stop_at(flow)
+        self.fields.state.blocked_take(flow)
     }
 
     /// The allocator that the core was made with.

@@ -19,7 +19,7 @@ mod sameness;
 
 pub use calls::{CallDone, Job};
 pub use cores::{AtOnce, Core, Finish, Step};
-pub use flow_state::{Inputs, Setup, Stop, Way};
+pub use flow_state::{BlockedTake, Inputs, Readiness, Setup};
 pub use gates::{Gate, OpenGate};
 pub use laws::{calls_are_moves, none_live_is_whole, runs_are_legal};
 pub use runtimes::{Runtime, Stopped};

@@ -1,15 +1,16 @@
 -- What seats and turns of a hall may do.
 use Rattle.std.specs.Prelude.{◌==◌}
 use Rattle.std.proofs.Common.{◌≡◌, ℕ, ◌+◌, Bool, true, false, List, [], ◌∷◌, sym, ap, subst, ◌∙◌, Option, Some, None}
+use mathlib.Core.Option.{none}
 use prog.Atomic.{either}
-use Rattle.atomic_table.specs.Table.{Me, rest, Allows, Splits, Joins}
+use Rattle.atomic_table.specs.Table.{Me, step, rest, Allows, Splits, Joins}
 use Rattle.atomic_table.specs.Seated.{TableId}
 use Rattle.flow_core.specs.States.{CoreState}
 use Rattle.flow_core.specs.Runs.{GoesOn}
 use Rattle.flow_hall.specs.States.{HallState}
 use Rattle.flow_hall.specs.declared.views.View.{View}
 use Rattle.flow_hall.specs.declared.views.View.TheVariants.{Spent, Seated}
-use Rattle.flow_hall.specs.Rule.{view_after, moves_of, IsHall, WinsOrLoses, GivesTurn, IsSeated, IsOnTurn}
+use Rattle.flow_hall.specs.Rule.{view_after, moves_of, IsHall, TriesTurn, GivesTurn, IsSeated, IsOnTurn}
 use Rattle.flow_hall.proofs.Kept.{tries, gives_back, splits, joins}
 use Rattle.flow_hall.proofs.Goings.{goes_on-then}
 
@@ -20,10 +21,10 @@ module _ {L : Type 0} (hall : HallState L) (own table : TableId) (base : CoreSta
   known me seated = seated.me_ ∙ ap (λ h. (Seated h.base (moves_of me.0) false, [])) same
 
   pub try_at : (me : Me (Option (CoreState L)) (View L)) → IsSeated hall own me → (slots seat : ℕ)
-      → Allows (IsHall base) slots seat me 0 (λ n. either (n == 0) 1 n) (WinsOrLoses me)
+      → Allows (IsHall base) slots seat me 0 (λ n. either (n == 0) 1 n) (TriesTurn (step slots 0 0 1 none) me)
   try_at me seated slots seat =
       let P : Me (Option (CoreState L)) (View L) → Type 0 = λ m.
-      Allows (IsHall base) slots seat m 0 (λ n. either (n == 0) 1 n) (WinsOrLoses m) in
+      Allows (IsHall base) slots seat m 0 (λ n. either (n == 0) 1 n) (TriesTurn (step slots 0 0 1 none) m) in
       subst P (sym (known me seated)) (tries base slots seat (moves_of me.0))
 
   pub split_at : (me : Me (Option (CoreState L)) (View L)) → IsSeated hall own me → (seat : ℕ)

@@ -1,5 +1,5 @@
--- Tables that fit the hall's rule, and some that don't.
-use Rattle.std.proofs.Common.{◌≡◌, ℕ, ◌≤◌, zero, suc, true, false, List, [], ◌∷◌, Option, Some, None, refl, ap, sym, subst, ⊎_elim, get_or, arith}
+-- Tables and steps that fit the hall's rule, and some that don't.
+use Rattle.std.proofs.Common.{◌≡◌, ℕ, ◌≤◌, zero, suc, true, false, List, [], ◌∷◌, length, Option, Some, None, refl, ap, sym, subst, ⊎_elim, get_or, arith}
 use Rattle.std.specs.Prelude.{IsSome}
 use mathlib.Core.Option as slots
 use mathlib.Core.Option.{some, none, some-injective, some-ne-none}
@@ -8,7 +8,7 @@ use Rattle.flow_core.specs.States.{CoreState}
 use Rattle.flow_hall.specs.declared.views.View.{View}
 use Rattle.flow_hall.specs.declared.views.View.TheVariants.{Spent, Seated}
 use Rattle.flow_hall.specs.Rule.{KnowsBase, IsHall}
-use Rattle.flow_hall.specs.Examples.{table, RuleFits}
+use Rattle.flow_hall.specs.Examples.{table, RuleFits, StepsFit}
 use Rattle.flow_hall.proofs.Goings.{goes_on-none}
 
 module _ {L : Type 0} where
@@ -48,4 +48,11 @@ rule-fits L = record {
   two = λ core kept. let one = kept.one in omega (arith, one);
   nobody = λ core kept. let word = ap (λ words. get_or words 0 0) kept.word in omega (arith, word);
   empty = λ core kept. let held = kept.core refl in let there = ap filled held.there in omega (arith, there);
+}
+
+pub steps-fit : (L : Type 0) → StepsFit L
+steps-fit L = record {
+  give = λ core moves turn after gives. let held = ap length gives.slot in omega (arith, held);
+  load = λ slots found before after tries. let to = tries.to in omega (arith, to);
+  swap = λ slots new found before after tries. let to = tries.to in omega (arith, to);
 }

@@ -2,16 +2,16 @@
 use Rattle.std.specs.Prelude.{◌==◌, MatchBool}
 use Rattle.std.proofs.Common.{◌≡◌, ℕ, zero, suc, ◌+◌, ◌≤◌, Bool, true, false, List, [], ◌∷◌, ◌++◌, length, get_or, set, sym, ap, subst, refl, ◌∙◌, ⊎_elim, Option, Some, None, arith}
 use Rattle.std.proofs.lemmas.Bool.{eqb-true, true≢false}
-use mathlib.Core.Option.{some, some-injective, some-ne-none}
+use mathlib.Core.Option.{some, none, some-injective, some-ne-none}
 use prog.Atomic.{either}
 use lib.ListN.{get_elem?}
-use Rattle.atomic_table.specs.Table.{State, Act, keeps, takes, gives, Valid, stepped, carried_after, Allows, Splits, Joins}
+use Rattle.atomic_table.specs.Table.{State, Act, step, keeps, takes, gives, Valid, stepped, carried_after, Allows, Splits, Joins}
 use Rattle.atomic_table.proofs.Lists.{at_set, at_snoc}
 use Rattle.flow_core.specs.States.{CoreState}
 use Rattle.flow_core.specs.Runs.{GoesOn}
 use Rattle.flow_hall.specs.declared.views.View.{View}
 use Rattle.flow_hall.specs.declared.views.View.TheVariants.{Spent, Seated}
-use Rattle.flow_hall.specs.Rule.{view_after, KnowsBase, turn_of, turns, HoldsCore, IsHall, WinsTurn, LosesTurn, WinsOrLoses, GivesTurn, first_view}
+use Rattle.flow_hall.specs.Rule.{view_after, KnowsBase, turn_of, turns, HoldsCore, IsHall, WinsTurn, LosesTurn, TriesTurn, GivesTurn, first_view}
 use Rattle.flow_hall.proofs.Goings.{goes_on-none}
 
 only : {A : Type 0} (xs : List A) (x : A) → length xs ≡ 1 → set xs 0 x ≡ x ∷ []
@@ -134,14 +134,15 @@ module _ {L : Type 0} where
 
   pub tries : (base : CoreState L) (slots seat moves : ℕ)
       → Allows (IsHall base) slots seat (Seated base moves false, []) 0 (λ n. either (n == 0) 1 n)
-      (WinsOrLoses (Seated base moves false, []))
+      (TriesTurn (step slots 0 0 1 none) (Seated base moves false, []))
   tries base slots seat moves table kept long at small =
       let P : ℕ → Type 0 = λ n.
       (new : View L) × (act : Act (Option (CoreState L))) × Valid table.homes [] act
       × IsHall base (stepped table 0 (either (n == 0) 1 n) seat [] new act)
-      × WinsOrLoses (Seated base moves false, []) n (new, carried_after [] act) in
+      × TriesTurn (step slots 0 0 1 none) (Seated base moves false, []) n (new, carried_after [] act) in
+      let by = tries_by base slots seat moves table kept at (turns table.views == 0) refl in
       subst P (sym (ap (λ words. get_or words 0 0) kept.word))
-      (tries_by base slots seat moves table kept at (turns table.views == 0) refl)
+      (by.0, by.1, by.2, by.3, record { from = refl; to = refl; comes = by.4 })
 
   pub gives_back : (base core : CoreState L) (seat moves : ℕ) → GoesOn base core
       → Allows (IsHall base) 1 seat (Seated base moves true, (0, Some core) ∷ []) 0 (λ n. 0)
@@ -159,7 +160,7 @@ module _ {L : Type 0} where
           core = λ none. record { core = core; there = only table.homes (some (Some core)) long; on = on };
           seats = known_set base table.views seat new refl kept.seats;
         },
-        refl,
+        record { core = core; slot = refl; after_ = refl },
       )
 
   pub splits : (base : CoreState L) (seat moves : ℕ)

@@ -1,12 +1,12 @@
--- Tables that fit the hall's rule, and some that don't.
-use Rattle.std.specs.Prelude.{ℕ, true, false, List, [], ◌∷◌, Option, Some, None}
+-- Tables and steps that fit the hall's rule, and some that don't.
+use Rattle.std.specs.Prelude.{ℕ, Bool, true, false, List, [], ◌∷◌, Option, Some, None}
 use mathlib.Core.Option as slots
 use mathlib.Core.Option.{some, none}
-use Rattle.atomic_table.specs.Table.{State}
+use Rattle.atomic_table.specs.Table.{State, Me, step}
 use Rattle.flow_core.specs.States.{CoreState}
 use Rattle.flow_hall.specs.declared.views.View.{View}
 use Rattle.flow_hall.specs.declared.views.View.TheVariants.{Spent, Seated}
-use Rattle.flow_hall.specs.Rule.{IsHall}
+use Rattle.flow_hall.specs.Rule.{IsHall, TriesTurn, GivesTurn}
 
 module _ {L : Type 0} where
   -- a table with one word and one slot
@@ -29,3 +29,15 @@ pub record RuleFits (L : Type 0) : Type 0 where
   pub nobody : (core : CoreState L) → IsHall core (table 1 (some (Some core)) (Seated core 2 false ∷ [])) → ⊥
   -- not: nobody has the turn, and the slot holds nothing
   pub empty : (core : CoreState L) → IsHall core (table 0 (some None) (Seated core 2 false ∷ [])) → ⊥
+
+-- which steps count as trying for the turn, and as giving it
+pub record StepsFit (L : Type 0) : Type 0 where
+  -- not: a seat that holds no slot gives the turn, so no seat without the turn does, and no new one
+  pub give : (core : CoreState L) (moves : ℕ) (turn : Bool) (after : Me (Option (CoreState L)) (View L))
+      → GivesTurn (Seated core moves turn, []) after → ⊥
+  -- not: a load tries for the turn
+  pub load : (slots found : ℕ) (before after : Me (Option (CoreState L)) (View L))
+      → TriesTurn (step slots 0 0 0 none) before found after → ⊥
+  -- not: a swap or a store does, as a new seat could make it
+  pub swap : (slots new found : ℕ) (before after : Me (Option (CoreState L)) (View L))
+      → TriesTurn (step slots 0 new 0 none) before found after → ⊥

@@ -4,7 +4,7 @@ use mathlib.Core.Option as slots
 use mathlib.Core.Option.{some}
 use lib.ListN.{get_elem?}
 use Rattle.atomic_table.specs.Seated.{TableId}
-use Rattle.atomic_table.specs.Table.{State, Me}
+use Rattle.atomic_table.specs.Table.{State, Me, Step}
 use Rattle.flow_core.specs.States.{CoreState}
 use Rattle.flow_core.specs.Runs.{GoesOn}
 use Rattle.flow_hall.specs.States.{HallState}
@@ -81,9 +81,18 @@ module _ {L : Type 0} where
   abbrev pub WinsOrLoses : Me (Option (CoreState L)) (View L) → ℕ → Me (Option (CoreState L)) (View L) → Type 0
   WinsOrLoses before found after = MatchBool (found == 0) (WinsTurn before after) (LosesTurn before found after)
 
-  -- giving the turn: the slot is at home again
-  abbrev pub GivesTurn : Me (Option (CoreState L)) (View L) → Me (Option (CoreState L)) (View L) → Type 0
-  GivesTurn before after = after ≡ (view_after 1 false before.0, [])
+  -- trying for the turn: a compare-exchange from 0 to 1, which wins or loses it
+  pub record TriesTurn (step : Step (Option (CoreState L))) (before : Me (Option (CoreState L)) (View L)) (found : ℕ)
+      (after : Me (Option (CoreState L)) (View L)) : Type 0 where
+    pub from : step.first ≡ 0
+    pub to : step.second ≡ 1
+    pub comes : WinsOrLoses before found after
+
+  -- giving the turn: the seat held the slot, with a core; the slot is at home again
+  pub record GivesTurn (before after : Me (Option (CoreState L)) (View L)) : Type 0 where
+    pub core : CoreState L
+    pub slot : before.1 ≡ (0, Some core) ∷ []
+    pub after_ : after ≡ (view_after 1 false before.0, [])
 
   -- ---- what seats and turns keep
 

@@ -14,7 +14,7 @@ use std::alloc::Global;
 use std::marker::Model;
 use std::snapshot::Snapshot;
 use std::sync::Wait;
-use thread_pauses::Pause;
+use thread_backoff::Pause;
 
 /// A core that threads take in turn.
 pub struct Hall<L: Library> {

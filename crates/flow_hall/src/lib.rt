@@ -13,5 +13,5 @@ mod seats;
 mod views;
 
 pub use halls::Hall;
-pub use laws::rule_fits;
+pub use laws::{rule_fits, steps_fit};
 pub use seats::{HallSeat, HallTurn, Held};

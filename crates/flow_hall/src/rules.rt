@@ -24,9 +24,9 @@ impl<L: Library> TableRule<Option<Core<L>>, View<L>, Snapshot<Core<L>>> for Hall
 pub struct TakesTurn;
 
 impl<L: Library> Play<Option<Core<L>>, View<L>> for TakesTurn {
-    ghost use Rattle.flow_hall.specs.Rule.{WinsOrLoses};
+    ghost use Rattle.flow_hall.specs.Rule.{TriesTurn};
 
-    ghost then = { λ step before found after. WinsOrLoses before found after };
+    ghost then = { λ step before found after. TriesTurn step before found after };
 }
 
 /// Giving the turn.

@@ -1,5 +1,7 @@
 //! Passes: what a thread needs to put and to take.
 
+ghost use Rattle.std.specs.Prelude.{◌↔◌, IsTrue, IsSome};
+
 use crate::queues::FlowQueue;
 use crate::views::View;
 use crossbeam_queue::Pass;
@@ -32,4 +34,13 @@ impl Model for QueuePass {
     } };
 
     ghost invariant = { λ p. IsPassIn p.queue.value p.held p.pass };
+}
+
+impl QueuePass {
+    /// Whether it holds a number.
+    pub fn holds(&self) -> bool
+        ensures { IsTrue result ↔ IsSome self.now.held }
+    {
+        self.held.is_some()
+    }
 }

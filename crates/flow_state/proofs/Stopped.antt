@@ -25,7 +25,7 @@ use Rattle.flux_table.specs.Tables.{lines_of}
 use Rattle.flow_state.specs.declared.places.Place.{Place}
 use Rattle.flow_state.specs.declared.fields.Fields.{Fields}
 use Rattle.flow_state.specs.States.{setup_at}
-use Rattle.flow_state.specs.Lines.{IsStanding, IsStop, StandInOrder, IsLineAt}
+use Rattle.flow_state.specs.Lines.{IsStanding, IsBlockedTake, StandInOrder, IsLineAt}
 use Rattle.flow_state.specs.steps.Places.{IsPlaceOf, IsComing}
 use Rattle.flow_state.specs.steps.Table.{AreInOrder}
 use Rattle.flow_state.specs.steps.Fields.{state_of, plans_of, AreFields}
@@ -60,7 +60,7 @@ module _ {L : Type 0} (meaning : L → LibraryMeaning) (r : Fields L) (is : AreF
     -- the flow's place tells whether it stands there
     pub stop-is : (blocker : ℕ) → Blocks entries blocker flow.0 key mode → (place : Place)
         → slice_get items flow.0 ≡ Some place
-        → IsStop setup entries flow.0 (record { key = key; mode = mode; stands = place.stands })
+        → IsBlockedTake setup entries flow.0 (record { key = key; mode = mode; stands = place.stands })
     stop-is blocker blocks place read = record {
       next = take-next;
       blocked = (blocker, record { key = key; mode = mode; next = take-next; blocked = blocks });

@@ -12,9 +12,9 @@ use Rattle.flow_model.specs.Waits.{StandsAt, IsNoWaitLast}
 use Rattle.flux_laws.specs.Growth.{has_ended}
 use Rattle.flux_laws.specs.Going.{IsBlocked}
 use Rattle.flux_table.specs.declared.locks.Waiter.{Waiter}
-use Rattle.flow_state.specs.declared.stops.Stop.{Stop}
-use Rattle.flow_state.specs.declared.stops.Way.{Way}
-use Rattle.flow_state.specs.declared.stops.Way.TheVariants.{Ended, Blocked, Free}
+use Rattle.flow_state.specs.declared.readiness.BlockedTake.{BlockedTake}
+use Rattle.flow_state.specs.declared.readiness.Readiness.{Readiness}
+use Rattle.flow_state.specs.declared.readiness.Readiness.TheVariants.{Ended, Blocked, Free}
 
 -- a flow stands at some key: its last entry is a `wait` for it
 pub record IsStanding (entries : List Entry) (flow : ℕ) : Type 0 where
@@ -24,17 +24,17 @@ pub record IsStanding (entries : List Entry) (flow : ℕ) : Type 0 where
   pub stands : StandsAt entries flow key mode place
 
 -- a flow is blocked at a take, and stands there or has no wait yet
-pub record IsStop (setup : Setup) (entries : List Entry) (flow : ℕ) (stop : Stop) : Type 0 where
+pub record IsBlockedTake (setup : Setup) (entries : List Entry) (flow : ℕ) (stop : BlockedTake) : Type 0 where
   pub next : IsNext setup entries flow (Take stop.key stop.mode)
   pub blocked : IsBlocked setup entries flow
   pub stands : stop.stands ≡ true → (place : ℕ) × StandsAt entries flow stop.key stop.mode place
   pub nowhere : stop.stands ≡ false → IsNoWaitLast entries (record { 0 = flow })
 
 -- a flow has had its `end`, is blocked at a take, or is neither
-abbrev pub IsWay : Setup → List Entry → ℕ → Way → Type 0
-IsWay setup entries flow Ended = has_ended entries flow ≡ true
-IsWay setup entries flow (Blocked stop) = (has_ended entries flow ≡ false) × IsStop setup entries flow stop
-IsWay setup entries flow Free = (has_ended entries flow ≡ false) × (IsBlocked setup entries flow → ⊥)
+abbrev pub IsReadiness : Setup → List Entry → ℕ → Readiness → Type 0
+IsReadiness setup entries flow Ended = has_ended entries flow ≡ true
+IsReadiness setup entries flow (Blocked stop) = (has_ended entries flow ≡ false) × IsBlockedTake setup entries flow stop
+IsReadiness setup entries flow Free = (has_ended entries flow ≡ false) × (IsBlocked setup entries flow → ⊥)
 
 -- the others of a line stand there behind a place
 abbrev pub StandBehind : List Entry → Key → ℕ → List Waiter → Type 0

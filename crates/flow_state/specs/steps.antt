@@ -4,4 +4,4 @@ pub mod Cells
 pub mod Fields
 pub mod Starts
 pub mod Reads
-pub mod Tales
+pub mod GhostLogs

@@ -27,7 +27,7 @@ impl<L: Library> Fields<L> {
             (AddsCall L.meaning (state_of self.old) (state_of self.new) flow made.now) }
         ensures err { OnErr result (state_of self.new ≡ state_of self.old) }
     {
-        self.rests(flow);
+        self.has_next(flow);
         if made.answer.as_answer().puts.is_empty() {
             self.answer_alone(flow, made)
         } else {

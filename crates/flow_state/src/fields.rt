@@ -51,14 +51,14 @@ impl<L: Library> Fields<L> {
     }
 
     /// Does nothing. Its clause: something comes next at the flow's place.
-    pub fn rests(&self, flow: FlowNo)
+    pub fn has_next(&self, flow: FlowNo)
         requires fields { AreFields L.meaning self.now }
         requires flow { flow.0 < length self.now.setup.items }
         ensures { (next : Next) × IsComing (setup_at L.meaning (state_of self.now)) (plans_of self.now)
             self.now.places.items flow.0 next }
     {
         let place = &self.places[flow.0 as usize];
-        self.setup.rests(flow, &place.local);
+        self.setup.has_next(flow, &place.local);
     }
 
     /// A flow's key of a class.

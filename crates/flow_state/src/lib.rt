@@ -10,24 +10,24 @@
 mod answers;
 mod coming;
 mod fields;
+mod ghost_logs;
 mod inputs;
 mod keys;
 mod made;
 mod moves;
 mod places;
 mod queries;
+mod readiness;
 mod reads;
 mod setups;
 mod starts;
 mod states;
-mod stops;
 mod takes;
-mod tales;
 mod turns;
 mod uses;
 
 pub use coming::Coming;
 pub use inputs::Inputs;
+pub use readiness::{BlockedTake, Readiness};
 pub use setups::Setup;
 pub use states::State;
-pub use stops::{Stop, Way};

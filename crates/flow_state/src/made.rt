@@ -2,9 +2,9 @@
 
 ghost use Rattle.std.specs.Prelude.{◌≡◌, [], ◌∷◌, ◌++◌};
 ghost use Rattle.flow_model.specs.declared.journals.Event.TheVariants as events;
-ghost use Rattle.flow_state.specs.steps.Tales.{told};
+ghost use Rattle.flow_state.specs.steps.GhostLogs.{entries_in};
 
-use crate::tales::{Last, Tale};
+use crate::ghost_logs::{GhostLog, LastEntry};
 use flow_model::{CallMade, Entry};
 use flux_model::FlowNo;
 use std::marker::Model;
@@ -13,7 +13,7 @@ use std::snapshot::Snapshot;
 /// The entries that were made, seen as their list.
 #[derive(Drop)]
 pub struct Made {
-    tale: Snapshot<Tale>,
+    log: Snapshot<GhostLog>,
 }
 
 impl Model for Made {
@@ -26,7 +26,7 @@ impl Model for Made {
 
     ghost coded = { coded_list entry.the_row.coded };
 
-    ghost view = { λ m. m.tale.value };
+    ghost view = { λ m. m.log.value };
 }
 
 impl Made {
@@ -34,7 +34,7 @@ impl Made {
         ensures { result ≡ [] }
     {
         Made {
-            tale: told(Last::Nothing),
+            log: snapshot_of(LastEntry::Nothing),
         }
     }
 
@@ -42,23 +42,23 @@ impl Made {
     pub fn add(&mut self, entry: &Entry)
         ensures { self.new ≡ self.old ++ entry.now ∷ [] }
     {
-        let before = std::mem::replace(&mut self.tale, told(Last::Nothing));
-        self.tale = told(Last::Entry(before, Snapshot::of(entry)));
+        let before = std::mem::replace(&mut self.log, snapshot_of(LastEntry::Nothing));
+        self.log = snapshot_of(LastEntry::Entry(before, Snapshot::of(entry)));
     }
 
     /// A call more, with its answer.
     pub fn add_call(&mut self, flow: FlowNo, made: &CallMade)
         ensures { self.new ≡ self.old ++ record { flow = flow; event = events.Call made.now } ∷ [] }
     {
-        let before = std::mem::replace(&mut self.tale, told(Last::Nothing));
-        self.tale = told(Last::Call(before, flow, Snapshot::of(made)));
+        let before = std::mem::replace(&mut self.log, snapshot_of(LastEntry::Nothing));
+        self.log = snapshot_of(LastEntry::Call(before, flow, Snapshot::of(made)));
     }
 }
 
-/// What a tale with this last entry tells.
-fn told(last: Last) -> Snapshot<Tale>
-    ensures { result.value ≡ told last }
+/// A log with this last entry, as a value that only clauses see.
+fn snapshot_of(last: LastEntry) -> Snapshot<GhostLog>
+    ensures { result.value ≡ entries_in last }
 {
-    let tale = Tale { last };
-    Snapshot::of(&tale)
+    let log = GhostLog { last };
+    Snapshot::of(&log)
 }

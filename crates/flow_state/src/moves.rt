@@ -60,7 +60,7 @@ impl<L: Library> Fields<L> {
 
     /// Makes a flow's drop of a key.
     #[inline(always)]
-    pub fn give(&mut self, flow: FlowNo, key: Key) -> Result<(), Memory>
+    pub fn release(&mut self, flow: FlowNo, key: Key) -> Result<(), Memory>
         requires fields { AreFields L.meaning self.old }
         requires coming { IsEventComing (setup_at L.meaning (state_of self.old)) (plans_of self.old)
             self.old.places.items flow.0 (events.Drop key) }
@@ -81,7 +81,7 @@ impl<L: Library> Fields<L> {
 
     /// Makes a flow's take of a key, which no flow blocks.
     #[inline(always)]
-    pub fn get(&mut self, flow: FlowNo, key: Key, mode: Mode) -> Result<(), Memory>
+    pub fn acquire(&mut self, flow: FlowNo, key: Key, mode: Mode) -> Result<(), Memory>
         requires fields { AreFields L.meaning self.old }
         requires coming { IsEventComing (setup_at L.meaning (state_of self.old)) (plans_of self.old)
             self.old.places.items flow.0 (events.Take key mode) }
@@ -92,14 +92,14 @@ impl<L: Library> Fields<L> {
         ensures err { OnErr result (state_of self.new ≡ state_of self.old) }
     {
         if self.places[flow.0 as usize].stands {
-            self.get_behind(flow, key, mode)
+            self.acquire_from_line(flow, key, mode)
         } else {
-            self.get_first(flow, key, mode)
+            self.acquire_at_once(flow, key, mode)
         }
     }
 
     /// The same for a flow that stands in the key's line. Its place is changed last, since leaving a line can't be undone.
-    fn get_behind(&mut self, flow: FlowNo, key: Key, mode: Mode) -> Result<(), Memory>
+    fn acquire_from_line(&mut self, flow: FlowNo, key: Key, mode: Mode) -> Result<(), Memory>
         requires fields { AreFields L.meaning self.old }
         requires coming { IsEventComing (setup_at L.meaning (state_of self.old)) (plans_of self.old)
             self.old.places.items flow.0 (events.Take key mode) }
@@ -124,7 +124,7 @@ impl<L: Library> Fields<L> {
 
     /// The same for a flow that stands nowhere.
     #[inline(always)]
-    fn get_first(&mut self, flow: FlowNo, key: Key, mode: Mode) -> Result<(), Memory>
+    fn acquire_at_once(&mut self, flow: FlowNo, key: Key, mode: Mode) -> Result<(), Memory>
         requires fields { AreFields L.meaning self.old }
         requires coming { IsEventComing (setup_at L.meaning (state_of self.old)) (plans_of self.old)
             self.old.places.items flow.0 (events.Take key mode) }

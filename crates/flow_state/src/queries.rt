@@ -10,12 +10,12 @@ ghost use Rattle.flux_laws.specs.Growth.{has_ended};
 ghost use Rattle.flux_table.specs.Blockers.{IsLowestOf};
 ghost use Rattle.flow_state.specs.States.{setup_at};
 ghost use Rattle.flow_state.specs.Blockers.{IsHeldBy, IsAhead, IsBlockedAt};
-ghost use Rattle.flow_state.specs.Lines.{IsStop, IsWay, IsStanding, IsLineAt};
+ghost use Rattle.flow_state.specs.Lines.{IsBlockedTake, IsReadiness, IsStanding, IsLineAt};
 ghost use Rattle.flow_state.specs.steps.Places.{IsComing};
 ghost use Rattle.flow_state.specs.steps.Fields.{state_of, plans_of, AreFields};
 
 use crate::fields::Fields;
-use crate::stops::{Stop, Way};
+use crate::readiness::{BlockedTake, Readiness};
 use flow_model::Key;
 use flux_library::Library;
 use flux_model::{ClassNo, FlowNo, Mode};
@@ -47,56 +47,56 @@ impl<L: Library> Fields<L> {
             MatchOption result (IsBlocked setup self.now.made flow.0 → ⊥)
             (IsBlockedAt setup self.now.made flow.0) }
     {
-        Some(self.stop_at(flow)?.key)
+        Some(self.blocked_take(flow)?.key)
     }
 
     /// Where a flow is blocked.
-    pub fn stop_at(&self, flow: FlowNo) -> Option<Stop>
+    pub fn blocked_take(&self, flow: FlowNo) -> Option<BlockedTake>
         requires fields { AreFields L.meaning self.now }
         requires flow { flow.0 < length self.now.setup.items }
         ensures { let setup = setup_at L.meaning (state_of self.now) in
             MatchOption result (IsBlocked setup self.now.made flow.0 → ⊥)
-            (IsStop setup self.now.made flow.0) }
+            (IsBlockedTake setup self.now.made flow.0) }
     {
-        match self.way(flow) {
-            Way::Blocked(stop) => Some(stop),
-            Way::Ended => None,
-            Way::Free => None,
+        match self.readiness(flow) {
+            Readiness::Blocked(stop) => Some(stop),
+            Readiness::Ended => None,
+            Readiness::Free => None,
         }
     }
 
     /// Whether a flow can go on.
-    pub fn way(&self, flow: FlowNo) -> Way
+    pub fn readiness(&self, flow: FlowNo) -> Readiness
         requires fields { AreFields L.meaning self.now }
         requires flow { flow.0 < length self.now.setup.items }
-        ensures { IsWay (setup_at L.meaning (state_of self.now)) self.now.made flow.0 result }
+        ensures { IsReadiness (setup_at L.meaning (state_of self.now)) self.now.made flow.0 result }
     {
         match self.next(flow) {
-            Next::Ended => Way::Ended,
-            Next::Take(class, mode) => self.way_to(flow, class, mode),
-            _ => Way::Free,
+            Next::Ended => Readiness::Ended,
+            Next::Take(class, mode) => self.readiness_to(flow, class, mode),
+            _ => Readiness::Free,
         }
     }
 
     /// The same of a flow whose take of a class comes next.
-    fn way_to(&self, flow: FlowNo, class: ClassNo, mode: Mode) -> Way
+    fn readiness_to(&self, flow: FlowNo, class: ClassNo, mode: Mode) -> Readiness
         requires fields { AreFields L.meaning self.now }
         requires flow { flow.0 < length self.now.setup.items }
         requires coming { IsComing (setup_at L.meaning (state_of self.now)) (plans_of self.now)
             self.now.places.items flow.0 (nexts.Take class mode) }
-        ensures { IsWay (setup_at L.meaning (state_of self.now)) self.now.made flow.0 result }
+        ensures { IsReadiness (setup_at L.meaning (state_of self.now)) self.now.made flow.0 result }
     {
         let key = self.key(flow, class);
         match self.table.holder(flow, key, mode) {
             Some(_) => {
                 let place = &self.places[flow.0 as usize];
-                Way::Blocked(Stop {
+                Readiness::Blocked(BlockedTake {
                     key,
                     mode,
                     stands: place.stands,
                 })
             }
-            None => Way::Free,
+            None => Readiness::Free,
         }
     }
 

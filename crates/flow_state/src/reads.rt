@@ -63,7 +63,7 @@ impl<L: Library> Fields<L> {
         ensures ready { IfOk result (IsReady (L.meaning (arc_value self.now.setup.library))
             (arc_value self.now.setup.program)) }
     {
-        self.rests(flow);
+        self.has_next(flow);
         let place = &self.places[flow.0 as usize];
         Ok(Inputs {
             node,

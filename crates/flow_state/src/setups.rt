@@ -10,7 +10,7 @@ use flow_model::{Carried, SharedAnswer};
 use flux_cells::Cells;
 use flux_library::Library;
 use flux_model::{FlowNo, Item, Program};
-use flux_plan::{Local, Next, VerifiedPlan, advance, next, rests, take_answer};
+use flux_plan::{Local, Next, VerifiedPlan, advance, has_next, next, take_answer};
 use flux_values::{List, Memory};
 use std::sync::Arc;
 
@@ -69,7 +69,7 @@ impl<L: Library> Setup<L> {
     }
 
     /// Does nothing. Its clause: something comes next at the flow's place.
-    pub fn rests(&self, flow: FlowNo, local: &Local)
+    pub fn has_next(&self, flow: FlowNo, local: &Local)
         requires { let matches = matches_by (L.meaning (arc_value self.now.library))
             (arc_value self.now.program) in
             HasPlan (arc_value self.now.plans) self.now.items flow.0
@@ -80,7 +80,7 @@ impl<L: Library> Setup<L> {
             (λ plan. IsSome (next_in plan matches local.now)) }
     {
         let _ = local;
-        rests(self.plan(flow));
+        has_next(self.plan(flow));
     }
 
     /// Makes the event that comes next at a flow's place.

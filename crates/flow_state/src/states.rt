@@ -16,14 +16,14 @@ ghost use Rattle.flow_state.specs.Calls.{IsReady, IsNextCall};
 ghost use Rattle.flow_state.specs.declared.coming.Coming.TheVariants as comings;
 ghost use Rattle.flow_state.specs.Coming.{IsComing, Comes};
 ghost use Rattle.flow_state.specs.Blockers.{IsHeldBy, IsAhead, IsBlockedAt};
-ghost use Rattle.flow_state.specs.Lines.{IsStop, IsWay, IsStanding, IsLineAt};
+ghost use Rattle.flow_state.specs.Lines.{IsBlockedTake, IsReadiness, IsStanding, IsLineAt};
 ghost use Rattle.flow_state.specs.Moves.{MayMake, Makes, AddsWait, AddsCall};
 
 use crate::coming::Coming;
 use crate::fields::Fields;
 use crate::inputs::Inputs;
+use crate::readiness::{BlockedTake, Readiness};
 use crate::setups::Setup;
-use crate::stops::{Stop, Way};
 use flow_model::{CallMade, Key};
 use flux_cells::Cells;
 use flux_library::Library;
@@ -157,22 +157,22 @@ impl<L: Library> State<L> {
     }
 
     /// Where a flow is blocked.
-    pub fn stop_at(&self, flow: FlowNo) -> Option<Stop>
+    pub fn blocked_take(&self, flow: FlowNo) -> Option<BlockedTake>
         requires { flow.0 < length self.now.setup.items }
         ensures { MatchOption result
             (IsBlocked (setup_at L.meaning self.now) self.now.entries flow.0 → ⊥)
-            (IsStop (setup_at L.meaning self.now) self.now.entries flow.0) }
+            (IsBlockedTake (setup_at L.meaning self.now) self.now.entries flow.0) }
     {
-        self.fields.stop_at(flow)
+        self.fields.blocked_take(flow)
     }
 
     /// Whether a flow can go on.
     #[inline(always)]
-    pub fn way(&self, flow: FlowNo) -> Way
+    pub fn readiness(&self, flow: FlowNo) -> Readiness
         requires { flow.0 < length self.now.setup.items }
-        ensures { IsWay (setup_at L.meaning self.now) self.now.entries flow.0 result }
+        ensures { IsReadiness (setup_at L.meaning self.now) self.now.entries flow.0 result }
     {
-        self.fields.way(flow)
+        self.fields.readiness(flow)
     }
 
     /// Whether a flow stands in a line: its last entry is a wait.

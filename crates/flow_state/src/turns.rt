@@ -24,13 +24,13 @@ impl<L: Library> Fields<L> {
         ensures ok { OnOk result (Makes L.meaning (state_of self.old) (state_of self.new) flow) }
         ensures err { OnErr result (state_of self.new ≡ state_of self.old) }
     {
-        self.rests(flow);
+        self.has_next(flow);
         match coming {
-            Coming::Take(key, mode) => self.get(flow, key, mode),
+            Coming::Take(key, mode) => self.acquire(flow, key, mode),
             Coming::Enter(node) => self.go(flow, Event::Enter(node)),
             Coming::Choose(number) => self.go(flow, Event::Choose(number)),
             Coming::Exit(node, outcome) => self.go(flow, Event::Exit(node, outcome)),
-            Coming::Drop(key) => self.give(flow, key),
+            Coming::Drop(key) => self.release(flow, key),
             Coming::End(outcome) => self.end(flow, outcome),
             Coming::Call(_) | Coming::Ended => unreachable!(),
         }

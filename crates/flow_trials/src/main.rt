@@ -5,10 +5,11 @@
 //! `watch N` does what `core N` does; then it drives N flows by the loop of the runtimes, over a library that refuses one call
 //! for want of memory, each call in turn, and prints how many calls there are where each was made once and told of before and
 //! after, and how many of all these journals the auditor upholds. `trials` does what `watch 16` does, and simulates small programs
-//! and flows of the load, whose journals are audited too.
+//! and flows of the load, whose journals are audited too; then it makes each public call once that no program makes.
 #![tactic(auto)]
 
 mod journals;
+mod public_calls;
 mod readying;
 mod simulations;
 mod turns;
@@ -20,6 +21,7 @@ use flow_model::Journal;
 use flux_values::Bytes;
 use journals::{print_again, read_again};
 use nodes_counter::Counter;
+use public_calls::answer_calls;
 use simulations::answer_rows;
 use std::alloc::Global;
 use std::env;
@@ -166,7 +168,8 @@ fn answer_to(rt: &HostRuntime, words: Words) -> Result<(), Trouble> {
         Words::Watch { flows } => answer_watch(rt, flows),
         Words::Trials => {
             answer_watch(rt, 16)?;
-            answer_rows(rt)
+            answer_rows(rt)?;
+            answer_calls(rt)
         }
     }
 }

@@ -21,15 +21,15 @@ use Rattle.flux_laws.proofs.Fronts.{fronts_are_legal}
 use Rattle.flux_laws.proofs.LastMoves.{entries_are_moves}
 use Rattle.flux_laws.proofs.NextEvents.{call-item}
 use Rattle.flux_table.specs.declared.locks.Waiter.{Waiter}
-use Rattle.flow_state.specs.declared.stops.Stop.{Stop}
+use Rattle.flow_state.specs.declared.readiness.BlockedTake.{BlockedTake}
 use Rattle.flow_state.proofs.Ended.{call-goes_on, not-true}
 use Rattle.flow_state.proofs.Tables.{not-both}
 use Rattle.flow_core.specs.States.{CoreState, setup_in, begun_by, IsKept}
 use Rattle.flow_waits.specs.Idle.{IsIdle, AllAreBlocked}
 use Rattle.flow_orders.specs.Turns.{IsBefore}
 use Rattle.flow_waits.specs.steps.Staying.{IsFresh}
-use Rattle.flow_waits.specs.steps.Waking.{has, IsMore, IsLess, IsEarliest, Rooms, IsMoreAt}
-use Rattle.flow_waits.specs.steps.Covers.{Pools, rooms_for, IsReady, IsParked, IsBehind, IsInRoom, IsCovered, Covers, Lags, HasRoom, FallsAsleep, Parks, WakesFirst, Wakes, served_of, WakesLine}
+use Rattle.flow_waits.specs.steps.Waking.{has, IsMore, IsLess, IsEarliest, ParkedFlows, IsMoreAt}
+use Rattle.flow_waits.specs.steps.Covers.{Pools, parked_for, IsReady, IsParked, IsBehind, IsRightlyParked, IsCovered, Covers, Lags, BecomesParked, FallsAsleep, Parks, WakesFirst, Wakes, served_of, WakesLine}
 use Rattle.flow_waits.specs.steps.Aside.{beside, AreAside, IsIdleChosen, CallsKeepCovers}
 use Rattle.flow_waits.proofs.Ending.{live-is}
 use Rattle.flow_waits.proofs.Membership.{none_has, more_cases, less_there, less_kept}
@@ -75,22 +75,22 @@ less-both a old new flow less away other =
 
 -- ---- the same flows
 
--- the same flows are looked at, and the same are in rooms
+-- the same flows are looked at, and the same are parked
 pub record HasSame (old new : Pools) : Type 0 where
   pub ready_ : (flow : ℕ) → has new.ready flow ≡ has old.ready flow
   pub readers_ : new.readers ≡ old.readers
   pub writers_ : new.writers ≡ old.writers
 
 module _ (setup : Setup) (entries : List Entry) (old new : Pools) (from : ℕ) (same : HasSame old new) where
-  rooms : (mode : Mode) → rooms_for new mode ≡ rooms_for old mode
-  rooms Reader = same.readers_
-  rooms Writer = same.writers_
+  parks : (mode : Mode) → parked_for new mode ≡ parked_for old mode
+  parks Reader = same.readers_
+  parks Writer = same.writers_
 
   back : (key : Key) (mode : Mode) (flow : ℕ) → IsParked new key mode flow → IsParked old key mode flow
-  back key mode flow parked = rw (rooms mode) at parked
+  back key mode flow parked = rw (parks mode) at parked
 
   stay : (key : Key) (mode : Mode) (flow : ℕ) → IsParked old key mode flow → IsParked new key mode flow
-  stay key mode flow parked = rw (rooms mode) parked
+  stay key mode flow parked = rw (parks mode) parked
 
   pub covers-same : Covers setup entries old from → Covers setup entries new from
   covers-same covers = record {
@@ -104,31 +104,31 @@ module _ (setup : Setup) (entries : List Entry) (old new : Pools) (from : ℕ) (
 
 -- ---- a flow that leaves those that are looked at
 
-room-beside : (old new : Pools) (aside : List ℕ) (flow : ℕ) (key : Key) (mode : Mode) (stands : Bool)
-    → HasRoom old new flow key mode stands → HasRoom (beside old aside) (beside new aside) flow key mode stands
-room-beside old new aside flow key mode true room = room
-room-beside old new aside flow key mode false (more, others) = (
+parked-beside : (old new : Pools) (aside : List ℕ) (flow : ℕ) (key : Key) (mode : Mode) (stands : Bool)
+    → BecomesParked old new flow key mode stands → BecomesParked (beside old aside) (beside new aside) flow key mode stands
+parked-beside old new aside flow key mode true parking = parking
+parked-beside old new aside flow key mode false (more, others) = (
   by mode more,
   λ other apart. both other
       (others other apart),
 )
   where
-    by : (m : Mode) → IsMoreAt (rooms_for old m) (rooms_for new m) key flow
-        → IsMoreAt (rooms_for (beside old aside) m) (rooms_for (beside new aside) m) key flow
+    by : (m : Mode) → IsMoreAt (parked_for old m) (parked_for new m) key flow
+        → IsMoreAt (parked_for (beside old aside) m) (parked_for (beside new aside) m) key flow
     by Reader is = is
     by Writer is = is
 
-    both : (m : Mode) → rooms_for new m ≡ rooms_for old m
-        → rooms_for (beside new aside) m ≡ rooms_for (beside old aside) m
+    both : (m : Mode) → parked_for new m ≡ parked_for old m
+        → parked_for (beside new aside) m ≡ parked_for (beside old aside) m
     both Reader is = is
     both Writer is = is
 
-parks-beside : (old new : Pools) (aside : List ℕ) (flow : ℕ) (stop : Stop) → Parks old new flow stop
+parks-beside : (old new : Pools) (aside : List ℕ) (flow : ℕ) (stop : BlockedTake) → Parks old new flow stop
     → (has aside flow ≡ true → ⊥) → Parks (beside old aside) (beside new aside) flow stop
 parks-beside old new aside flow stop parks away = record {
   less = less-both aside old.ready new.ready flow parks.less away;
   fewer = λ ready. by (either aside old.ready flow ready);
-  room = room-beside old new aside flow stop.key stop.mode stop.stands parks.room;
+  parking = parked-beside old new aside flow stop.key stop.mode stop.stands parks.parking;
 }
   where
     by : (has aside flow ≡ true) ⊎ IsReady old flow → length (aside ++ new.ready) < length (aside ++ old.ready)
@@ -176,15 +176,15 @@ wakes-beside old new aside key mode from wakes = record {
   others = λ other apart. both other (wakes.others other apart);
 }
   where
-    both : (m : Mode) → rooms_for new m ≡ rooms_for old m
-        → rooms_for (beside new aside) m ≡ rooms_for (beside old aside) m
+    both : (m : Mode) → parked_for new m ≡ parked_for old m
+        → parked_for (beside new aside) m ≡ parked_for (beside old aside) m
     both Reader is = is
     both Writer is = is
 
-    moved : (rooms fewer : Rooms) → WakesFirst old.ready new.ready rooms fewer key from
-        → WakesFirst (aside ++ old.ready) (aside ++ new.ready) rooms fewer key from
-    moved rooms fewer (inl (none, same, stays)) = inl (none, ap (λ ready. aside ++ ready) same, stays)
-    moved rooms fewer (inr (flow, moves)) = inr (
+    moved : (parks fewer : ParkedFlows) → WakesFirst old.ready new.ready parks fewer key from
+        → WakesFirst (aside ++ old.ready) (aside ++ new.ready) parks fewer key from
+    moved parks fewer (inl (none, same, stays)) = inl (none, ap (λ ready. aside ++ ready) same, stays)
+    moved parks fewer (inr (flow, moves)) = inr (
       flow,
       record {
         earliest = moves.earliest;
@@ -193,9 +193,9 @@ wakes-beside old new aside key mode from wakes = record {
       },
     )
 
-    first : (m : Mode) → WakesFirst old.ready new.ready (rooms_for old m) (rooms_for new m) key from
-        → WakesFirst (aside ++ old.ready) (aside ++ new.ready) (rooms_for (beside old aside) m)
-        (rooms_for (beside new aside) m) key from
+    first : (m : Mode) → WakesFirst old.ready new.ready (parked_for old m) (parked_for new m) key from
+        → WakesFirst (aside ++ old.ready) (aside ++ new.ready) (parked_for (beside old aside) m)
+        (parked_for (beside new aside) m) key from
     first Reader is = moved old.readers new.readers is
     first Writer is = moved old.writers new.writers is
 
@@ -279,7 +279,7 @@ module _ {L : Type 0} (meaning : L → LibraryMeaning) (core : CoreState L) (kep
     }
 
     -- one that is blocked is parked
-    pub aside-parked : (new : Pools) (flow : ℕ) (stop : Stop) → IsBlocked setup core.entries flow
+    pub aside-parked : (new : Pools) (flow : ℕ) (stop : BlockedTake) → IsBlocked setup core.entries flow
         → Parks old new flow stop
         → ((covers : Covers setup core.entries (beside old aside) from)
         → Parks (beside old aside) (beside new aside) flow stop → Covers setup core.entries (beside new aside) from)
@@ -355,7 +355,7 @@ module _ {L : Type 0} (meaning : L → LibraryMeaning) (core : CoreState L) (kep
           by : IsCovered setup core.entries (beside old aside) from other → ⊥
           by (inl ready) = looked other ready is.idle before
           by (inr (inl line)) = let goes = is.can in goes.free line.blocked
-          by (inr (inr room)) = cause room.key room.mode room.cause
+          by (inr (inr parking)) = cause parking.key parking.mode parking.cause
 
       pub idle-chosen : IsIdleChosen meaning core (beside old aside) from flow
       idle-chosen = record {
@@ -389,7 +389,7 @@ module _ {L : Type 0} (meaning : L → LibraryMeaning) (core : CoreState L) (kep
         by : IsCovered setup core.entries (beside old aside) from flow → IsBlocked setup core.entries flow
         by (inl ready) = absurd (none-begun flow (looked flow ready) none)
         by (inr (inl line)) = line.blocked
-        by (inr (inr room)) = cause room.key room.mode room.cause
+        by (inr (inr parking)) = cause parking.key parking.mode parking.cause
 
 -- ---- calls that others finish
 
@@ -419,15 +419,15 @@ module _ (setup : Setup) (entries : List Entry) (flow : FlowNo) (made : CallMade
       unblocked (other, waits) =
           not-both setup entries flow.0 (Take waits.key waits.mode) made.node made.args waits.next call-next
 
-      in-room : IsInRoom setup entries pools from flow.0 → ⊥
-      in-room room =
-          let fresh = covers.fresh room.key room.mode flow.0 room.parked in
-          not-both setup entries flow.0 (Take room.key room.mode) made.node made.args fresh.next call-next
+      when-parked : IsRightlyParked setup entries pools from flow.0 → ⊥
+      when-parked parking =
+          let fresh = covers.fresh parking.key parking.mode flow.0 parking.parked in
+          not-both setup entries flow.0 (Take parking.key parking.mode) made.node made.args fresh.next call-next
 
       by : IsCovered setup entries pools from flow.0 → IsReady pools flow.0
       by (inl ready) = ready
       by (inr (inl line)) = absurd (unblocked line.blocked)
-      by (inr (inr room)) = absurd (in-room room)
+      by (inr (inr parking)) = absurd (when-parked parking)
 
   call-lags : Lags setup (entries ++ record { flow = flow; event = Call made } ∷ []) pools from
   call-lags = record {

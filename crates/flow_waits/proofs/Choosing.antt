@@ -13,12 +13,12 @@ use Rattle.flow_model.specs.Legal.{IsLegal}
 use Rattle.flux_laws.specs.Going.{IsBlocked, CanGoOn}
 use Rattle.flux_laws.proofs.Living.{not_all_blocked}
 use Rattle.flux_laws.proofs.Standing.{next-unique}
-use Rattle.flow_state.specs.declared.stops.Stop.{Stop}
-use Rattle.flow_state.specs.Lines.{IsStop}
+use Rattle.flow_state.specs.declared.readiness.BlockedTake.{BlockedTake}
+use Rattle.flow_state.specs.Lines.{IsBlockedTake}
 use Rattle.flow_orders.specs.Turns.{IsBefore, IsInLine}
 use Rattle.flow_waits.specs.steps.Staying.{IsFresh}
-use Rattle.flow_waits.specs.steps.Waking.{has, IsLess, IsEarliest, room_at}
-use Rattle.flow_waits.specs.steps.Covers.{Pools, IsReady, IsParked, IsInRoom, IsBehind, IsCovered, Covers, IsChosen, HasRoom, Parks, rooms_for}
+use Rattle.flow_waits.specs.steps.Waking.{has, IsLess, IsEarliest, parked_at}
+use Rattle.flow_waits.specs.steps.Covers.{Pools, IsReady, IsParked, IsRightlyParked, IsBehind, IsCovered, Covers, IsChosen, BecomesParked, Parks, parked_for}
 use Rattle.flow_waits.proofs.Orders.{before-itself, before-then, before-turned}
 use Rattle.flow_waits.proofs.Membership.{none_has, less_there, less_kept, less_own, more_at_cases, more_at_there, more_at_own}
 use Rattle.flow_waits.proofs.Blocked.{fresh_are_alike}
@@ -44,10 +44,10 @@ module _ (setup : Setup) (entries : List Entry) (pools : Pools) (from : ℕ) (co
         none : (other : ℕ) → CanGoOn setup entries other → IsBefore from other flow → ⊥
         none other goes before = by (covers.each other goes.live)
           where
-            in-room : IsInRoom setup entries pools from other → ⊥
-            in-room room = cause room.cause
+            when-parked : IsRightlyParked setup entries pools from other → ⊥
+            when-parked parking = cause parking.cause
               where
-                cause : IsBlocked setup entries other ⊎ IsBehind setup entries pools from room.key room.mode other → ⊥
+                cause : IsBlocked setup entries other ⊎ IsBehind setup entries pools from parking.key parking.mode other → ⊥
                 cause (inl blocked) = goes.free blocked
                 cause (inr behind) = none-ready behind.other behind.ready
                     (before-then from behind.other other flow behind.before before)
@@ -55,7 +55,7 @@ module _ (setup : Setup) (entries : List Entry) (pools : Pools) (from : ℕ) (co
             by : IsCovered setup entries pools from other → ⊥
             by (inl ready) = none-ready other ready before
             by (inr (inl line)) = goes.free line.blocked
-            by (inr (inr room)) = in-room room
+            by (inr (inr parking)) = when-parked parking
 
     -- where no flow is looked at, none is live
     pub none_left : IsLegal setup entries → pools.ready ≡ [] → (flow : ℕ) → IsLive setup entries flow → ⊥
@@ -64,10 +64,10 @@ module _ (setup : Setup) (entries : List Entry) (pools : Pools) (from : ℕ) (co
         blocked : (other : ℕ) → IsLive setup entries other → IsBlocked setup entries other
         blocked other there = by (covers.each other there)
           where
-            in-room : IsInRoom setup entries pools from other → IsBlocked setup entries other
-            in-room room = cause room.cause
+            when-parked : IsRightlyParked setup entries pools from other → IsBlocked setup entries other
+            when-parked parking = cause parking.cause
               where
-                cause : IsBlocked setup entries other ⊎ IsBehind setup entries pools from room.key room.mode other
+                cause : IsBlocked setup entries other ⊎ IsBehind setup entries pools from parking.key parking.mode other
                     → IsBlocked setup entries other
                 cause (inl is) = is
                 cause (inr behind) = absurd (none_has pools.ready behind.other none behind.ready)
@@ -75,7 +75,7 @@ module _ (setup : Setup) (entries : List Entry) (pools : Pools) (from : ℕ) (co
             by : IsCovered setup entries pools from other → IsBlocked setup entries other
             by (inl ready) = absurd (none_has pools.ready other none ready)
             by (inr (inl line)) = line.blocked
-            by (inr (inr room)) = in-room room
+            by (inr (inr parking)) = when-parked parking
 
 -- ---- flows that are no longer looked at
 
@@ -87,8 +87,8 @@ mode_cases Writer Writer = inl refl
 
 -- ---- all flows are looked at
 
-no-room : (key : Key) (flow : ℕ) → has (room_at [] key) flow ≡ true → ⊥
-no-room key flow is = by is
+none-parked : (key : Key) (flow : ℕ) → has (parked_at [] key) flow ≡ true → ⊥
+none-parked key flow is = by is
   where
     by : false ≡ true → ⊥
     by e = cc
@@ -106,17 +106,17 @@ all_ready setup entries ready all exist from = record {
   where
     fresh : (key : Key) (mode : Mode) (flow : ℕ) → IsParked (record { ready = ready; readers = []; writers = [] }) key
         mode flow → IsFresh setup entries flow key mode
-    fresh key Reader flow parked = absurd (no-room key flow parked)
-    fresh key Writer flow parked = absurd (no-room key flow parked)
+    fresh key Reader flow parked = absurd (none-parked key flow parked)
+    fresh key Writer flow parked = absurd (none-parked key flow parked)
 
     apart : (key : Key) (mode : Mode) (flow : ℕ) → IsParked (record { ready = ready; readers = []; writers = [] }) key
         mode flow → IsReady (record { ready = ready; readers = []; writers = [] }) flow → ⊥
-    apart key Reader flow parked is = no-room key flow parked
-    apart key Writer flow parked is = no-room key flow parked
+    apart key Reader flow parked is = none-parked key flow parked
+    apart key Writer flow parked is = none-parked key flow parked
 
 -- ---- flows that are no longer looked at, by their places
 
--- all rooms stay, or one flow more is in one
+-- all parked flows stay, or one flow more is parked
 abbrev pub IsParkedSo : Pools → Pools → Key → Mode → ℕ → Type 0
 IsParkedSo old new key mode flow =
     ((k : Key) (m : Mode) (other : ℕ) → IsParked old k m other → IsParked new k m other)
@@ -134,22 +134,22 @@ module _ (setup : Setup) (entries : List Entry) (old new : Pools) (from flow : �
       → (other : ℕ) → flow ≢ other → IsLive setup entries other → IsCovered setup entries new from other
   others stay alike other apart live = by (covers.each other live)
     where
-      in-room : IsInRoom setup entries old from other → IsInRoom setup entries new from other
-      in-room room = record {
-        key = room.key;
-        mode = room.mode;
-        parked = stay room.key room.mode other room.parked;
-        cause = cause room.cause;
+      when-parked : IsRightlyParked setup entries old from other → IsRightlyParked setup entries new from other
+      when-parked parking = record {
+        key = parking.key;
+        mode = parking.mode;
+        parked = stay parking.key parking.mode other parking.parked;
+        cause = cause parking.cause;
       }
         where
-          behind-it : IsBehind setup entries old from room.key room.mode other
-              → IsBlocked setup entries other ⊎ IsBehind setup entries new from room.key room.mode other
+          behind-it : IsBehind setup entries old from parking.key parking.mode other
+              → IsBlocked setup entries other ⊎ IsBehind setup entries new from parking.key parking.mode other
           behind-it behind = one (cases_eq flow behind.other)
             where
               one : (flow ≡ behind.other) ⊎ (flow ≡ behind.other → ⊥)
-                  → IsBlocked setup entries other ⊎ IsBehind setup entries new from room.key room.mode other
-              one (inl same) = inl (alike room.key room.mode other room.parked
-                  (subst (λ f. IsFresh setup entries f room.key room.mode) (sym same) behind.fresh))
+                  → IsBlocked setup entries other ⊎ IsBehind setup entries new from parking.key parking.mode other
+              one (inl same) = inl (alike parking.key parking.mode other parking.parked
+                  (subst (λ f. IsFresh setup entries f parking.key parking.mode) (sym same) behind.fresh))
               one (inr elsewhere) = inr (record {
                 other = behind.other;
                 ready = kept behind.other elsewhere behind.ready;
@@ -157,20 +157,20 @@ module _ (setup : Setup) (entries : List Entry) (old new : Pools) (from flow : �
                 before = behind.before;
               })
 
-          cause : IsBlocked setup entries other ⊎ IsBehind setup entries old from room.key room.mode other
-              → IsBlocked setup entries other ⊎ IsBehind setup entries new from room.key room.mode other
+          cause : IsBlocked setup entries other ⊎ IsBehind setup entries old from parking.key parking.mode other
+              → IsBlocked setup entries other ⊎ IsBehind setup entries new from parking.key parking.mode other
           cause (inl blocked) = inl blocked
           cause (inr behind) = behind-it behind
 
       by : IsCovered setup entries old from other → IsCovered setup entries new from other
       by (inl ready) = inl (kept other apart ready)
       by (inr (inl line)) = inr (inl line)
-      by (inr (inr room)) = inr (inr (in-room room))
+      by (inr (inr parking)) = inr (inr (when-parked parking))
 
   exist : (other : ℕ) → IsReady new other → other < length setup.items
   exist other ready = covers.exist other (there other ready)
 
-  -- one that is covered otherwise, with all rooms as they were
+  -- one that is covered otherwise, with all parked flows as they were
   without-own : new.readers ≡ old.readers → new.writers ≡ old.writers
       → (IsLive setup entries flow → IsCovered setup entries new from flow)
       → ((key : Key) (mode : Mode) → IsFresh setup entries flow key mode → ⊥) → Covers setup entries new from
@@ -182,7 +182,7 @@ module _ (setup : Setup) (entries : List Entry) (old new : Pools) (from flow : �
     exist = exist;
   }
     where
-      same : (mode : Mode) → rooms_for new mode ≡ rooms_for old mode
+      same : (mode : Mode) → parked_for new mode ≡ parked_for old mode
       same Reader = readers
       same Writer = writers
 
@@ -220,7 +220,7 @@ module _ (setup : Setup) (entries : List Entry) (old new : Pools) (from flow : �
       without-own setup entries old new from flow covers kept there readers writers (λ live. absurd (ended live))
       (λ key mode fresh. ended fresh.live)
 
-  -- one that is blocked, and has a place in a room now
+  -- one that is blocked, and is parked now
   pub without_parked : (key : Key) (mode : Mode) → IsParkedSo old new key mode flow → IsParked new key mode flow
       → IsFresh setup entries flow key mode → IsBlocked setup entries flow
       → Covers setup entries new from
@@ -256,9 +256,9 @@ module _ (setup : Setup) (entries : List Entry) (old new : Pools) (from flow : �
           by (inr (same_key, same_mode, same)) = less_own old.ready new.ready flow less (rw same ready)
 
 -- a flow that is parked, blocked at a stop
-module _ (setup : Setup) (entries : List Entry) (old new : Pools) (from flow : ℕ) (stop : Stop)
+module _ (setup : Setup) (entries : List Entry) (old new : Pools) (from flow : ℕ) (stop : BlockedTake)
     (legal : IsLegal setup entries) (covers : Covers setup entries old from)
-    (parks : Parks old new flow stop) (live : IsLive setup entries flow) (is_stop : IsStop setup entries flow stop)
+    (parks : Parks old new flow stop) (live : IsLive setup entries flow) (is_stop : IsBlockedTake setup entries flow stop)
   where
     free : HoldsKey entries flow stop.key → ⊥
     free = by is_stop.blocked
@@ -273,9 +273,9 @@ module _ (setup : Setup) (entries : List Entry) (old new : Pools) (from flow : �
             blocked.free (subst (HoldsKey entries flow) (sym key_is) holds)
 
     pub parked : Covers setup entries new from
-    parked = by stop.stands refl parks.room
+    parked = by stop.stands refl parks.parking
       where
-        by : (b : Bool) → stop.stands ≡ b → HasRoom old new flow stop.key stop.mode b → Covers setup entries new from
+        by : (b : Bool) → stop.stands ≡ b → BecomesParked old new flow stop.key stop.mode b → Covers setup entries new from
         by true stands (readers, writers) =
             let (place, there) = is_stop.stands stands in
             without_standing setup entries old new from flow covers (less_kept old.ready new.ready flow parks.less)
@@ -292,16 +292,16 @@ module _ (setup : Setup) (entries : List Entry) (old new : Pools) (from flow : �
             }) is_stop.blocked
           where
             own : (m : Mode) → stop.mode ≡ m → IsParked new stop.key stop.mode flow
-            own m is = more_at_own (rooms_for old stop.mode) (rooms_for new stop.mode) stop.key flow more
+            own m is = more_at_own (parked_for old stop.mode) (parked_for new stop.mode) stop.key flow more
 
             kept : (k : Key) (m : Mode) (other : ℕ) → IsParked old k m other → IsParked new k m other
             kept k m other was = told (mode_cases stop.mode m)
               where
                 told : (stop.mode ≡ m) ⊎ (stop.mode ≡ m → ⊥) → IsParked new k m other
                 told (inl same) = subst (λ q. IsParked new k q other) same
-                    (more_at_there (rooms_for old stop.mode) (rooms_for new stop.mode) stop.key flow more k other
+                    (more_at_there (parked_for old stop.mode) (parked_for new stop.mode) stop.key flow more k other
                     (subst (λ q. IsParked old k q other) (sym same) was))
-                told (inr apart) = ap (λ rooms. has (room_at rooms k) other) (others m apart) ∙ was
+                told (inr apart) = ap (λ parks. has (parked_at parks k) other) (others m apart) ∙ was
 
             back : (k : Key) (m : Mode) (other : ℕ) → IsParked new k m other
                 → IsParked old k m other ⊎ ((stop.key ≡ k) × (stop.mode ≡ m) × (flow ≡ other))
@@ -309,8 +309,8 @@ module _ (setup : Setup) (entries : List Entry) (old new : Pools) (from flow : �
               where
                 told : (stop.mode ≡ m) ⊎ (stop.mode ≡ m → ⊥)
                     → IsParked old k m other ⊎ ((stop.key ≡ k) × (stop.mode ≡ m) × (flow ≡ other))
-                told (inr apart) = inl (ap (λ rooms. has (room_at rooms k) other) (sym (others m apart)) ∙ is)
-                told (inl same) = cases (more_at_cases (rooms_for old stop.mode) (rooms_for new stop.mode) stop.key flow
+                told (inr apart) = inl (ap (λ parks. has (parked_at parks k) other) (sym (others m apart)) ∙ is)
+                told (inl same) = cases (more_at_cases (parked_for old stop.mode) (parked_for new stop.mode) stop.key flow
                     more k other (subst (λ q. IsParked new k q other) (sym same) is))
                   where
                     cases : ((stop.key ≡ k) × (flow ≡ other)) ⊎ IsParked old k stop.mode other

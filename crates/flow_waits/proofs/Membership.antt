@@ -1,9 +1,9 @@
--- Members of sets and of rooms that change.
+-- Members of sets and of parked flows that change.
 use Rattle.std.proofs.Common.{◌≡◌, ◌≢◌, ◌⊎◌, inl, inr, ℕ, Bool, true, false, not, ◌||◌, ◌&&◌, eqb, List, [], refl, sym, ap, ◌∙◌}
 use Rattle.std.proofs.lemmas.Bool.{eqb-true, eq-eqb, ne_eqb, false≢true}
 use Rattle.flow_model.specs.declared.journals.Key.{Key}
 use Rattle.flow_model.proofs.Keys.{key_cases}
-use Rattle.flow_waits.specs.steps.Waking.{has, IsMore, IsLess, Rooms, room_at, IsMoreAt, IsLessAt}
+use Rattle.flow_waits.specs.steps.Waking.{has, IsMore, IsLess, ParkedFlows, parked_at, IsMoreAt, IsLessAt}
 
 -- nothing is in an empty set
 pub none_has : (numbers : List ℕ) (flow : ℕ) → numbers ≡ [] → has numbers flow ≡ true → ⊥
@@ -59,50 +59,50 @@ module _ (old new : List ℕ) (flow : ℕ) where
   pub less_kept : IsLess old new flow → (other : ℕ) → flow ≢ other → has old other ≡ true → has new other ≡ true
   less_kept less other apart is = less other ∙ kept (eqb flow other) (has old other) (ne_eqb flow other apart) is
 
-module _ (old new : Rooms) (key : Key) (flow : ℕ) where
-  pub more_at_cases : IsMoreAt old new key flow → (k : Key) (other : ℕ) → has (room_at new k) other ≡ true
-      → ((key ≡ k) × (flow ≡ other)) ⊎ (has (room_at old k) other ≡ true)
+module _ (old new : ParkedFlows) (key : Key) (flow : ℕ) where
+  pub more_at_cases : IsMoreAt old new key flow → (k : Key) (other : ℕ) → has (parked_at new k) other ≡ true
+      → ((key ≡ k) × (flow ≡ other)) ⊎ (has (parked_at old k) other ≡ true)
   more_at_cases more k other is = key_cases key k (λ same _. here same)
-      (λ apart _. inr (ap (λ room. has room other) (sym (more.others k apart)) ∙ is))
+      (λ apart _. inr (ap (λ parking. has parking other) (sym (more.others k apart)) ∙ is))
     where
-      here : key ≡ k → ((key ≡ k) × (flow ≡ other)) ⊎ (has (room_at old k) other ≡ true)
-      here same = by (more_cases (room_at old key) (room_at new key) flow more.at other
-          (ap (λ q. has (room_at new q) other) same ∙ is))
+      here : key ≡ k → ((key ≡ k) × (flow ≡ other)) ⊎ (has (parked_at old k) other ≡ true)
+      here same = by (more_cases (parked_at old key) (parked_at new key) flow more.at other
+          (ap (λ q. has (parked_at new q) other) same ∙ is))
         where
-          by : (flow ≡ other) ⊎ (has (room_at old key) other ≡ true)
-              → ((key ≡ k) × (flow ≡ other)) ⊎ (has (room_at old k) other ≡ true)
+          by : (flow ≡ other) ⊎ (has (parked_at old key) other ≡ true)
+              → ((key ≡ k) × (flow ≡ other)) ⊎ (has (parked_at old k) other ≡ true)
           by (inl own) = inl (same, own)
-          by (inr there) = inr (ap (λ q. has (room_at old q) other) (sym same) ∙ there)
+          by (inr there) = inr (ap (λ q. has (parked_at old q) other) (sym same) ∙ there)
 
-  pub more_at_there : IsMoreAt old new key flow → (k : Key) (other : ℕ) → has (room_at old k) other ≡ true
-      → has (room_at new k) other ≡ true
+  pub more_at_there : IsMoreAt old new key flow → (k : Key) (other : ℕ) → has (parked_at old k) other ≡ true
+      → has (parked_at new k) other ≡ true
   more_at_there more k other is = key_cases key k
-      (λ same _. ap (λ q. has (room_at new q) other) (sym same) ∙ more_there (room_at old key) (room_at new key) flow
-      more.at other (ap (λ q. has (room_at old q) other) same ∙ is))
-      (λ apart _. ap (λ room. has room other) (more.others k apart) ∙ is)
+      (λ same _. ap (λ q. has (parked_at new q) other) (sym same) ∙ more_there (parked_at old key) (parked_at new key) flow
+      more.at other (ap (λ q. has (parked_at old q) other) same ∙ is))
+      (λ apart _. ap (λ parking. has parking other) (more.others k apart) ∙ is)
 
-  pub more_at_own : IsMoreAt old new key flow → has (room_at new key) flow ≡ true
-  more_at_own more = more_own (room_at old key) (room_at new key) flow more.at
+  pub more_at_own : IsMoreAt old new key flow → has (parked_at new key) flow ≡ true
+  more_at_own more = more_own (parked_at old key) (parked_at new key) flow more.at
 
-  pub less_at_there : IsLessAt old new key flow → (k : Key) (other : ℕ) → has (room_at new k) other ≡ true
-      → has (room_at old k) other ≡ true
+  pub less_at_there : IsLessAt old new key flow → (k : Key) (other : ℕ) → has (parked_at new k) other ≡ true
+      → has (parked_at old k) other ≡ true
   less_at_there less k other is = key_cases key k
-      (λ same _. ap (λ q. has (room_at old q) other) (sym same) ∙ less_there (room_at old key) (room_at new key) flow
-      less.at other (ap (λ q. has (room_at new q) other) same ∙ is))
-      (λ apart _. ap (λ room. has room other) (sym (less.others k apart)) ∙ is)
+      (λ same _. ap (λ q. has (parked_at old q) other) (sym same) ∙ less_there (parked_at old key) (parked_at new key) flow
+      less.at other (ap (λ q. has (parked_at new q) other) same ∙ is))
+      (λ apart _. ap (λ parking. has parking other) (sym (less.others k apart)) ∙ is)
 
-  pub less_at_own : IsLessAt old new key flow → has (room_at new key) flow ≡ true → ⊥
-  less_at_own less is = less_own (room_at old key) (room_at new key) flow less.at is
+  pub less_at_own : IsLessAt old new key flow → has (parked_at new key) flow ≡ true → ⊥
+  less_at_own less is = less_own (parked_at old key) (parked_at new key) flow less.at is
 
-  pub less_at_kept : IsLessAt old new key flow → (k : Key) (other : ℕ) → has (room_at old k) other ≡ true
-      → (has (room_at new k) other ≡ true) ⊎ ((key ≡ k) × (flow ≡ other))
+  pub less_at_kept : IsLessAt old new key flow → (k : Key) (other : ℕ) → has (parked_at old k) other ≡ true
+      → (has (parked_at new k) other ≡ true) ⊎ ((key ≡ k) × (flow ≡ other))
   less_at_kept less k other is = key_cases key k (λ same _. here same)
-      (λ apart _. inl (ap (λ room. has room other) (less.others k apart) ∙ is))
+      (λ apart _. inl (ap (λ parking. has parking other) (less.others k apart) ∙ is))
     where
-      here : key ≡ k → (has (room_at new k) other ≡ true) ⊎ ((key ≡ k) × (flow ≡ other))
+      here : key ≡ k → (has (parked_at new k) other ≡ true) ⊎ ((key ≡ k) × (flow ≡ other))
       here same = by (eqb flow other) refl
         where
-          by : (b : Bool) → eqb flow other ≡ b → (has (room_at new k) other ≡ true) ⊎ ((key ≡ k) × (flow ≡ other))
+          by : (b : Bool) → eqb flow other ≡ b → (has (parked_at new k) other ≡ true) ⊎ ((key ≡ k) × (flow ≡ other))
           by true e = inr (same, eqb-true flow other e)
-          by false e = inl (ap (λ q. has (room_at new q) other) (sym same) ∙ less.at other
-              ∙ kept (eqb flow other) (has (room_at old key) other) e (ap (λ q. has (room_at old q) other) same ∙ is))
+          by false e = inl (ap (λ q. has (parked_at new q) other) (sym same) ∙ less.at other
+              ∙ kept (eqb flow other) (has (parked_at old key) other) e (ap (λ q. has (parked_at old q) other) same ∙ is))

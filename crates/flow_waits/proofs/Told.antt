@@ -163,10 +163,10 @@ module _ (setup : Setup) (entries : List Entry) (legal : IsLegal setup entries) 
       after-one flow is = line-covered setup entries legal two new key from line is_line last flow
           (woken-covered setup entries one two key Writer from second flow is)
 
-      served-room : (mode : Mode) (flow : ℕ) → IsParked pools key mode flow → IsCovered setup entries new from flow
-      served-room Reader flow parked = after-one flow
+      served-parked : (mode : Mode) (flow : ℕ) → IsParked pools key mode flow → IsCovered setup entries new from flow
+      served-parked Reader flow parked = after-one flow
           (woken-owed setup entries pools one key Reader from first are-fresh flow parked)
-      served-room Writer flow parked = by (woken-kept setup entries pools one key Reader from first key Writer flow
+      served-parked Writer flow parked = by (woken-kept setup entries pools one key Reader from first key Writer flow
           parked)
         where
           by : IsParked one key Writer flow ⊎ IsReady one flow → IsCovered setup entries new from flow
@@ -200,7 +200,7 @@ module _ (setup : Setup) (entries : List Entry) (legal : IsLegal setup entries) 
               cause (inl (other, place, stands)) =
                   line-owed setup entries legal two new key from line is_line last flow owed.mode place
                   (subst (λ k. StandsAt entries flow k owed.mode place) (here other) stands)
-              cause (inr (inl other, parked)) = served-room owed.mode flow
+              cause (inr (inl other, parked)) = served-parked owed.mode flow
                   (subst (λ k. IsParked pools k owed.mode flow) (here other) parked)
               cause (inr (inr takes, parked)) = absurd (neither (sym takes ∙ drops))
                 where

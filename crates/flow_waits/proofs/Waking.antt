@@ -36,8 +36,8 @@ drops_or_not (Call made) key = inr (λ e. cc)
 drops_or_not (Exit node outcome) key = inr (λ e. cc)
 drops_or_not (End outcome) key = inr (λ e. cc)
 
--- what is to be looked after behind an entry: who stands in the line of a dropped key or is in its rooms, and who is in
--- the room of a take
+-- what is to be looked after behind an entry: who stands in the line of a dropped key or is parked at it, and who is
+-- parked at the key of a take in its mode
 pub record IsOwed (entries : List Entry) (event : Event) (pools : Pools) (flow : ℕ) : Type 0 where
   pub key : Key
   pub mode : Mode
@@ -59,7 +59,7 @@ module _ (setup : Setup) (before : List Entry) (flow : FlowNo) (event : Event)
     move : IsMove setup before flow event
     move = entries_are_moves setup before flow event legal
 
-    -- who is in a room isn't the flow of the entry
+    -- who is parked isn't the flow of the entry
     parked-apart : (key : Key) (mode : Mode) (other : ℕ) → IsParked pools key mode other → flow.0 ≡ other → ⊥
     parked-apart key mode other parked same = covers.apart key mode other parked (subst (IsReady pools) same ready)
 
@@ -120,9 +120,9 @@ module _ (setup : Setup) (before : List Entry) (flow : FlowNo) (event : Event)
         fresh : IsFresh setup before other key mode
         fresh = covers.fresh key mode other parked
 
-        in-room-blocked : IsBlocked setup before other → IsCovered setup entries pools from other ⊎ IsOwed entries event
+        when-parked-blocked : IsBlocked setup before other → IsCovered setup entries pools from other ⊎ IsOwed entries event
             pools other
-        in-room-blocked blocked = by (drops_or_not event key)
+        when-parked-blocked blocked = by (drops_or_not event key)
           where
             by : (event ≡ Drop key) ⊎ (event ≡ Drop key → ⊥)
                 → IsCovered setup entries pools from other ⊎ IsOwed entries event pools other
@@ -134,9 +134,9 @@ module _ (setup : Setup) (before : List Entry) (flow : FlowNo) (event : Event)
               cause = inl (still-blocked key mode (let f = fresh in f.next) blocked kept);
             })))
 
-        in-room-behind : IsBehind setup before pools was key mode other
+        when-parked-behind : IsBehind setup before pools was key mode other
             → IsCovered setup entries pools from other ⊎ IsOwed entries event pools other
-        in-room-behind behind = by (cases_eq flow.0 behind.other)
+        when-parked-behind behind = by (cases_eq flow.0 behind.other)
           where
             own : IsFresh setup before flow.0 key mode → IsCovered setup entries pools from other ⊎ IsOwed entries event
                 pools other
@@ -145,7 +145,7 @@ module _ (setup : Setup) (before : List Entry) (flow : FlowNo) (event : Event)
                 told : (event ≡ Take key mode) ⊎ IsBlocked setup before flow.0
                     → IsCovered setup entries pools from other ⊎ IsOwed entries event pools other
                 told (inl takes) = inr (record { key = key; mode = mode; cause = inr (inr takes, parked) })
-                told (inr blocked) = in-room-blocked (fresh_are_alike setup before flow.0 other key mode first fresh
+                told (inr blocked) = when-parked-blocked (fresh_are_alike setup before flow.0 other key mode first fresh
                     blocked)
 
             by : (flow.0 ≡ behind.other) ⊎ (flow.0 ≡ behind.other → ⊥)
@@ -163,10 +163,10 @@ module _ (setup : Setup) (before : List Entry) (flow : FlowNo) (event : Event)
               });
             })))
 
-        in-room : IsBlocked setup before other ⊎ IsBehind setup before pools was key mode other
+        when-parked : IsBlocked setup before other ⊎ IsBehind setup before pools was key mode other
             → IsCovered setup entries pools from other ⊎ IsOwed entries event pools other
-        in-room (inl blocked) = in-room-blocked blocked
-        in-room (inr behind) = in-room-behind behind
+        when-parked (inl blocked) = when-parked-blocked blocked
+        when-parked (inr behind) = when-parked-behind behind
 
     -- each live flow stays covered, or is to be looked after
     pub carried : (other : ℕ) → IsLive setup entries other
@@ -177,7 +177,7 @@ module _ (setup : Setup) (before : List Entry) (flow : FlowNo) (event : Event)
             → IsCovered setup entries pools from other ⊎ IsOwed entries event pools other
         told apart (inl is) = inl (inl is)
         told apart (inr (inl line)) = in-line other apart line
-        told apart (inr (inr room)) = in-room other apart room.key room.mode room.parked room.cause
+        told apart (inr (inr parking)) = when-parked other apart parking.key parking.mode parking.parked parking.cause
 
         by : (flow.0 ≡ other) ⊎ (flow.0 ≡ other → ⊥) → IsCovered setup entries pools from other ⊎ IsOwed entries event
             pools other

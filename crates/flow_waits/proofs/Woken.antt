@@ -18,18 +18,18 @@ use Rattle.flux_laws.proofs.NextEvents.{next-item}
 use Rattle.flux_table.specs.declared.locks.Waiter.{Waiter}
 use Rattle.flow_state.specs.Lines.{IsLineAt, StandInOrder}
 use Rattle.flow_waits.specs.steps.Staying.{IsFresh}
-use Rattle.flow_waits.specs.steps.Waking.{has, room_at}
-use Rattle.flow_waits.specs.steps.Covers.{Pools, IsReady, IsParked, IsBehind, IsCovered, rooms_for, StayReady, MovesFirst, WakesFirst, Wakes, served_of, WakesLine}
+use Rattle.flow_waits.specs.steps.Waking.{has, parked_at}
+use Rattle.flow_waits.specs.steps.Covers.{Pools, IsReady, IsParked, IsBehind, IsCovered, parked_for, StayReady, MovesFirst, WakesFirst, Wakes, served_of, WakesLine}
 use Rattle.flow_waits.proofs.Blocked.{writers_block}
 use Rattle.flow_waits.proofs.Choosing.{mode_cases}
 use Rattle.flow_waits.proofs.Membership.{none_has, more_cases, more_there, more_own, less_at_there, less_at_own, less_at_kept}
 
--- each flow in a room is at a take of its key in its mode
+-- each parked flow is at a take of its key in its mode
 abbrev pub AreFresh : Setup → List Entry → Pools → Type 0
 AreFresh setup entries pools = (key : Key) (mode : Mode) (flow : ℕ) → IsParked pools key mode flow
     → IsFresh setup entries flow key mode
 
--- no flow in a room is looked at
+-- no parked flow is looked at
 abbrev pub AreApart : Pools → Type 0
 AreApart pools = (key : Key) (mode : Mode) (flow : ℕ) → IsParked pools key mode flow → IsReady pools flow → ⊥
 
@@ -37,16 +37,16 @@ AreApart pools = (key : Key) (mode : Mode) (flow : ℕ) → IsParked pools key m
 abbrev pub AllExist : Setup → Pools → Type 0
 AllExist setup pools = (flow : ℕ) → IsReady pools flow → flow < length setup.items
 
--- what covers a flow still does where no fewer flows are looked at, and it leaves its room only for that
+-- what covers a flow still does where no fewer flows are looked at, and it is unparked only for that
 pub covered-more : (setup : Setup) (entries : List Entry) (old new : Pools) (from flow : ℕ) → StayReady old new
     → ((key : Key) (mode : Mode) → IsParked old key mode flow → IsParked new key mode flow ⊎ IsReady new flow)
     → IsCovered setup entries old from flow → IsCovered setup entries new from flow
 covered-more setup entries old new from flow more stays (inl ready) = inl (more flow ready)
 covered-more setup entries old new from flow more stays (inr (inl line)) = inr (inl line)
-covered-more setup entries old new from flow more stays (inr (inr room)) = by (stays room.key room.mode room.parked)
+covered-more setup entries old new from flow more stays (inr (inr parking)) = by (stays parking.key parking.mode parking.parked)
   where
-    cause : IsBlocked setup entries flow ⊎ IsBehind setup entries old from room.key room.mode flow
-        → IsBlocked setup entries flow ⊎ IsBehind setup entries new from room.key room.mode flow
+    cause : IsBlocked setup entries flow ⊎ IsBehind setup entries old from parking.key parking.mode flow
+        → IsBlocked setup entries flow ⊎ IsBehind setup entries new from parking.key parking.mode flow
     cause (inl blocked) = inl blocked
     cause (inr behind) = inr (record {
       other = behind.other;
@@ -55,44 +55,44 @@ covered-more setup entries old new from flow more stays (inr (inr room)) = by (s
       before = behind.before;
     })
 
-    by : IsParked new room.key room.mode flow ⊎ IsReady new flow → IsCovered setup entries new from flow
+    by : IsParked new parking.key parking.mode flow ⊎ IsReady new flow → IsCovered setup entries new from flow
     by (inr ready) = inl ready
-    by (inl parked) = inr (inr (record { key = room.key; mode = room.mode; parked = parked; cause = cause room.cause }))
+    by (inl parked) = inr (inr (record { key = parking.key; mode = parking.mode; parked = parked; cause = cause parking.cause }))
 
--- ---- the first of a room
+-- ---- the first of the parked flows
 
 module _ (setup : Setup) (entries : List Entry) (old new : Pools) (key : Key) (mode : Mode) (from : ℕ)
     (wakes : Wakes old new key mode from) where
   pub woken-ready : StayReady old new
   woken-ready flow ready = by wakes.first
     where
-      by : WakesFirst old.ready new.ready (rooms_for old mode) (rooms_for new mode) key from → IsReady new flow
+      by : WakesFirst old.ready new.ready (parked_for old mode) (parked_for new mode) key from → IsReady new flow
       by (inl (none, same, stay)) = rw same ready
       by (inr (first, moves)) = more_there old.ready new.ready first moves.added flow ready
 
   pub woken-back : (k : Key) (m : Mode) (flow : ℕ) → IsParked new k m flow → IsParked old k m flow
   woken-back k m flow parked = by (mode_cases mode m)
     where
-      here : (mode ≡ m) → WakesFirst old.ready new.ready (rooms_for old mode) (rooms_for new mode) key from
+      here : (mode ≡ m) → WakesFirst old.ready new.ready (parked_for old mode) (parked_for new mode) key from
           → IsParked old k m flow
       here same (inl (none, ready, stay)) = rw (← same, ← stay, same) parked
       here same (inr (first, moves)) =
-          subst (λ q. IsParked old k q flow) same (less_at_there (rooms_for old mode) (rooms_for new mode) key first
+          subst (λ q. IsParked old k q flow) same (less_at_there (parked_for old mode) (parked_for new mode) key first
           moves.left k flow (subst (λ q. IsParked new k q flow) (sym same) parked))
 
       by : (mode ≡ m) ⊎ (mode ≡ m → ⊥) → IsParked old k m flow
       by (inl same) = here same wakes.first
-      by (inr apart) = ap (λ rooms. has (room_at rooms k) flow) (sym (wakes.others m apart)) ∙ parked
+      by (inr apart) = ap (λ parks. has (parked_at parks k) flow) (sym (wakes.others m apart)) ∙ parked
 
   pub woken-kept : (k : Key) (m : Mode) (flow : ℕ) → IsParked old k m flow → IsParked new k m flow ⊎ IsReady new flow
   woken-kept k m flow parked = by (mode_cases mode m)
     where
-      here : (mode ≡ m) → WakesFirst old.ready new.ready (rooms_for old mode) (rooms_for new mode) key from
+      here : (mode ≡ m) → WakesFirst old.ready new.ready (parked_for old mode) (parked_for new mode) key from
           → IsParked new k m flow ⊎ IsReady new flow
       here same (inl (none, ready, stay)) =
           inl (subst (λ q. IsParked new k q flow) same
-          (ap (λ rooms. has (room_at rooms k) flow) stay ∙ subst (λ q. IsParked old k q flow) (sym same) parked))
-      here same (inr (first, moves)) = told (less_at_kept (rooms_for old mode) (rooms_for new mode) key first moves.left
+          (ap (λ parks. has (parked_at parks k) flow) stay ∙ subst (λ q. IsParked old k q flow) (sym same) parked))
+      here same (inr (first, moves)) = told (less_at_kept (parked_for old mode) (parked_for new mode) key first moves.left
           k flow (subst (λ q. IsParked old k q flow) (sym same) parked))
         where
           told : IsParked new k mode flow ⊎ ((key ≡ k) × (first ≡ flow)) → IsParked new k m flow ⊎ IsReady new flow
@@ -101,7 +101,7 @@ module _ (setup : Setup) (entries : List Entry) (old new : Pools) (key : Key) (m
 
       by : (mode ≡ m) ⊎ (mode ≡ m → ⊥) → IsParked new k m flow ⊎ IsReady new flow
       by (inl same) = here same wakes.first
-      by (inr apart) = inl (ap (λ rooms. has (room_at rooms k) flow) (wakes.others m apart) ∙ parked)
+      by (inr apart) = inl (ap (λ parks. has (parked_at parks k) flow) (wakes.others m apart) ∙ parked)
 
   pub woken-covered : (flow : ℕ) → IsCovered setup entries old from flow → IsCovered setup entries new from flow
   woken-covered flow covered = covered-more setup entries old new from flow woken-ready (λ k m. woken-kept k m flow)
@@ -113,7 +113,7 @@ module _ (setup : Setup) (entries : List Entry) (old new : Pools) (key : Key) (m
   pub woken-apart : AreFresh setup entries old → AreApart old → AreApart new
   woken-apart fresh apart k m flow parked ready = by wakes.first
     where
-      own-left : (first : ℕ) → MovesFirst old.ready new.ready (rooms_for old mode) (rooms_for new mode) key from first
+      own-left : (first : ℕ) → MovesFirst old.ready new.ready (parked_for old mode) (parked_for new mode) key from first
           → first ≡ flow → ⊥
       own-left first moves same =
           let earliest = moves.earliest in
@@ -123,10 +123,10 @@ module _ (setup : Setup) (entries : List Entry) (old new : Pools) (key : Key) (m
           other.next in
           let key_is : key ≡ k = cc takes in
           let mode_is : mode ≡ m = cc takes in
-          less_at_own (rooms_for old mode) (rooms_for new mode) key first moves.left
+          less_at_own (parked_for old mode) (parked_for new mode) key first moves.left
           (rw (key_is, same) (subst (λ q. IsParked new k q flow) (sym mode_is) parked))
 
-      by : WakesFirst old.ready new.ready (rooms_for old mode) (rooms_for new mode) key from → ⊥
+      by : WakesFirst old.ready new.ready (parked_for old mode) (parked_for new mode) key from → ⊥
       by (inl (none, same, stay)) = apart k m flow (woken-back k m flow parked) (rw same at ready)
       by (inr (first, moves)) = told (more_cases old.ready new.ready first moves.added flow ready)
         where
@@ -137,7 +137,7 @@ module _ (setup : Setup) (entries : List Entry) (old new : Pools) (key : Key) (m
   pub woken-exist : AreFresh setup entries old → AllExist setup old → AllExist setup new
   woken-exist fresh exist flow ready = by wakes.first
     where
-      by : WakesFirst old.ready new.ready (rooms_for old mode) (rooms_for new mode) key from → flow < length setup.items
+      by : WakesFirst old.ready new.ready (parked_for old mode) (parked_for new mode) key from → flow < length setup.items
       by (inl (none, same, stay)) = exist flow (rw same at ready)
       by (inr (first, moves)) = told (more_cases old.ready new.ready first moves.added flow ready)
         where
@@ -149,14 +149,14 @@ module _ (setup : Setup) (entries : List Entry) (old new : Pools) (key : Key) (m
               subst (λ f. f < length setup.items) same live.item
           told (inr was) = exist flow was
 
-  -- the others of the room are behind it
+  -- the other flows that are parked there are behind it
   pub woken-owed : AreFresh setup entries old → (flow : ℕ) → IsParked old key mode flow
       → IsCovered setup entries new from flow
   woken-owed fresh flow parked = by wakes.first
     where
-      by : WakesFirst old.ready new.ready (rooms_for old mode) (rooms_for new mode) key from
+      by : WakesFirst old.ready new.ready (parked_for old mode) (parked_for new mode) key from
           → IsCovered setup entries new from flow
-      by (inl (none, same, stay)) = absurd (none_has (room_at (rooms_for old mode) key) flow none parked)
+      by (inl (none, same, stay)) = absurd (none_has (parked_at (parked_for old mode) key) flow none parked)
       by (inr (first, moves)) = told (cases_eq first flow)
         where
           told : (first ≡ flow) ⊎ (first ≡ flow → ⊥) → IsCovered setup entries new from flow
@@ -251,15 +251,15 @@ module _ (setup : Setup) (entries : List Entry) (legal : IsLegal setup entries) 
   pub line-ready : StayReady old new
   line-ready flow ready = wakes.ready_ flow ∙ right (has (served_of line) flow) (has old.ready flow) ready
 
-  line-rooms : (mode : Mode) → rooms_for new mode ≡ rooms_for old mode
-  line-rooms Reader = wakes.readers_
-  line-rooms Writer = wakes.writers_
+  line-parks : (mode : Mode) → parked_for new mode ≡ parked_for old mode
+  line-parks Reader = wakes.readers_
+  line-parks Writer = wakes.writers_
 
   line-parked : (k : Key) (m : Mode) (flow : ℕ) → IsParked old k m flow → IsParked new k m flow
-  line-parked k m flow parked = ap (λ rooms. has (room_at rooms k) flow) (line-rooms m) ∙ parked
+  line-parked k m flow parked = ap (λ parks. has (parked_at parks k) flow) (line-parks m) ∙ parked
 
   line-back : (k : Key) (m : Mode) (flow : ℕ) → IsParked new k m flow → IsParked old k m flow
-  line-back k m flow parked = ap (λ rooms. has (room_at rooms k) flow) (sym (line-rooms m)) ∙ parked
+  line-back k m flow parked = ap (λ parks. has (parked_at parks k) flow) (sym (line-parks m)) ∙ parked
 
   pub line-covered : (flow : ℕ) → IsCovered setup entries old from flow → IsCovered setup entries new from flow
   line-covered flow covered = covered-more setup entries old new from flow line-ready

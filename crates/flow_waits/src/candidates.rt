@@ -14,8 +14,8 @@ ghost use Rattle.flow_waits.specs.steps.Covers.{Covers, IsChosen, Lags, StayAwak
 mod idle;
 
 use crate::numbers::Numbers;
-use crate::rooms::Rooms;
-use flow_core::{Core, Stop, Way};
+use crate::parked_flows::ParkedFlows;
+use flow_core::{BlockedTake, Core, Readiness};
 use flow_model::{Event, Key};
 use flux_library::Library;
 use flux_model::{FlowNo, Mode};
@@ -28,8 +28,8 @@ use std::marker::Model;
 /// The flows of a core that are looked at, and those that needn't be. After want of memory it is of no more use.
 pub struct Candidates {
     ready: Numbers,
-    readers: Rooms,
-    writers: Rooms,
+    readers: ParkedFlows,
+    writers: ParkedFlows,
 }
 
 impl Drop for Candidates {
@@ -62,8 +62,8 @@ impl Candidates {
         }
         Ok(Candidates {
             ready,
-            readers: Rooms::new(core.alloc()),
-            writers: Rooms::new(core.alloc()),
+            readers: ParkedFlows::new(core.alloc()),
+            writers: ParkedFlows::new(core.alloc()),
         })
     }
 
@@ -79,17 +79,17 @@ impl Candidates {
         let _journal = core.journal();
         while let Some(number) = self.ready.first_from(from) {
             let flow = FlowNo(number);
-            match core.way(flow) {
-                Way::Ended => self.ready.remove(number),
-                Way::Blocked(stop) => self.park(number, stop)?,
-                Way::Free => return Ok(Some(flow)),
+            match core.readiness(flow) {
+                Readiness::Ended => self.ready.remove(number),
+                Readiness::Blocked(stop) => self.park(number, stop)?,
+                Readiness::Free => return Ok(Some(flow)),
             }
         }
         Ok(None)
     }
 
-    /// Is told of the last entry, of a flow that is looked at.
-    pub fn told<L: Library>(&mut self, core: &Core<L>, from: u32) -> Result<(), Memory>
+    /// Takes in the last entry, which is of a flow that is looked at.
+    pub fn update<L: Library>(&mut self, core: &Core<L>, from: u32) -> Result<(), Memory>
         requires { Lags (setup_in L.meaning core.now) core.now.entries self.old from }
         ensures covers { OnOk result (Covers (setup_in L.meaning core.now) core.now.entries self.new from) }
         ensures ready { OnOk result (StayAwake (setup_in L.meaning core.now) core.now.entries self.old self.new) }
@@ -134,7 +134,7 @@ impl Candidates {
     }
 
     /// No longer looks at a flow that is blocked.
-    fn park(&mut self, flow: u32, stop: Stop) -> Result<(), Memory>
+    fn park(&mut self, flow: u32, stop: BlockedTake) -> Result<(), Memory>
         ensures ok { OnOk result (Parks self.old self.new flow stop) }
     {
         if !stop.stands {
@@ -147,7 +147,7 @@ impl Candidates {
         Ok(())
     }
 
-    /// Looks at the first flow of a room.
+    /// Looks at the first flow that is parked at a key in a mode.
     fn wake(&mut self, key: Key, mode: Mode, from: u32) -> Result<(), Memory>
         ensures { OnOk result (Wakes self.old self.new key mode from) }
     {
@@ -171,14 +171,19 @@ impl Candidates {
     }
 }
 
-/// Looks at the first flow of a room, which leaves it.
-fn wake_first(ready: &mut Numbers, rooms: &mut Rooms, key: Key, from: u32) -> Result<(), Memory>
-    ensures { OnOk result (WakesFirst ready.old ready.new rooms.old rooms.new key from) }
+/// Looks at the first flow that is parked at a key, which is parked no longer.
+fn wake_first(
+    ready: &mut Numbers,
+    parked: &mut ParkedFlows,
+    key: Key,
+    from: u32,
+) -> Result<(), Memory>
+    ensures { OnOk result (WakesFirst ready.old ready.new parked.old parked.new key from) }
 {
-    let Some(flow) = rooms.first_from(key, from) else {
+    let Some(flow) = parked.first_from(key, from) else {
         return Ok(());
     };
     ready.add(flow)?;
-    rooms.remove(key, flow);
+    parked.remove(key, flow);
     Ok(())
 }

@@ -49,7 +49,7 @@ pub fn drain_by<L: Library, G: Gate>(core: &mut Core<L>, gate: &G) -> Result<(),
     let mut candidates = Candidates::new(core)?;
     while let Some(flow) = candidates.first(core, 0)? {
         let _ = take_turn(core, gate, flow)?;
-        candidates.told(core, 0)?;
+        candidates.update(core, 0)?;
     }
     Ok(())
 }

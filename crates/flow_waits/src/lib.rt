@@ -5,10 +5,11 @@ mod candidates;
 mod drains;
 mod laws;
 mod numbers;
-mod rooms;
+mod parked_flows;
 mod turns;
 
 pub use candidates::{Candidates, Idlers};
 pub use drains::{drain, drain_by, enabled};
 pub use laws::{blocked_stay, calls_keep_covers, fresh_are_alike, writers_block};
+pub use numbers::Numbers;
 pub use turns::{Turn, take_turn};

@@ -1,7 +1,7 @@
 //! Sets of flows' numbers.
 
 ghost use Rattle.std.specs.Prelude.{◌≡◌, ◌<◌, true, [], length, OnOk, OnErr, MatchOption};
-ghost use Rattle.flow_waits.specs.steps.Waking.{has, IsMore, IsLess, IsEarliest};
+ghost use Rattle.flow_waits.specs.steps.Waking.{has, IsMore, IsLess, IsEarliest, TakesLowest};
 
 use flux_values::Memory;
 use std::alloc::Global;
@@ -44,6 +44,14 @@ impl Numbers {
         ensures fewer { has self.old flow ≡ true → length self.new < length self.old }
     {
         let _ = self.set.remove(&flow);
+    }
+
+    /// Takes the lowest number out.
+    pub fn take_lowest(&mut self) -> Option<u32>
+        ensures { MatchOption result ((self.old ≡ []) × (self.new ≡ []))
+            (λ flow. TakesLowest self.old self.new flow) }
+    {
+        Some(self.set.pop_first()?)
     }
 
     /// The first number that is looked at, from one on upward and then from 0 on.

@@ -5,9 +5,9 @@ use Rattle.std.proofs.Math.Seq.{take-append-add, take-append-le}
 use Rattle.std.proofs.lemmas.List.{length-take-le}
 use Rattle.std.specs.Io.KnownBytes.{Consumes, IsAtEnd}
 use Rattle.flux_outside.proofs.Consumed.{consumes_more}
-use Rattle.flux_batches.specs.declared.framing.Framing.{Framing}
-use Rattle.flux_batches.specs.Texts.{ends, least_front, has_front, trimmed, limit_of, text_of}
-use Rattle.flux_batches.proofs.Fronts.{text-found, text-full, text-all}
+use Rattle.flux_doors.specs.declared.framing.Framing.{Framing}
+use Rattle.flux_doors.specs.Texts.{ends, least_front, has_front, trimmed, limit_of, text_of}
+use Rattle.flux_doors.proofs.Fronts.{text-found, text-full, text-all}
 
 -- a front, and a part that was read behind it
 pub filled-is : (buffer part rest : List ℕ) (filled count : ℕ) → filled ≤ length buffer → count ≤ length part → take (filled + count) (take filled buffer ++ (part ++ rest)) ≡ take filled buffer ++ take count part

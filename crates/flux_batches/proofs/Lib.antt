@@ -1,6 +1,5 @@
-mod Fronts
 mod Filled
-mod HeldLemmas
+mod ReadLemmas
 mod Numbered
 mod Pieces
 pub mod Giving

@@ -3,26 +3,26 @@ use Rattle.std.proofs.Common.{◌≡◌, ◌⊎◌, inl, inr, ℕ, zero, suc, �
 use Rattle.std.proofs.lemmas.Bool.{cases_eq}
 use Rattle.std.proofs.lemmas.Grind.{get_or-set_at}
 use Rattle.std.proofs.lemmas.List.{get_or-set_other}
-use Rattle.flux_batches.specs.declared.reading.Held.{Held}
+use Rattle.flux_batches.specs.declared.reading.ReadLink.{ReadLink}
 use Rattle.flux_batches.specs.Replies.{flow_behind}
 use Rattle.flux_batches.specs.steps.Answering.{flow_at}
 
-pub flow-first : {K : Type 0} → (flow : ℕ) (helds : List (Held K)) → flow_at flow helds zero ≡ flow
+pub flow-first : {K : Type 0} → (flow : ℕ) (requests : List (ReadLink K)) → flow_at flow requests zero ≡ flow
 flow-first flow [] = refl
-flow-first flow (held ∷ rest) = refl
+flow-first flow (request ∷ rest) = refl
 
-flow-next : {K : Type 0} → (flow : ℕ) (helds : List (Held K)) (place : ℕ) (none : Held K) → place < length helds
-    → flow_at flow helds (suc place) ≡ flow_behind (flow_at flow helds place) (slice_index_or helds place none).sent
+flow-next : {K : Type 0} → (flow : ℕ) (requests : List (ReadLink K)) (place : ℕ) (none : ReadLink K) → place < length requests
+    → flow_at flow requests (suc place) ≡ flow_behind (flow_at flow requests place) (slice_index_or requests place none).sent
 flow-next flow [] place none below = absurd (omega (arith, below))
-flow-next flow (held ∷ rest) zero none below = flow-first (flow_behind flow held.sent) rest
-flow-next flow (held ∷ rest) (suc place) none below = flow-next (flow_behind flow held.sent) rest place none (omega (arith, below))
+flow-next flow (request ∷ rest) zero none below = flow-first (flow_behind flow request.sent) rest
+flow-next flow (request ∷ rest) (suc place) none below = flow-next (flow_behind flow request.sent) rest place none (omega (arith, below))
 
 -- the flow of the place behind one
-pub flow-behind : {K : Type 0} → (helds : List (Held K)) (place : ℕ) (held : Held K) → place < length helds
-    → flow_at 0 helds (place + 1) ≡ flow_behind (flow_at 0 helds place) (slice_index_or helds place held).sent
-flow-behind helds place held below =
+pub flow-behind : {K : Type 0} → (requests : List (ReadLink K)) (place : ℕ) (request : ReadLink K) → place < length requests
+    → flow_at 0 requests (place + 1) ≡ flow_behind (flow_at 0 requests place) (slice_index_or requests place request).sent
+flow-behind requests place request below =
     let one : place + 1 ≡ suc place = omega arith in
-    ap (flow_at 0 helds) one ∙ flow-next 0 helds place held below
+    ap (flow_at 0 requests) one ∙ flow-next 0 requests place request below
 
 -- one place more has its flow
 pub flows-more : (flows : List ℕ) (place flow : ℕ) (at : ℕ → ℕ) → place < length flows → flow ≡ at place

@@ -1,4 +1,3 @@
-pub mod Texts
 pub mod Links
 pub mod Replies
 pub mod Gathered

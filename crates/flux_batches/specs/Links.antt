@@ -5,12 +5,13 @@ use Rattle.flux_values.specs.declared.values.Value.TheVariants as values
 use Rattle.flux_model.specs.Items.{AreValues}
 use Rattle.flux_model.specs.declared.items.Item.{Item}
 use Rattle.flux_outside.specs.Causes.{Rose}
+use Rattle.flux_outside.specs.Readers.{TakesAtMost}
 use Rattle.flux_outside.specs.Streams.{Stream}
-use Rattle.flux_batches.specs.declared.framing.Framing.{Framing}
+use Rattle.flux_doors.specs.declared.framing.Framing.{Framing}
 use Rattle.flux_batches.specs.declared.reading.Sent.{Sent}
 use Rattle.flux_batches.specs.declared.reading.Sent.TheVariants.{Text, Failed, Memory}
-use Rattle.flux_batches.specs.declared.reading.Held.{Held}
-use Rattle.flux_batches.specs.Texts.{text_of}
+use Rattle.flux_batches.specs.declared.reading.ReadLink.{ReadLink}
+use Rattle.flux_doors.specs.Texts.{limit_of, text_of}
 
 -- what is seen of a link: all that its client sends, the bytes left to read and all bytes written,
 -- where they are told, and its count of faults
@@ -38,24 +39,26 @@ IsSame before after = after.had ≡ before.had
 abbrev pub stream_of : Seen → Stream
 stream_of link = record { written = link.written; faults = link.faults }
 
--- a link was read: its text is that of what it had; or its count rose; or memory was short, and its
--- count stands; nothing was written
+-- a link was read: at most as many of its bytes as a text may have are gone; its text is that of what
+-- it had; or its count rose; or memory was short, and its count is as it was; nothing was written
 abbrev pub IsSent : Framing → Seen → Seen → Sent → Type 0
 IsSent framing before after (Text text) =
     IfSome before.left (λ left. text ≡ text_of framing left) × (after.faults ≡ before.faults)
-    × (after.written ≡ before.written)
+    × (after.written ≡ before.written) × TakesAtMost (limit_of framing) before.left after.left
 IsSent framing before after Failed =
     Rose before.faults after.faults × (after.written ≡ before.written)
+    × TakesAtMost (limit_of framing) before.left after.left
 IsSent framing before after Memory =
     (after.faults ≡ before.faults) × (after.written ≡ before.written)
+    × TakesAtMost (limit_of framing) before.left after.left
 
 -- links were read in order, each at its place, and these are left to read
-abbrev pub AreHeld : {K : Type 0} → (K → Seen) → Framing → List K → List (Held K) → List K → Type 0
-AreHeld see framing links [] left = links ≡ left
-AreHeld see framing [] (held ∷ rest) left = ⊥
-AreHeld see framing (link ∷ links) (held ∷ rest) left =
-    IsSame (see link) (see held.link) × IsSent framing (see link) (see held.link) held.sent
-    × AreHeld see framing links rest left
+abbrev pub WereRead : {K : Type 0} → (K → Seen) → Framing → List K → List (ReadLink K) → List K → Type 0
+WereRead see framing links [] left = links ≡ left
+WereRead see framing [] (request ∷ rest) left = ⊥
+WereRead see framing (link ∷ links) (request ∷ rest) left =
+    IsSame (see link) (see request.link) × IsSent framing (see link) (see request.link) request.sent
+    × WereRead see framing links rest left
 
 -- ---- items
 
@@ -78,9 +81,9 @@ item_sent number Failed = []
 item_sent number Memory = []
 
 -- the items of links, which are numbered from a number on
-abbrev pub items_from : {K : Type 0} → ℕ → List (Held K) → List Item
+abbrev pub items_from : {K : Type 0} → ℕ → List (ReadLink K) → List Item
 items_from number [] = []
-items_from number (held ∷ rest) = item_sent number held.sent ++ items_from (number + 1) rest
+items_from number (request ∷ rest) = item_sent number request.sent ++ items_from (number + 1) rest
 
 -- there was memory for a link's text
 abbrev pub IsRead : Sent → Type 0
@@ -89,6 +92,6 @@ IsRead Failed = Unit {0}
 IsRead Memory = ⊥
 
 -- there was memory for each text
-abbrev pub AreRead : {K : Type 0} → List (Held K) → Type 0
+abbrev pub AreRead : {K : Type 0} → List (ReadLink K) → Type 0
 AreRead [] = Unit {0}
-AreRead (held ∷ rest) = IsRead held.sent × AreRead rest
+AreRead (request ∷ rest) = IsRead request.sent × AreRead rest

@@ -8,7 +8,7 @@ use Rattle.flow_model.specs.declared.journals.Entry.{Entry}
 use Rattle.flux_outside.specs.Streams.{WroteOrBroke}
 use Rattle.flux_batches.specs.declared.reading.Sent.{Sent}
 use Rattle.flux_batches.specs.declared.reading.Sent.TheVariants.{Text, Failed, Memory}
-use Rattle.flux_batches.specs.declared.reading.Held.{Held}
+use Rattle.flux_batches.specs.declared.reading.ReadLink.{ReadLink}
 use Rattle.flux_batches.specs.Links.{Seen, IsSame, stream_of}
 
 -- what an event emits: a call what it answers, and no other anything
@@ -44,21 +44,21 @@ flow_behind flow Memory = flow
 
 -- links were answered in order, from a flow on, and given back as these, each at its place; those
 -- are left
-abbrev pub AreAnswered : {K : Type 0} → (K → Seen) → List Entry → ℕ → List (Held K) → List K
-    → List (Held K) → Type 0
-AreAnswered see entries flow helds [] left = helds ≡ left
+abbrev pub AreAnswered : {K : Type 0} → (K → Seen) → List Entry → ℕ → List (ReadLink K) → List K
+    → List (ReadLink K) → Type 0
+AreAnswered see entries flow requests [] left = requests ≡ left
 AreAnswered see entries flow [] (back ∷ backs) left = ⊥
-AreAnswered see entries flow (held ∷ rest) (back ∷ backs) left =
-    IsSame (see held.link) (see back) × IsAnswered entries flow (see held.link) (see back) held.sent
-    × AreAnswered see entries (flow_behind flow held.sent) rest backs left
+AreAnswered see entries flow (request ∷ rest) (back ∷ backs) left =
+    IsSame (see request.link) (see back) × IsAnswered entries flow (see request.link) (see back) request.sent
+    × AreAnswered see entries (flow_behind flow request.sent) rest backs left
 
 -- a door has taken back these links beside those before, where it tells them
 abbrev pub TakesBack : {L : Type 0} → Option (List L) → Option (List L) → List L → Type 0
-TakesBack before after links = after ≡ option_map (λ held. held ++ links) before
+TakesBack before after links = after ≡ option_map (λ earlier. earlier ++ links) before
 
 -- all links were answered, and given back to the door
-pub record AreAllAnswered {L : Type 0} (see : L → Seen) (entries : List Entry) (helds : List (Held L))
+pub record AreAllAnswered {L : Type 0} (see : L → Seen) (entries : List Entry) (requests : List (ReadLink L))
     (before after : Option (List L)) : Type 0 where
   pub backs : List L
   pub taken : TakesBack before after backs
-  pub answered : AreAnswered see entries 0 helds backs []
+  pub answered : AreAnswered see entries 0 requests backs []

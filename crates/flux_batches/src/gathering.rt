@@ -7,7 +7,7 @@ ghost use Rattle.flux_doors.specs.Doors.{waiting, first_link};
 ghost use Rattle.flux_batches.specs.Gathered.{AreGathered};
 ghost use Rattle.flux_batches.specs.Replies.{TakesBack};
 
-use crate::reading::Held;
+use crate::reading::ReadLink;
 use flux_doors::Door;
 use std::alloc::Global;
 use std::collections::VecDeque;
@@ -75,16 +75,16 @@ pub fn give_back<D: Door>(door: &mut D, links: VecDeque<D::Link>)
 }
 
 /// The same of links that were read.
-pub fn give_back_held<D: Door>(door: &mut D, links: VecDeque<Held<D::Link>>)
+pub fn give_back_read<D: Door>(door: &mut D, links: VecDeque<ReadLink<D::Link>>)
     requires { D.out door.old ≡ deque_len links }
     ensures out { D.out door.new ≡ 0 }
-    ensures back { TakesBack (D.taken_back door.old) (D.taken_back door.new) (map (λ held. held.link) links.items) }
+    ensures back { TakesBack (D.taken_back door.old) (D.taken_back door.new) (map (λ request. request.link) links.items) }
     ensures kept { D.to_come door.new ≡ D.to_come door.old }
     ensures open { D.open_at door.new ≡ D.open_at door.old }
     ensures counts { (D.faults door.new ≡ D.faults door.old) × (D.late door.new ≡ D.late door.old) }
 {
     let mut links = links;
-    'links: while let Some(held) = links.pop_front() {
-        door.done(held.link);
+    'links: while let Some(request) = links.pop_front() {
+        door.done(request.link);
     }
 }

@@ -5,7 +5,7 @@ ghost use Rattle.std.specs.List.{AllByRecursion};
 ghost use Rattle.std.specs.VecDeque.{deque_len};
 ghost use Rattle.flux_batches.specs.Links.{link_item, items_from, AreRead, IsLinkItem};
 
-use crate::reading::{Held, Sent};
+use crate::reading::{ReadLink, Sent};
 use flux_model::{Item, SourceNo};
 use flux_values::{List, Memory, TEXT_LIMIT, TextBytes, Value};
 use std::alloc::Global;
@@ -32,7 +32,7 @@ fn item_of(alloc: Global, number: i64, text: &[u8]) -> Result<Item, Memory>
 /// The items of links, which are numbered from a number on. A link whose reading failed has none.
 pub fn items_of<K>(
     alloc: Global,
-    links: &VecDeque<Held<K>>,
+    links: &VecDeque<ReadLink<K>>,
     number: u64,
 ) -> Result<List<Item>, Memory>
     requires { number + deque_len links.now < 2 ^ 63 }
@@ -42,10 +42,10 @@ pub fn items_of<K>(
 {
     let mut items = List::new(alloc);
     for place in 0..links.len() {
-        let Some(held) = links.get(place) else {
+        let Some(request) = links.get(place) else {
             return Err(Memory);
         };
-        match &held.sent {
+        match &request.sent {
             Sent::Text(text) => {
                 let number = (number + place as u64) as i64;
                 items.add(item_of(alloc, number, text.as_bytes())?)?;

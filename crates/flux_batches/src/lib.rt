@@ -5,7 +5,6 @@
 //! the door, in the order in which they came.
 #![tactic(auto)]
 
-mod framing;
 mod gathering;
 mod items;
 mod numbering;
@@ -13,8 +12,7 @@ mod reading;
 mod replying;
 mod spans;
 
-pub use framing::Framing;
-pub use gathering::{LINK_LIMIT, NoBatch, gather, give_back, give_back_held};
+pub use gathering::{LINK_LIMIT, NoBatch, gather, give_back, give_back_read};
 pub use items::items_of;
-pub use reading::{Held, Sent, read_links};
+pub use reading::{ReadLink, Sent, read_links};
 pub use replying::{answer_links, copy_of_reply, reply, send};

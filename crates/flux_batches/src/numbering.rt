@@ -4,10 +4,10 @@ ghost use Rattle.std.specs.Prelude.{◌≡◌, ℕ, ◌+◌, ◌<◌, ◌≤◌,
 ghost use Rattle.flux_batches.specs.steps.Answering.{flow_at};
 
 use crate::gathering::LINK_LIMIT;
-use crate::reading::{Held, Sent};
+use crate::reading::{ReadLink, Sent};
 
 /// The flow of the next link with an item, behind the one at a place.
-fn next_flow<K>(links: &[Held<K>], place: usize, flow: u32) -> u32
+fn next_flow<K>(links: &[ReadLink<K>], place: usize, flow: u32) -> u32
     requires within { place < length links.now }
     requires few { flow < LINK_LIMIT }
     requires at { flow ≡ flow_at 0 links.now place }
@@ -22,7 +22,7 @@ fn next_flow<K>(links: &[Held<K>], place: usize, flow: u32) -> u32
 
 /// The flow of the link at each place: the links with items have those from 0 on, in order. That of a link without one is of no
 /// use, and so are those behind the last link.
-pub fn flows_of<K>(links: &[Held<K>]) -> [u32; LINK_LIMIT]
+pub fn flows_of<K>(links: &[ReadLink<K>]) -> [u32; LINK_LIMIT]
     requires { length links.now ≤ LINK_LIMIT }
     ensures count { length result ≡ LINK_LIMIT }
     ensures few { All (λ flow. flow < LINK_LIMIT) result }

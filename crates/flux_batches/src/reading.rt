@@ -2,13 +2,13 @@
 
 ghost use Rattle.std.specs.Prelude.{◌≡◌, ℕ, ◌<◌, ◌≤◌, [], length, map, slice_index_or, take, IfOk, IfErr, IfSome};
 ghost use Rattle.flux_outside.specs.Causes.{HasCause};
-ghost use Rattle.flux_batches.specs.Texts.{ends, least_front, trimmed, limit_of, text_of};
+ghost use Rattle.flux_outside.specs.Readers.{TakesAtMost};
+ghost use Rattle.flux_doors.specs.Texts.{ends, least_front, trimmed, limit_of, text_of};
 ghost use Rattle.std.specs.VecDeque.{deque_len};
-ghost use Rattle.flux_batches.specs.Links.{seen_by, IsSent, AreHeld};
+ghost use Rattle.flux_batches.specs.Links.{seen_by, IsSent, WereRead};
 ghost use Rattle.flux_batches.specs.steps.Reading.{to_read, WasRead};
 
-use crate::framing::Framing;
-use flux_doors::Link;
+use flux_doors::{Framing, Link};
 use flux_outside::Failed;
 use flux_values::TextBytes;
 use std::alloc::Global;
@@ -20,9 +20,9 @@ use std::thread::Threads;
 /// The most bytes that are read of a link.
 const BUFFER: usize = 16_384;
 
-/// So many links are read, or answered, by one thread, one after another. Starting a thread costs more than a few ready links,
-/// and a batch has 64 at most, so it takes four.
-const LINKS_A_THREAD: usize = 16;
+/// So many links are read, or answered, by one thread, one after another: as many as a batch has. A door gives links whose
+/// texts are there, so no read of theirs waits, and starting a thread costs more than reading and answering all of them.
+const LINKS_A_THREAD: usize = 64;
 
 /// How many threads read so many links, or answer them.
 pub fn threads_for(links: usize) -> usize
@@ -52,7 +52,7 @@ impl Drop for Sent {
 
 /// A link that was read, with what it sent.
 #[derive(Drop)]
-pub struct Held<K> {
+pub struct ReadLink<K> {
     pub link: K,
     pub sent: Sent,
 }
@@ -63,6 +63,7 @@ fn fill<K: Link>(link: &mut K, framing: Framing, buffer: &mut [u8]) -> Result<us
     ensures bound { IfOk result (λ count. count ≤ length buffer.new) }
     ensures text { IfSome (K.left link.old) (λ left. IfOk result (λ count.
         trimmed framing (least_front (ends framing) (take count buffer.new)) ≡ text_of framing left)) }
+    ensures taken { TakesAtMost (limit_of framing) (K.left link.old) (K.left link.new) }
     ensures had { K.had link.new ≡ K.had link.old }
     ensures written { K.written link.new ≡ K.written link.old }
     ensures cause { HasCause (K.faults link.old) (K.faults link.new) result }
@@ -99,48 +100,48 @@ fn read_link<K: Link>(alloc: Global, link: &mut K, framing: Framing) -> Sent
 }
 
 /// Puts a link's text beside it.
-fn read_held<K: Link>(alloc: Global, held: &mut Held<K>, framing: Framing)
-    ensures { WasRead (seen_by K.had K.left K.written K.faults) framing held.old held.new }
+fn read_one<K: Link>(alloc: Global, request: &mut ReadLink<K>, framing: Framing)
+    ensures { WasRead (seen_by K.had K.left K.written K.faults) framing request.old request.new }
 {
-    held.sent = read_link(alloc, &mut held.link, framing);
+    request.sent = read_link(alloc, &mut request.link, framing);
 }
 
 /// Links in a list of what was read of them, which is nothing yet. Where there is no memory for it, they come back.
-fn unread<K: Drop>(alloc: Global, links: VecDeque<K>) -> Result<VecDeque<Held<K>>, VecDeque<K>>
-    ensures held { IfOk result (λ held. held.items ≡ map to_read links.items) }
-    ensures count { IfOk result (λ held. deque_len held ≡ deque_len links) }
+fn unread<K: Drop>(alloc: Global, links: VecDeque<K>) -> Result<VecDeque<ReadLink<K>>, VecDeque<K>>
+    ensures request { IfOk result (λ request. request.items ≡ map to_read links.items) }
+    ensures count { IfOk result (λ request. deque_len request ≡ deque_len links) }
     ensures back { IfErr result (λ back. (back.items ≡ links.items) × (deque_len back ≡ deque_len links)) }
 {
     let mut links = links;
-    let Ok(mut held) = VecDeque::with_capacity(alloc, links.len()) else {
+    let Ok(mut request) = VecDeque::with_capacity(alloc, links.len()) else {
         return Err(links);
     };
     'links: while let Some(link) = links.pop_front() {
-        held.push_back_reserved(Held {
+        request.push_back_reserved(ReadLink {
             link,
             sent: Sent::Memory,
         });
     }
-    Ok(held)
+    Ok(request)
 }
 
 /// Reads links side by side, by several threads.
 fn read_each<R: Threads + Sync, K: Link + Send>(
     rt: &R,
     alloc: Global,
-    held: &mut [Held<K>],
+    request: &mut [ReadLink<K>],
     framing: Framing,
 )
-    ensures { (i : ℕ) (none : Held K) → i < length held.old
+    ensures { (i : ℕ) (none : ReadLink K) → i < length request.old
         → WasRead (seen_by K.had K.left K.written K.faults) framing
-        (slice_index_or held.old i none) (slice_index_or held.new i none) }
+        (slice_index_or request.old i none) (slice_index_or request.new i none) }
 {
-    let threads = threads_for(held.len());
+    let threads = threads_for(request.len());
     thread::for_each_mut(
         rt,
-        held,
+        request,
         threads,
-        &|_, one| { read_held(alloc, one, framing) },
+        &|_, one| { read_one(alloc, one, framing) },
     );
 }
 
@@ -150,13 +151,13 @@ pub fn read_links<R: Threads + Sync, K: Link + Drop + Send>(
     alloc: Global,
     links: VecDeque<K>,
     framing: Framing,
-) -> Result<VecDeque<Held<K>>, VecDeque<K>>
-    ensures held { IfOk result (λ held. AreHeld (seen_by K.had K.left K.written K.faults)
-        framing links.items held.items []) }
-    ensures count { IfOk result (λ held. deque_len held ≡ deque_len links) }
+) -> Result<VecDeque<ReadLink<K>>, VecDeque<K>>
+    ensures request { IfOk result (λ request. WereRead (seen_by K.had K.left K.written K.faults)
+        framing links.items request.items []) }
+    ensures count { IfOk result (λ request. deque_len request ≡ deque_len links) }
     ensures unread { IfErr result (λ back. (back.items ≡ links.items) × (deque_len back ≡ deque_len links)) }
 {
-    let mut held = unread(alloc, links)?;
-    read_each(rt, alloc, held.make_contiguous(), framing);
-    Ok(held)
+    let mut request = unread(alloc, links)?;
+    read_each(rt, alloc, request.make_contiguous(), framing);
+    Ok(request)
 }

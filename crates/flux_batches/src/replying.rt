@@ -8,9 +8,9 @@ ghost use Rattle.flux_outside.specs.Streams.{Wrote, Broke, WroteOrBroke};
 ghost use Rattle.flux_batches.specs.Links.{seen_by};
 ghost use Rattle.flux_batches.specs.Replies.{reply_of, AreAllAnswered};
 
-use crate::gathering::{LINK_LIMIT, give_back_held};
+use crate::gathering::{LINK_LIMIT, give_back_read};
 use crate::numbering::flows_of;
-use crate::reading::{Held, Sent, threads_for};
+use crate::reading::{ReadLink, Sent, threads_for};
 use crate::spans::{Span, emission_of, spanned, spans_of};
 use flow_model::Entry;
 use flux_doors::{Door, Link};
@@ -69,15 +69,15 @@ pub fn copy_of_reply(alloc: Global, entries: &[Entry], flow: FlowNo) -> Result<V
 }
 
 /// Answers a link, if it has an item, by the flow of its place.
-fn answer<K: Link>(held: &mut Held<K>, entries: &[Entry], spans: &[Span], flow: u32)
+fn answer<K: Link>(request: &mut ReadLink<K>, entries: &[Entry], spans: &[Span], flow: u32)
     requires few { flow < length spans.now }
     requires spans { AreSpans entries.now spans.now }
-    ensures { WasAnswered (seen_by K.had K.left K.written K.faults) entries.now flow held.old held.new }
+    ensures { WasAnswered (seen_by K.had K.left K.written K.faults) entries.now flow request.old request.new }
 {
-    match &held.sent {
+    match &request.sent {
         Sent::Text(_) => {
             let flow = FlowNo(flow);
-            reply(&mut held.link, spanned(entries, spans, flow), flow);
+            reply(&mut request.link, spanned(entries, spans, flow), flow);
         }
         Sent::Failed | Sent::Memory => {}
     }
@@ -86,7 +86,7 @@ fn answer<K: Link>(held: &mut Held<K>, entries: &[Entry], spans: &[Span], flow: 
 /// Answers links side by side, by several threads.
 fn answer_each<R: Threads + Sync, K: Link + Send>(
     rt: &R,
-    links: &mut [Held<K>],
+    links: &mut [ReadLink<K>],
     entries: &[Entry],
     spans: &[Span],
     flows: &[u32],
@@ -94,7 +94,7 @@ fn answer_each<R: Threads + Sync, K: Link + Send>(
     requires few { All (λ flow. flow < length spans.now) flows.now }
     requires all { length links.old ≤ length flows.now }
     requires spans { AreSpans entries.now spans.now }
-    ensures { (place : ℕ) (none : Held K) → place < length links.old
+    ensures { (place : ℕ) (none : ReadLink K) → place < length links.old
         → WasAnswered (seen_by K.had K.left K.written K.faults) entries.now (slice_index_or flows.now place 0)
         (slice_index_or links.old place none) (slice_index_or links.new place none) }
 {
@@ -103,11 +103,11 @@ fn answer_each<R: Threads + Sync, K: Link + Send>(
         rt,
         links,
         threads,
-        &|place, held: &mut Held<K>|
+        &|place, request: &mut ReadLink<K>|
             requires few { All (λ flow. flow < length spans.now) flows.now }
             requires within { place < length flows.now }
             requires spans { AreSpans entries.now spans.now }
-        { answer(held, entries, spans, flows[place]) },
+        { answer(request, entries, spans, flows[place]) },
     );
 }
 
@@ -115,7 +115,7 @@ fn answer_each<R: Threads + Sync, K: Link + Send>(
 pub fn answer_links<R: Threads + Sync, D: Door>(
     rt: &R,
     door: &mut D,
-    links: VecDeque<Held<D::Link>>,
+    links: VecDeque<ReadLink<D::Link>>,
     entries: &[Entry],
 )
     requires out { D.out door.old ≡ deque_len links }
@@ -132,5 +132,5 @@ pub fn answer_links<R: Threads + Sync, D: Door>(
     let all = links.make_contiguous();
     let flows = flows_of(all);
     answer_each(rt, all, entries, &spans, &flows);
-    give_back_held(door, links);
+    give_back_read(door, links);
 }

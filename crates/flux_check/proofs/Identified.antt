@@ -5,9 +5,8 @@ use Rattle.std.specs.declared.cmp.Ordering.{Ordering}
 use Rattle.std.specs.declared.cmp.Ordering.TheVariants.{Less, Equal}
 use Rattle.std.proofs.lemmas.Bool.Decides.{nat_tests}
 use Rattle.std.specs.Str.{bytes_eq}
-use Rattle.flux_values.specs.Identifiers.{IsIdentifier, is_word}
+use Rattle.flux_values.specs.Identifiers.{IsIdentifier}
 use Rattle.flux_lexer.specs.declared.kinds.TokenKind.TheVariants as tokens
-use Rattle.flux_lexer.specs.Kinds.{is_word as is_lexed}
 use Rattle.flux_model.specs.declared.programs.Class.{Class}
 use Rattle.flux_model.specs.declared.programs.Node.{Node}
 use Rattle.flux_model.specs.Modes.{class_cmp, AreCanonical}
@@ -40,15 +39,11 @@ unreserved false false false false false true g is = absurd cc
 unreserved false false false false false false true is = absurd cc
 unreserved false false false false false false false is = refl
 
-same_word : (text : List ℕ) → is_lexed text ≡ true → is_word text ≡ true
-same_word [] e = e
-same_word (b ∷ text) e = e
-
 -- a name as the text spells it is an identifier
 pub name_identified : (text : List ℕ) → IsName text → IsIdentifier text
 name_identified text name =
     let word = word_of_name text name.kind in
-    record { word = same_word text word.0; free = unreserved _ _ _ _ _ _ _ word.1 }
+    record { word = word.0; free = unreserved _ _ _ _ _ _ _ word.1 }
 
 -- ---- the names of declarations
 

@@ -5,7 +5,7 @@ use Rattle.std.proofs.lemmas.List.{append-nil}
 use Rattle.flux_library.specs.Documents.{DocMap}
 use Rattle.flux_library.specs.laws.Documents.{same_docs}
 use Rattle.flux_docs.proofs.Once.{one_docs, not_lost}
-use Rattle.flux_words.specs.Commands.{Command, check, plan, format, run, audit, load, serve, help, simulate, swarm}
+use Rattle.flux_cli.specs.Commands.{Command, check, plan, format, run, audit, load, serve, help, simulate, swarm}
 use Rattle.flux_commands.specs.declared.prepared.Prepared.{Prepared}
 use Rattle.flux_commands.specs.declared.prepared.Prepared.TheVariants.{Text, No}
 use Rattle.flux_commands.specs.declared.refusals.Refusal.{Refusal}
@@ -95,7 +95,7 @@ module _ (library : Libraries) (command : Command) (told : Told) where
   reads_program (check file) unread = absurd unread
   reads_program (plan file) unread = absurd unread
   reads_program (format file) unread = absurd unread
-  reads_program (run file items manner) unread = (file, refl)
+  reads_program (run file items options) unread = (file, refl)
   reads_program (audit file items journal docs) unread = (file, refl)
   reads_program (load count first runtime) unread = absurd unread
   reads_program (serve file serving) unread = (file, refl)

@@ -40,9 +40,9 @@ use Rattle.flux_audit.specs.declared.verdicts.Verdict.{Verdict}
 use Rattle.flux_audit.specs.declared.verdicts.Verdict.TheVariants as verdicts
 use Rattle.flux_audit.specs.Verdicts.{HasVerdict}
 use Rattle.flux_load.specs.Loads.{program_text, items_text}
-use Rattle.flux_words.specs.declared.values.Runtime.{Runtime}
-use Rattle.flux_words.specs.Behind.{Manner, Simulating}
-use Rattle.flux_words.specs.Commands.{Command, check, plan, format, run, audit, load, simulate, swarm}
+use Rattle.flux_cli.specs.declared.values.Runtime.{Runtime}
+use Rattle.flux_cli.specs.Behind.{RunOptions, Simulating}
+use Rattle.flux_cli.specs.Commands.{Command, check, plan, format, run, audit, load, simulate, swarm}
 use Rattle.flux_commands.specs.declared.files.TheConstants.{PROGRAM_FILE_LIMIT, ITEMS_FILE_LIMIT, JOURNAL_FILE_LIMIT}
 use Rattle.flux_commands.specs.declared.loaded.Loaded.{Loaded}
 use Rattle.flux_commands.specs.declared.prepared.Prepared.{Prepared}
@@ -220,8 +220,8 @@ module _ (meaning : LibraryMeaning) (told : Files) where
   named_missed : (file items name : List ℕ) → AreItemsMissed meaning told (named file) (named items) name → name ≡ items
   named_missed file items name missed = let e = missed.is in cc
 
-  pub run_unloaded : (file items : List ℕ) (manner : Manner) (refusal : Refusal) → IsUnloaded meaning told (named file) (named items) refusal → IsRefused meaning (run file items manner) told refusal
-  run_unloaded file items manner refusal u = unloaded (run file items manner) (named file) (named items) refl (λ text fault is. is) (λ line is. is)
+  pub run_unloaded : (file items : List ℕ) (options : RunOptions) (refusal : Refusal) → IsUnloaded meaning told (named file) (named items) refusal → IsRefused meaning (run file items options) told refusal
+  run_unloaded file items options refusal u = unloaded (run file items options) (named file) (named items) refl (λ text fault is. is) (λ line is. is)
       (λ name missed. let is = named_missed file items name missed in record { is = is; lost = subst (λ (n : List ℕ). IsLost told n ITEMS_FILE_LIMIT) is missed.lost; decls = missed.decls; program_ = missed.program_ }) refusal u
 
   pub audit_unloaded : (file items journal : List ℕ) (docs : Option (List ℕ)) (refusal : Refusal) → IsUnloaded meaning told (named file) (named items) refusal → IsRefused meaning (audit file items journal docs) told refusal
@@ -279,8 +279,8 @@ asks_second meaning told file items before mid after first second decls program_
   are = inr (refl, decls, program_);
 }
 
-pub run_asks : (meaning : LibraryMeaning) (told : Files) (file items : List ℕ) (manner : Manner) (before after : List (List ℕ)) → AsksTwo meaning told file items before after → AsksFiles meaning (run file items manner) told before after
-run_asks meaning told file items manner before after asks = record { names = asks.names; more = asks.more; are = asks.are }
+pub run_asks : (meaning : LibraryMeaning) (told : Files) (file items : List ℕ) (options : RunOptions) (before after : List (List ℕ)) → AsksTwo meaning told file items before after → AsksFiles meaning (run file items options) told before after
+run_asks meaning told file items options before after asks = record { names = asks.names; more = asks.more; are = asks.are }
 
 pub simulate_asks : (meaning : LibraryMeaning) (told : Files) (file items : List ℕ) (simulating : Simulating) (before after : List (List ℕ)) → AsksTwo meaning told file items before after → AsksFiles meaning (simulate file items simulating) told before after
 simulate_asks meaning told file items simulating before after asks = record { names = asks.names; more = asks.more; are = asks.are }

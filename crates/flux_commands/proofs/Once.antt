@@ -26,7 +26,7 @@ use Rattle.flux_audit.specs.declared.verdicts.Verdict.{Verdict}
 use Rattle.flux_audit.specs.declared.verdicts.Verdict.TheVariants as verdicts
 use Rattle.flux_audit.specs.Verdicts.{HasVerdict}
 use Rattle.flux_audit.proofs.Judging.{one_verdict}
-use Rattle.flux_words.specs.Commands.{Command, check, plan, format, run, audit, load, serve, help, simulate, swarm}
+use Rattle.flux_cli.specs.Commands.{Command, check, plan, format, run, audit, load, serve, help, simulate, swarm}
 use Rattle.flux_commands.specs.declared.files.TheConstants.{PROGRAM_FILE_LIMIT, ITEMS_FILE_LIMIT, JOURNAL_FILE_LIMIT}
 use Rattle.flux_commands.specs.declared.statuses.Status.{Status}
 use Rattle.flux_commands.specs.declared.statuses.Status.TheVariants as statuses
@@ -153,7 +153,7 @@ module _ (meaning : LibraryMeaning) (told : Files) where
   tells_program (check file) program tells reads = subst (TellsText told) (sym reads) tells
   tells_program (plan file) program tells reads = subst (TellsText told) (sym reads) tells
   tells_program (format file) program tells reads = subst (TellsText told) (sym reads) tells
-  tells_program (run file items manner) program tells reads = subst (TellsText told) (sym reads) tells
+  tells_program (run file items options) program tells reads = subst (TellsText told) (sym reads) tells
   tells_program (audit file items journal docs) program tells reads = subst (TellsText told) (sym reads) tells
   tells_program (load count first runtime) program tells reads = subst (TellsText told) (sym reads) tt
   tells_program (serve file serving) program tells reads = subst (TellsText told) (sym reads) tells
@@ -166,7 +166,7 @@ module _ (meaning : LibraryMeaning) (told : Files) where
   same_program (check file) a b x y = x ∙ sym y
   same_program (plan file) a b x y = x ∙ sym y
   same_program (format file) a b x y = x ∙ sym y
-  same_program (run file items manner) a b x y = x ∙ sym y
+  same_program (run file items options) a b x y = x ∙ sym y
   same_program (audit file items journal docs) a b x y = x ∙ sym y
   same_program (load count first runtime) a b x y = x ∙ sym y
   same_program (serve file serving) a b x y = x ∙ sym y
@@ -179,7 +179,7 @@ module _ (meaning : LibraryMeaning) (told : Files) where
   some_read (check file) name tells reads = tells
   some_read (plan file) name tells reads = tells
   some_read (format file) name tells reads = tells
-  some_read (run file items manner) name tells reads = tells
+  some_read (run file items options) name tells reads = tells
   some_read (audit file items journal docs) name tells reads = tells
   some_read (load count first runtime) name tells reads = absurd cc
   some_read (serve file serving) name tells reads = tells
@@ -219,7 +219,7 @@ module _ (meaning : LibraryMeaning) (told : Files) where
   printed_sound (check file) text p = inr (sound_of (check file) (named file) refl p.decls p.has (λ t f s. s))
   printed_sound (plan file) text p = inr (sound_of (plan file) (named file) refl p.decls p.has (λ t f s. s))
   printed_sound (format file) text (decls, h, is) = inr (format_sound file decls h)
-  printed_sound (run file items manner) text p = let g = p.given in let h = g.has in inr (sound_of (run file items manner) (named file) refl h.decls h.program_ (λ t f s. s))
+  printed_sound (run file items options) text p = let g = p.given in let h = g.has in inr (sound_of (run file items options) (named file) refl h.decls h.program_ (λ t f s. s))
   printed_sound (audit file items journal docs) text (events, a, is) = let g = a.given in let h = g.has in inr (sound_of (audit file items journal docs) (named file) refl h.decls h.program_ (λ t f s. s))
   printed_sound (load count first runtime) text p = let g = p.given in let h = g.has in inr (sound_of (load count first runtime) _ refl h.decls h.program_ (λ t f s. s))
   printed_sound (serve file serving) text p = let ready = p.1 in inr (sound_of (serve file serving) (named file) refl ready.decls ready.has (λ t f s. s))
@@ -233,7 +233,7 @@ module _ (meaning : LibraryMeaning) (told : Files) where
   refuted_sound other text r = absurd r
 
   items_sound : (command : Command) (line : List ℕ) → IsItems meaning command told line → IsSoundOf command
-  items_sound (run file items manner) line i = let h = i.has in sound_of (run file items manner) (named file) refl h.decls h.program_ (λ t f s. s)
+  items_sound (run file items options) line i = let h = i.has in sound_of (run file items options) (named file) refl h.decls h.program_ (λ t f s. s)
   items_sound (audit file items journal docs) line i = let h = i.has in sound_of (audit file items journal docs) (named file) refl h.decls h.program_ (λ t f s. s)
   items_sound (load count first runtime) line i = let h = i.has in sound_of (load count first runtime) _ refl h.decls h.program_ (λ t f s. s)
   items_sound (simulate file items simulating) line i = let h = i.has in sound_of (simulate file items simulating) (named file) refl h.decls h.program_ (λ t f s. s)
@@ -241,7 +241,7 @@ module _ (meaning : LibraryMeaning) (told : Files) where
   items_sound other line i = absurd i
 
   missed_sound : (command : Command) (name : List ℕ) → AreItemsLost meaning command told name ⊎ IsJournalLost meaning command told name → IsSoundOf command
-  missed_sound (run file items manner) name (inl l) = sound_of (run file items manner) (named file) refl l.decls l.program_ (λ t f s. s)
+  missed_sound (run file items options) name (inl l) = sound_of (run file items options) (named file) refl l.decls l.program_ (λ t f s. s)
   missed_sound (audit file items journal docs) name (inl l) = sound_of (audit file items journal docs) (named file) refl l.decls l.program_ (λ t f s. s)
   missed_sound (audit file items journal docs) name (inr l) = let g = l.given in let h = g.has in sound_of (audit file items journal docs) (named file) refl h.decls h.program_ (λ t f s. s)
   missed_sound (simulate file items simulating) name (inl l) = sound_of (simulate file items simulating) (named file) refl l.decls l.program_ (λ t f s. s)
@@ -291,7 +291,7 @@ module _ (meaning : LibraryMeaning) (told : Files) where
   ]
 
   printed_late : (command : Command) (text : List ℕ) (name : List ℕ) → TellsFiles told command → IsPrinted meaning command told text → AreItemsLost meaning command told name ⊎ IsJournalLost meaning command told name → ⊥
-  printed_late (run file items manner) text name tells p (inl l) = let g = p.given in let h = g.has in not_lost told items ITEMS_FILE_LIMIT h.text tells h.gives l.lost
+  printed_late (run file items options) text name tells p (inl l) = let g = p.given in let h = g.has in not_lost told items ITEMS_FILE_LIMIT h.text tells h.gives l.lost
   printed_late (audit file items journal docs) text name tells p (inl l) = let a = p.1 in let g = a.given in let h = g.has in not_lost told items ITEMS_FILE_LIMIT h.text tells h.gives l.lost
   printed_late (audit file items journal docs) text name tells p (inr l) = let a = p.1 in not_lost told journal JOURNAL_FILE_LIMIT a.text tells a.gives l.lost
   printed_late (simulate file items simulating) text name tells p (inl l) = let g = p.given in let h = g.has in not_lost told items ITEMS_FILE_LIMIT h.text tells h.gives l.lost
@@ -308,7 +308,7 @@ module _ (meaning : LibraryMeaning) (told : Files) where
   refuted_late other text name tells r late = absurd r
 
   items_late : (command : Command) (line : List ℕ) (name : List ℕ) → TellsFiles told command → ReadsItems meaning command told → IsItems meaning command told line → AreItemsLost meaning command told name ⊎ IsJournalLost meaning command told name → ⊥
-  items_late (run file items manner) line name tells read i (inl l) = let h = i.has in not_lost told items ITEMS_FILE_LIMIT h.text tells h.gives l.lost
+  items_late (run file items options) line name tells read i (inl l) = let h = i.has in not_lost told items ITEMS_FILE_LIMIT h.text tells h.gives l.lost
   items_late (audit file items journal docs) line name tells read i (inl l) = let h = i.has in not_lost told items ITEMS_FILE_LIMIT h.text tells h.gives l.lost
   items_late (audit file items journal docs) line name tells read i (inr l) = no_fault meaning told (named file) tells (named items) tells read line l.given i
   items_late (simulate file items simulating) line name tells read i (inl l) = let h = i.has in not_lost told items ITEMS_FILE_LIMIT h.text tells h.gives l.lost
@@ -318,7 +318,7 @@ module _ (meaning : LibraryMeaning) (told : Files) where
   items_late other line name tells read i (inr l) = absurd l
 
   printed_items : (command : Command) (text line : List ℕ) → TellsFiles told command → ReadsItems meaning command told → IsPrinted meaning command told text → IsItems meaning command told line → ⊥
-  printed_items (run file items manner) text line tells read p i = no_fault meaning told (named file) tells (named items) tells read line p.given i
+  printed_items (run file items options) text line tells read p i = no_fault meaning told (named file) tells (named items) tells read line p.given i
   printed_items (audit file items journal docs) text line tells read p i = let a = p.1 in no_fault meaning told (named file) tells (named items) tells read line a.given i
   printed_items (load count first runtime) text line tells read p i = no_fault meaning told _ tt _ tt read line p.given i
   printed_items (simulate file items simulating) text line tells read p i = no_fault meaning told (named file) tells (named items) tells read line p.given i

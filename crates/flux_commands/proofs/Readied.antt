@@ -11,10 +11,10 @@ use Rattle.flux_model.specs.declared.signatures.NodeSig.{NodeSig}
 use Rattle.flux_syntax.specs.ProgramOfText.{program_of}
 use Rattle.flux_hoist.specs.declared.checked.Checked.{Checked}
 use Rattle.flux_check.specs.Judgement.{IsChecked}
-use Rattle.flux_batches.specs.declared.framing.Framing.{Framing}
+use Rattle.flux_doors.specs.declared.framing.Framing.{Framing}
 use Rattle.flux_sources.specs.Sources.{IsServed, IsNotServed}
-use Rattle.flux_words.specs.Behind.{Serving}
-use Rattle.flux_words.specs.Commands.{Command, serve, Spells}
+use Rattle.flux_cli.specs.Behind.{Serving}
+use Rattle.flux_cli.specs.Commands.{Command, serve, Spells}
 use Rattle.flux_commands.specs.declared.files.TheConstants.{PROGRAM_FILE_LIMIT}
 use Rattle.flux_commands.specs.declared.prepared.Prepared.{Prepared}
 use Rattle.flux_commands.specs.declared.prepared.Prepared.TheVariants.{Text}

@@ -25,7 +25,7 @@ use Rattle.flux_laws.specs.Growth.{line_size, item_size}
 use Rattle.flux_laws.specs.Hoisted.{locks_of}
 use Rattle.flux_model.specs.declared.programs.SourceLine.{SourceLine}
 use Rattle.flux_model.specs.Sizes.{source_size}
-use Rattle.flux_words.specs.declared.values.Runtime.{Runtime}
+use Rattle.flux_cli.specs.declared.values.Runtime.{Runtime}
 use Rattle.nodes_all.specs.declared.all.All.{All}
 use Rattle.flux_commands.specs.BuiltIn.{meaning_in}
 use Rattle.flux_commands.specs.declared.running.Wanted.{Wanted}

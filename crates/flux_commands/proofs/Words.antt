@@ -1,7 +1,7 @@
 -- What words ask for, and what they come to.
 use Rattle.std.proofs.Common.{◌≡◌, ℕ, ◌⊎◌, inl, inr, List, [], Some, Result, Ok, Err, IfErr, Option, refl, sym, ap, subst}
 use Rattle.std.proofs.lemmas.List.{append-nil}
-use Rattle.flux_words.specs.Commands.{Command, Spells, SpellsNone}
+use Rattle.flux_cli.specs.Commands.{Command, Spells, SpellsNone}
 use Rattle.flux_commands.specs.declared.statuses.Status.{Status}
 use Rattle.flux_commands.specs.declared.statuses.Status.TheVariants as statuses
 use Rattle.flux_commands.specs.declared.prepared.Prepared.{Prepared}

@@ -2,7 +2,7 @@
 use Rattle.std.specs.Prelude.{◌≡◌, ℕ, ◌⊎◌, List, []}
 use Rattle.flux_values.specs.Meanings.{LibraryMeaning}
 use Rattle.flux_library.specs.Documents.{DocMap}
-use Rattle.flux_words.specs.Commands.{Command, Spells, SpellsNone}
+use Rattle.flux_cli.specs.Commands.{Command, Spells, SpellsNone}
 use Rattle.flux_commands.specs.declared.statuses.Status.{Status}
 use Rattle.flux_commands.specs.declared.statuses.Status.TheVariants as statuses
 use Rattle.flux_commands.specs.Told.{Told}

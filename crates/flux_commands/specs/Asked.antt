@@ -2,7 +2,7 @@
 use Rattle.std.specs.Prelude.{◌≡◌, ℕ, ◌⊎◌, List, [], ◌∷◌, ◌++◌, Option, IsSome, option_to_list, ⊤}
 use Rattle.flux_values.specs.Meanings.{LibraryMeaning}
 use Rattle.flux_syntax.specs.declared.declarations.Decl.{Decl}
-use Rattle.flux_words.specs.Commands.{Command, check, plan, format, run, audit, load, serve, help, simulate, swarm, Spells, SpellsNone}
+use Rattle.flux_cli.specs.Commands.{Command, check, plan, format, run, audit, load, serve, help, simulate, swarm, Spells, SpellsNone}
 use Rattle.flux_commands.specs.declared.statuses.Status.{Status}
 use Rattle.flux_commands.specs.declared.statuses.Status.TheVariants as statuses
 use Rattle.flux_commands.specs.Told.{Files, Told}
@@ -28,7 +28,7 @@ abbrev pub AreFiles : LibraryMeaning → Command → Files → List (List ℕ) �
 AreFiles meaning (check file) told names = names ≡ file ∷ []
 AreFiles meaning (plan file) told names = names ≡ file ∷ []
 AreFiles meaning (format file) told names = names ≡ file ∷ []
-AreFiles meaning (run file items manner) told names = AreTwoFiles meaning told file items names
+AreFiles meaning (run file items options) told names = AreTwoFiles meaning told file items names
 AreFiles meaning (audit file items journal docs) told names =
     AreThreeFiles meaning told file items journal names
 AreFiles meaning (load count first runtime) told names = names ≡ []

@@ -11,7 +11,7 @@ use Rattle.flux_items.specs.declared.rules.ItemFault.{ItemFault}
 use Rattle.flux_items.specs.declared.rules.ItemFault.TheVariants as items_
 use Rattle.flux_items.specs.Faults.{line_of, IsFaultOf}
 use Rattle.flux_load.specs.Loads.{program_text, items_text}
-use Rattle.flux_words.specs.Commands.{Command, check, plan, format, run, audit, load, serve, help, simulate, swarm}
+use Rattle.flux_cli.specs.Commands.{Command, check, plan, format, run, audit, load, serve, help, simulate, swarm}
 use Rattle.flux_commands.specs.declared.files.TheConstants.{PROGRAM_FILE_LIMIT, ITEMS_FILE_LIMIT, JOURNAL_FILE_LIMIT}
 use Rattle.flux_commands.specs.Told.{Files, IsLost}
 use Rattle.flux_commands.specs.Origins.{Origin, named, made, GivesText}
@@ -61,7 +61,7 @@ abbrev pub IsStaticOf : LibraryMeaning → Command → List ℕ → StaticFault 
 IsStaticOf meaning (check file) text fault = IsTextFault meaning text fault
 IsStaticOf meaning (plan file) text fault = IsTextFault meaning text fault
 IsStaticOf meaning (format file) text fault = IsFaulty fault.kind fault.at text × (fault.path ≡ [])
-IsStaticOf meaning (run file items manner) text fault = IsTextFault meaning text fault
+IsStaticOf meaning (run file items options) text fault = IsTextFault meaning text fault
 IsStaticOf meaning (audit file items journal docs) text fault = IsTextFault meaning text fault
 IsStaticOf meaning (load count first runtime) text fault = IsTextFault meaning text fault
 IsStaticOf meaning (serve file serving) text fault = IsTextFault meaning text fault
@@ -92,7 +92,7 @@ abbrev pub IsItems : LibraryMeaning → Command → Files → List ℕ → Type 
 IsItems meaning (check file) told line = ⊥
 IsItems meaning (plan file) told line = ⊥
 IsItems meaning (format file) told line = ⊥
-IsItems meaning (run file items manner) told line =
+IsItems meaning (run file items options) told line =
     IsItemsText meaning told (named file) (named items) line
 IsItems meaning (audit file items journal docs) told line =
     IsItemsText meaning told (named file) (named items) line
@@ -116,7 +116,7 @@ pub record IsItemsFileLost (meaning : LibraryMeaning) (told : Files) (file items
   pub program_ : HasProgram meaning told (named file) decls
 
 abbrev pub AreItemsLost : LibraryMeaning → Command → Files → List ℕ → Type 0
-AreItemsLost meaning (run file items manner) told name =
+AreItemsLost meaning (run file items options) told name =
     IsItemsFileLost meaning told file items name
 AreItemsLost meaning (audit file items journal docs) told name =
     IsItemsFileLost meaning told file items name
@@ -154,7 +154,7 @@ abbrev pub IsUnserved : LibraryMeaning → Command → Files → List ℕ → Ty
 IsUnserved meaning (check file) told line = ⊥
 IsUnserved meaning (plan file) told line = ⊥
 IsUnserved meaning (format file) told line = ⊥
-IsUnserved meaning (run file items manner) told line = ⊥
+IsUnserved meaning (run file items options) told line = ⊥
 IsUnserved meaning (audit file items journal docs) told line = ⊥
 IsUnserved meaning (load count first runtime) told line = ⊥
 IsUnserved meaning (serve file serving) told line = HasUnservable meaning told (named file) × (line ≡ not_served_line)

@@ -1,7 +1,7 @@
 -- What a command reads.
 use Rattle.std.specs.Prelude.{◌≡◌, ℕ, List, Option, None, IsSome, ⊤}
 use Rattle.flux_load.specs.Loads.{program_text}
-use Rattle.flux_words.specs.Commands.{Command, check, plan, format, run, audit, load, serve, help, simulate, swarm}
+use Rattle.flux_cli.specs.Commands.{Command, check, plan, format, run, audit, load, serve, help, simulate, swarm}
 use Rattle.flux_commands.specs.Told.{Files}
 use Rattle.flux_commands.specs.Origins.{Origin, named, made}
 
@@ -10,7 +10,7 @@ abbrev pub ReadsProgram : Command → Origin → Type 0
 ReadsProgram (check file) from = from ≡ named file
 ReadsProgram (plan file) from = from ≡ named file
 ReadsProgram (format file) from = from ≡ named file
-ReadsProgram (run file items manner) from = from ≡ named file
+ReadsProgram (run file items options) from = from ≡ named file
 ReadsProgram (audit file items journal docs) from = from ≡ named file
 ReadsProgram (load count first runtime) from = from ≡ made program_text
 ReadsProgram (serve file serving) from = from ≡ named file
@@ -23,7 +23,7 @@ abbrev pub folder_of : Command → Option (List ℕ)
 folder_of (check file) = None
 folder_of (plan file) = None
 folder_of (format file) = None
-folder_of (run file items manner) = manner.docs
+folder_of (run file items options) = options.docs
 folder_of (audit file items journal docs) = docs
 folder_of (load count first runtime) = None
 folder_of (serve file serving) = serving.docs
@@ -36,7 +36,7 @@ abbrev pub TellsFiles : Files → Command → Type 0
 TellsFiles told (check file) = IsSome told
 TellsFiles told (plan file) = IsSome told
 TellsFiles told (format file) = IsSome told
-TellsFiles told (run file items manner) = IsSome told
+TellsFiles told (run file items options) = IsSome told
 TellsFiles told (audit file items journal docs) = IsSome told
 TellsFiles told (load count first runtime) = ⊤
 TellsFiles told (serve file serving) = IsSome told

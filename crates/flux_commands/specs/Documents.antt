@@ -4,7 +4,7 @@ use Rattle.std.specs.FinMap.{empty}
 use Rattle.flux_values.specs.Meanings.{LibraryMeaning}
 use Rattle.flux_library.specs.Documents.{DocMap}
 use Rattle.flux_docs.specs.Folders.{GivesDocs, IsFolderLost}
-use Rattle.flux_words.specs.Commands.{Command}
+use Rattle.flux_cli.specs.Commands.{Command}
 use Rattle.flux_commands.specs.Told.{Folders, Told}
 use Rattle.flux_commands.specs.Commands.{folder_of, TellsFiles}
 

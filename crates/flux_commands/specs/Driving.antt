@@ -4,7 +4,7 @@ use Rattle.flux_values.specs.Meanings.{LibraryMeaning}
 use Rattle.flow_model.specs.declared.journals.Entry.{Entry}
 use Rattle.flow_model.specs.Legal.{IsLegal, IsWhole}
 use Rattle.flow_model.specs.Setup.{Setup}
-use Rattle.flux_words.specs.declared.values.Runtime.{Runtime}
+use Rattle.flux_cli.specs.declared.values.Runtime.{Runtime}
 use Rattle.flux_runs.specs.Orders.{IsOrderOf}
 use Rattle.nodes_all.specs.declared.all.All.{All}
 use Rattle.flow_core.specs.States.{CoreState, setup_in}

@@ -1,6 +1,6 @@
 -- What is due: what a command decides, where all that it reads is told.
 use Rattle.std.specs.Prelude.{◌≡◌, ℕ, ◌⊎◌, List}
-use Rattle.flux_words.specs.Commands.{Command, Spells}
+use Rattle.flux_cli.specs.Commands.{Command, Spells}
 use Rattle.flux_commands.specs.declared.statuses.Status.{Status}
 use Rattle.flux_commands.specs.declared.statuses.Status.TheVariants as statuses
 use Rattle.flux_commands.specs.Told.{Told}

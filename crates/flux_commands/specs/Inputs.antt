@@ -8,7 +8,7 @@ use Rattle.flux_syntax.specs.Declares.{Declares}
 use Rattle.flux_syntax.specs.ProgramOfText.{program_of}
 use Rattle.flux_check.specs.Judgement.{AreSound}
 use Rattle.flux_commands.specs.declared.files.TheConstants.{PROGRAM_FILE_LIMIT, ITEMS_FILE_LIMIT}
-use Rattle.flux_batches.specs.declared.framing.Framing.{Framing}
+use Rattle.flux_doors.specs.declared.framing.Framing.{Framing}
 use Rattle.flux_sources.specs.Sources.{IsServed, IsNotServed}
 use Rattle.flux_commands.specs.Told.{Files}
 use Rattle.flux_commands.specs.Origins.{Origin, GivesText}

@@ -1,6 +1,6 @@
 -- What was prepared: what a command prints, all of which is made before any of it is written.
 use Rattle.std.specs.Prelude.{ℕ, List, Result, Ok, Err}
-use Rattle.flux_words.specs.Commands.{Command, Spells}
+use Rattle.flux_cli.specs.Commands.{Command, Spells}
 use Rattle.flux_commands.specs.declared.refusals.Refusal.{Refusal}
 use Rattle.flux_commands.specs.declared.statuses.Status.{Status}
 use Rattle.flux_commands.specs.declared.statuses.Status.TheVariants as statuses

@@ -12,7 +12,7 @@ use Rattle.flux_load.specs.Loads.{program_text, items_text}
 use Rattle.flux_audit.specs.declared.verdicts.Rule.{Rule}
 use Rattle.flux_audit.specs.declared.verdicts.Verdict.TheVariants.{Yes, No}
 use Rattle.flux_audit.specs.Printed.{printed_verdict}
-use Rattle.flux_words.specs.Commands.{Command, check, plan, format, run, audit, load, serve, help, simulate, swarm}
+use Rattle.flux_cli.specs.Commands.{Command, check, plan, format, run, audit, load, serve, help, simulate, swarm}
 use Rattle.flux_runs.specs.declared.printing.Printing.TheVariants.{Journal, Summary}
 use Rattle.flux_commands.specs.Told.{Files}
 use Rattle.flux_commands.specs.Origins.{Origin, named, made}
@@ -51,8 +51,8 @@ IsPrinted meaning (check file) told text = IsReportText meaning told (named file
 IsPrinted meaning (plan file) told text = IsPlanText meaning told (named file) text
 IsPrinted meaning (format file) told text =
     (decls : List Decl) × HasDecls told (named file) decls × (text ≡ formatted decls)
-IsPrinted meaning (run file items manner) told text =
-    IsRunText meaning told (named file) (named items) manner.runtime (Journal manner.journal) text
+IsPrinted meaning (run file items options) told text =
+    IsRunText meaning told (named file) (named items) options.runtime (Journal options.journal) text
 IsPrinted meaning (audit file items journal docs) told text = (events : ℕ)
     × IsAudited meaning told (named file) (named items) journal (Yes events)
     × (text ≡ printed_verdict (Yes events))

@@ -6,9 +6,9 @@ use Rattle.flux_syntax.specs.ProgramOfText.{program_of}
 use Rattle.flux_model.specs.Kinds.{kinds_at}
 use Rattle.flux_model.specs.Soundness.{IsSound}
 use Rattle.flux_hoist.specs.declared.checked.Checked.{Checked}
-use Rattle.flux_batches.specs.declared.framing.Framing.{Framing}
+use Rattle.flux_doors.specs.declared.framing.Framing.{Framing}
 use Rattle.flux_sources.specs.Sources.{IsServed}
-use Rattle.flux_words.specs.Commands.{Command, serve}
+use Rattle.flux_cli.specs.Commands.{Command, serve}
 use Rattle.flux_commands.specs.declared.services.Service.{Service}
 use Rattle.flux_commands.specs.Told.{Files}
 use Rattle.flux_commands.specs.declared.prepared.Prepared.{Prepared}

@@ -7,8 +7,8 @@ use Rattle.flow_model.specs.Setup.{Setup}
 use Rattle.flux_outside.specs.declared.stores.File.TheVariants.{Found}
 use Rattle.flux_audit.specs.Verdicts.{IsTrueText}
 use Rattle.nodes_tracker.specs.declared.peers.Peer.{Peer}
-use Rattle.tracker_peers.specs.Peers.{ArePeersOf}
-use Rattle.tracker_peers.specs.Tracked.{HasTrackersNodes, IsTrackers, swarm_after}
+use Rattle.flux_swarms.specs.Peers.{ArePeersOf}
+use Rattle.flux_swarms.specs.Tracked.{HasTrackersNodes, IsTrackers, swarm_after}
 use Rattle.flux_swarms.specs.Printed.{printed_swarm}
 use Rattle.flux_commands.specs.declared.files.TheConstants.{JOURNAL_FILE_LIMIT}
 use Rattle.flux_commands.specs.Told.{Files, Gives}

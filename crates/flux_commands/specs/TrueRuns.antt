@@ -10,7 +10,7 @@ use Rattle.flow_model.specs.CellsAfter.{cells_after}
 use Rattle.flow_model.specs.Legal.{IsLegal, IsWhole}
 use Rattle.flux_syntax.specs.ProgramOfText.{program_of}
 use Rattle.flux_runs.specs.Orders.{IsOrderOf}
-use Rattle.flux_words.specs.declared.values.Runtime.{Runtime}
+use Rattle.flux_cli.specs.declared.values.Runtime.{Runtime}
 use Rattle.flux_runs.specs.declared.printing.Printing.{Printing}
 use Rattle.flux_runs.specs.Setups.{setup_of}
 use Rattle.flux_runs.specs.Printed.{printed_by}

@@ -1,8 +1,8 @@
 //! What the words ask for: the documents first, and then the command's files.
 
 ghost use Rattle.std.specs.Prelude.{◌≡◌, ◌≤◌, [], IfOk, IfErr, option_copied};
-ghost use Rattle.flux_words.specs.Commands.{Command, Spells, IsServe};
-ghost use Rattle.flux_words.specs.Asking.{asked};
+ghost use Rattle.flux_cli.specs.Commands.{Command, Spells, IsServe};
+ghost use Rattle.flux_cli.specs.Asking.{asked};
 ghost use Rattle.flux_commands.specs.BuiltIn.{built_in};
 ghost use Rattle.flux_commands.specs.Commands.{folder_of};
 ghost use Rattle.flux_commands.specs.Answers.{IsAnswer};
@@ -20,9 +20,9 @@ use crate::prepared::Prepared;
 use crate::refusals::Refusal;
 use crate::simulators::Simulator;
 use flow_core::Core;
+use flux_cli::{Asked, Runtime, read_words};
 use flux_outside::{Folder, Store};
 use flux_values::{Bytes, Memory};
-use flux_words::{Asked, Runtime, read_words};
 use nodes_all::All;
 use std::alloc::Global;
 

@@ -15,11 +15,10 @@ use flux_hoist::Checked;
 use flux_library::Library;
 use flux_model::{Item, Program};
 use flux_runs::set_up;
-use flux_swarms::print_swarm;
+use flux_swarms::{legal_calls_are_right, print_swarm};
 use flux_values::{List, Memory};
 use std::alloc::Global;
 use std::sync::Arc;
-use tracker_peers::legal_calls_are_right;
 
 /// The program that the items ran through, and the verdict on their journal.
 fn judge<L: Library>(

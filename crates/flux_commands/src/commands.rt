@@ -2,8 +2,9 @@
 
 ghost use Rattle.std.specs.Prelude.{◌≡◌, ◌≤◌, IfOk, IfErr, ℕ, List, Option};
 ghost use Rattle.std.specs.Arc.{arc_value};
-ghost use Rattle.flux_words.specs.Commands.{IsServe, check, plan, format, audit, load, swarm};
-ghost use Rattle.flux_words.specs.Asking.{asked};
+ghost use Rattle.flux_values.specs.Meanings.{LibraryMeaning};
+ghost use Rattle.flux_cli.specs.Commands.{IsServe, check, plan, format, audit, load, swarm};
+ghost use Rattle.flux_cli.specs.Asking.{asked};
 ghost use Rattle.flux_commands.specs.BuiltIn.{meaning_in};
 ghost use Rattle.flux_commands.specs.Told.{Files};
 ghost use Rattle.flux_commands.specs.Printed.{help_text};
@@ -21,6 +22,7 @@ use crate::running::{Wanted, run_items};
 use crate::simulators::Simulator;
 use crate::texts::read_text;
 use flow_core::Core;
+use flux_cli::{Asked, Costs, JournalFormat, Processors, Runtime};
 use flux_hoist::{print_plan, report};
 use flux_library::Library;
 use flux_load::make;
@@ -28,7 +30,6 @@ use flux_outside::Store;
 use flux_runs::Printing;
 use flux_syntax::format;
 use flux_values::{Bytes, Memory};
-use flux_words::{Asked, Costs, JournalFormat, Processors, Runtime};
 use nodes_all::All;
 use std::alloc::Global;
 use std::sync::Arc;
@@ -85,25 +86,23 @@ fn prepare_plan<'a, L: Library, S: Store>(
 }
 
 /// The text that `format` prints.
-fn prepare_format<'a, L: Library, S: Store>(
+fn prepare_format<'a, S: Store>(
     alloc: Global,
-    library: &L,
     store: &mut S,
     file: &'a [u8],
 ) -> Result<Prepared, Refusal<'a>>
     ensures kept { S.files store.new ≡ S.files store.old }
     ensures later { S.faults store.old ≤ S.faults store.new }
-    ensures asked { AsksFiles (L.meaning library.now) (format file.now) (S.files store.old)
-        (S.asked store.old) (S.asked store.new) }
-    ensures done { IfOk result (IsPrepared (L.meaning library.now) (format file.now)
+    ensures asked { (meaning : LibraryMeaning) → AsksFiles meaning (format file.now)
+        (S.files store.old) (S.asked store.old) (S.asked store.new) }
+    ensures done { (meaning : LibraryMeaning) → IfOk result (IsPrepared meaning (format file.now)
         (S.files store.old)) }
-    ensures refused { IfErr result (IsRefused (L.meaning library.now) (format file.now)
+    ensures refused { (meaning : LibraryMeaning) → IfErr result (IsRefused meaning (format file.now)
         (S.files store.old)) }
     ensures counts { Counts result (S.faults store.old) (S.faults store.new) }
-    ensures firm { IsFirm (L.meaning library.now) (format file.now) (S.files store.old)
+    ensures firm { (meaning : LibraryMeaning) → IsFirm meaning (format file.now) (S.files store.old)
         (prepared_status result) }
 {
-    let _ = library;
     let text = load(alloc, store, file, PROGRAM_FILE_LIMIT)?;
     let decls = read_text(alloc, text.as_bytes())?;
     Ok(Prepared::text(alloc, format(alloc, &decls)?))
@@ -297,7 +296,7 @@ pub fn prepare<'a, S: Store, D: Fn(Core<All>, Runtime) -> Result<Core<All>, Memo
     match wanted {
         Asked::Check { file } => prepare_check(alloc, &*library, store, file),
         Asked::Plan { file } => prepare_plan(alloc, &*library, store, file),
-        Asked::Format { file } => prepare_format(alloc, &*library, store, file),
+        Asked::Format { file } => prepare_format(alloc, store, file),
         Asked::Run {
             file,
             items,

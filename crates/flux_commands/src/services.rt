@@ -2,8 +2,8 @@
 
 ghost use Rattle.std.specs.Prelude.{◌≡◌, ◌≤◌, IfOk, IfErr, IfSome, IfNone, []};
 ghost use Rattle.std.specs.Arc.{arc_value};
-ghost use Rattle.flux_words.specs.Commands.{Command, Spells, IsServe};
-ghost use Rattle.flux_words.specs.Asking.{asked};
+ghost use Rattle.flux_cli.specs.Commands.{Command, Spells, IsServe};
+ghost use Rattle.flux_cli.specs.Asking.{asked};
 ghost use Rattle.flux_commands.specs.declared.refusals.Refusal.TheVariants as refusals;
 ghost use Rattle.flux_commands.specs.BuiltIn.{built_in};
 ghost use Rattle.flux_commands.specs.Commands.{folder_of};
@@ -22,13 +22,13 @@ ghost use Rattle.flux_commands.specs.Ready.{command_of, as_text, IsReady};
 use crate::documents::{load_docs, share};
 use crate::loaded::load_program;
 use crate::refusals::Refusal;
-use flux_batches::Framing;
+use flux_cli::{Asked, Replying, read_words};
+use flux_doors::Framing;
 use flux_hoist::Checked;
 use flux_library::Library;
 use flux_outside::{Folder, Store};
 use flux_sources::framing_of;
 use flux_values::Bytes;
-use flux_words::{Asked, Replying, read_words};
 use nodes_all::All;
 use std::alloc::Global;
 use std::sync::Arc;

@@ -7,11 +7,11 @@ ghost use Rattle.flux_runs.specs.Setups.{setup_of};
 ghost use Rattle.flux_runs.specs.Opening.{CanRun, AreSmall};
 ghost use Rattle.flux_runs.specs.Simulations.{IsSimulationText};
 
+use flux_cli::{Costs, Processors};
 use flux_hoist::Checked;
 use flux_library::Library;
 use flux_model::Item;
 use flux_values::{Bytes, List, Memory};
-use flux_words::{Costs, Processors};
 use std::alloc::Global;
 use std::sync::Arc;
 

@@ -1,2 +1,3 @@
 mod Pieces
 mod Batches
+pub mod Fronts

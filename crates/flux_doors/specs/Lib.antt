@@ -1,4 +1,5 @@
 pub mod Doors
 pub mod Arrivals
 pub mod Memory
+pub mod Texts
 pub mod steps

@@ -5,6 +5,7 @@ ghost use Rattle.std.specs.Option.{option_map};
 ghost use Rattle.flux_outside.specs.Causes.{HasCause};
 ghost use Rattle.flux_doors.specs.Doors.{opened_at, looked_at, first_link, left_behind, HasAcceptCause, out_after};
 
+use crate::framing::Framing;
 use crate::links::Link;
 use flux_outside::Failed;
 
@@ -33,6 +34,13 @@ pub trait Door {
     /// How often a later accept has failed.
     ghost late: { Self → ℕ };
 
+    /// Says how the text of each link ends. It is called before the door is opened.
+    fn expect(&mut self, framing: Framing)
+        ensures kept { (to_come self.new ≡ to_come self.old) × (taken_back self.new ≡ taken_back self.old) }
+        ensures stays { open_at self.new ≡ open_at self.old }
+        ensures out { out self.new ≡ out self.old }
+        ensures counts { (faults self.new ≡ faults self.old) × (late self.new ≡ late self.old) };
+
     /// Opens the door at a port.
     fn open(&mut self, port: u16) -> Result<(), Failed>
         ensures opened { open_at self.new ≡ opened_at port (open_at self.old) result }
@@ -42,7 +50,7 @@ pub trait Door {
         ensures cause { HasCause (faults self.old) (faults self.new) result };
 
     /// The next link. At the first accept of a batch None means that the door is closed; at a later one that no link
-    /// stands ready now.
+    /// is ready now.
     fn accept(&mut self, first: bool) -> Result<Option<Self::Link>, Failed>
         requires { out self.old < OUT_LIMIT }
         ensures given { IfSome (to_come self.old) (λ links. IfOk result (λ link. link ≡ first_link (looked_at first links))) }

@@ -1,153 +1,71 @@
-//! The socket that clients come in by, and those that wait behind it.
-
-ghost use Rattle.std.specs.Prelude.{◌≡◌, ◌≤◌, true, IfOk, IsSome};
-ghost use Rattle.std.specs.VecDeque.{deque_len};
+//! The socket that clients come in by.
 
 use crate::arrivals::{Arrival, arrival_of};
-use crate::real_links::RealLink;
-use std::alloc::Global;
-use std::collections::VecDeque;
-use std::net::{Ipv4Addr, Net, OpenListener, SocketAddr};
-use std::time::Clock;
+use std::net::{Ipv4Addr, Net, OpenListener, OpenStream, SocketAddr};
+use std::time::Duration;
 
-/// How many clients that went away are passed over in one accept.
-const TRIES: u32 = 1_000_000;
+/// So many milliseconds after the system had no descriptor or no memory for a client, it is asked again.
+const PAUSE_MILLIS: u64 = 20;
 
-/// So many clients at least that a batch has no room for wait here, where there is memory for them: the system's own queue
-/// holds 128, and makes others try again after a second.
-const READY_LIMIT: usize = 256;
-
-/// The socket of a port of this machine alone, 127.0.0.1.
+/// The socket of a port of this machine alone, 127.0.0.1. It never waits.
 #[derive(Drop)]
-struct Socket<R: Net + Clock + Copy> {
-    runtime: R,
-    listener: Option<R::Listener>,
-    /// Whether an accept waits for a client.
-    waits: bool,
-}
-
-/// A socket, and the links that were accepted at it, for this batch or a later one.
-#[derive(Drop)]
-pub struct Entrance<R: Net + Clock + Copy> {
-    socket: Socket<R>,
-    ready: VecDeque<RealLink<R>>,
+pub struct Entrance<R: Net> {
+    pub listener: R::Listener,
+    /// From when on a client may be there; None where there is none until the system tells of one.
+    pub next: Option<Duration>,
 }
 
 /// Why the system gave no answer.
 #[derive(Clone, Copy)]
 pub struct Refused;
 
-/// Room for the links that are ready; none where there is no memory.
-fn room<R: Net + Clock + Copy>(alloc: Global) -> VecDeque<RealLink<R>> {
-    match VecDeque::with_capacity(alloc, READY_LIMIT) {
-        Ok(room) => room,
-        Err(_) => VecDeque::new(alloc),
-    }
-}
-
-impl<R: Net + Clock + Copy> Socket<R> {
-    fn open(&mut self, port: u16) -> Result<(), Refused> {
+impl<R: Net> Entrance<R> {
+    pub fn open(net: &R, port: u16) -> Result<Entrance<R>, Refused> {
         let there = SocketAddr::from((Ipv4Addr::LOCALHOST, port));
-        match self.runtime.bind(there) {
-            Ok(listener) => {
-                self.listener = Some(listener);
-                self.waits = true;
-                Ok(())
-            }
+        let listener = net.bind(there).map_err(|_| Refused)?;
+        match listener.set_nonblocking(true) {
+            Ok(()) => Ok(Entrance {
+                listener,
+                next: Some(Duration::ZERO),
+            }),
             Err(_) => Err(Refused),
         }
     }
 
-    /// The listener, in whose accepts a client is waited for or not.
-    fn listener(&mut self, waits: bool) -> Result<&R::Listener, Refused> {
-        let Some(listener) = &self.listener else {
-            return Err(Refused);
-        };
-        if self.waits != waits {
-            if listener.set_nonblocking(!waits).is_err() {
-                return Err(Refused);
-            }
-            self.waits = waits;
+    /// Whether a client may be there.
+    pub fn may_have(&self, now: Duration) -> bool {
+        match self.next {
+            Some(next) => next <= now,
+            None => false,
         }
-        Ok(listener)
     }
 
-    /// The next client. A first accept waits for one; a later one doesn't.
-    fn next_link(&mut self, first: bool) -> Result<Option<RealLink<R>>, Refused>
-        ensures { first ≡ true → IfOk result IsSome }
-    {
-        let clock = self.runtime;
-        let listener = self.listener(first)?;
-        for _ in 0..TRIES {
-            match arrival_of(listener.accept()) {
-                Arrival::Link((stream, _)) => {
-                    return match RealLink::new(clock, stream) {
-                        Some(link) => Ok(Some(link)),
-                        None => Err(Refused),
-                    };
-                }
-                Arrival::Gone => {}
-                Arrival::NoneReady if !first => return Ok(None),
-                Arrival::NoneReady | Arrival::Failed => return Err(Refused),
-            }
+    /// Notes that the system told of a client.
+    pub fn note(&mut self) {
+        if self.next.is_none() {
+            self.next = Some(Duration::ZERO);
         }
-        Err(Refused)
     }
-}
 
-impl<R: Net + Clock + Copy> Entrance<R> {
-    /// One that isn't open yet.
-    pub fn new(alloc: Global, runtime: R) -> Entrance<R> {
-        Entrance {
-            socket: Socket {
-                runtime,
-                listener: None,
-                waits: true,
+    /// Lets the system be, which had no descriptor or no memory at this time.
+    pub fn pause(&mut self, now: Duration) {
+        self.next = Some(now.saturating_add(Duration::from_millis(PAUSE_MILLIS)));
+    }
+
+    /// What came.
+    pub fn accept(&mut self) -> Arrival<R::Stream> {
+        match arrival_of(self.listener.accept()) {
+            Arrival::Link((stream, _)) => match stream.set_nonblocking(true) {
+                Ok(()) => Arrival::Link(stream),
+                Err(_) => Arrival::Gone,
             },
-            ready: room(alloc),
-        }
-    }
-
-    pub fn open(&mut self, port: u16) -> Result<(), Refused> {
-        self.socket.open(port)
-    }
-
-    /// Takes in the clients that stand ready, as far as there is room.
-    fn take_in(&mut self) -> Result<(), Refused>
-        ensures { deque_len self.old.ready ≤ deque_len self.new.ready }
-    {
-        'clients: while self.ready.len() < self.ready.capacity() {
-            match self.socket.next_link(false)? {
-                Some(link) => self.ready.push_back_reserved(link),
-                None => return Ok(()),
+            Arrival::Gone => Arrival::Gone,
+            Arrival::NoneReady => {
+                self.next = None;
+                Arrival::NoneReady
             }
-        }
-        Ok(())
-    }
-
-    /// Whether a client stands ready. What fails here is told by the accept that follows.
-    pub fn has_ready(&mut self) -> bool {
-        let _ = self.take_in();
-        !self.ready.is_empty()
-    }
-
-    /// The next link of a batch: a client that was taken in. Only the first one is waited for.
-    pub fn next_ready(&mut self, first: bool) -> Result<Option<RealLink<R>>, Refused>
-        ensures { first ≡ true → IfOk result IsSome }
-    {
-        if first && self.ready.is_empty() {
-            return self.socket.next_link(true);
-        }
-        let mut taken = Ok(());
-        if self.ready.is_empty() {
-            taken = self.take_in();
-        }
-        match self.ready.pop_front() {
-            Some(link) => Ok(Some(link)),
-            None => {
-                taken?;
-                Ok(None)
-            }
+            Arrival::Short => Arrival::Short,
+            Arrival::Failed => Arrival::Failed,
         }
     }
 }

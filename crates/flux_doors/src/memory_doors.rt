@@ -5,6 +5,7 @@ ghost use Rattle.std.specs.VecDeque.{deque_len};
 ghost use Rattle.flux_doors.specs.steps.Queues.{queued_in, links_of};
 
 use crate::doors::{Door, OUT_LIMIT};
+use crate::framing::Framing;
 use crate::memory_links::MemoryLink;
 use flux_outside::{Calls, Failed, count_failure};
 use flux_values::{List, Memory};
@@ -141,6 +142,18 @@ impl Door for MemoryDoor {
     ghost faults = { λ door. door_faults door };
 
     ghost late = { λ door. door_late door };
+
+    /// All its texts are there already, so how they end is nothing to it.
+    fn expect(&mut self, framing: Framing)
+        ensures kept { (Some (door_links self.new) ≡ Some (door_links self.old)) × (Some (door_back self.new) ≡ Some (door_back self.old)) }
+        ensures stays { door_port self.new ≡ door_port self.old }
+        ensures out { door_out self.new ≡ door_out self.old }
+        ensures counts { (door_faults self.new ≡ door_faults self.old) × (door_late self.new ≡ door_late self.old) }
+        // No call is counted, and nothing else changes.
+        ensures same { self.new ≡ self.old }
+    {
+        let _ = framing;
+    }
 
     fn open(&mut self, port: u16) -> Result<(), Failed>
         ensures opened { door_port self.new ≡ opened_at port (door_port self.old) result }

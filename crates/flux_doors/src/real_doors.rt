@@ -1,27 +1,26 @@
-//! A door over a real socket: a thin adapter, which tells nothing of the links to come.
+//! A door over a real socket, which tells nothing of the links to come.
 
-ghost use Rattle.std.specs.Prelude.{◌≡◌, None};
+ghost use Rattle.std.specs.Prelude.{◌≡◌, None, true, IfOk, IsSome};
 
 use crate::doors::{Door, OUT_LIMIT};
-use crate::endings::Endings;
-use crate::entrances::{Entrance, Refused};
+use crate::entrances::Refused;
+use crate::event_loops::EventLoop;
+use crate::framing::Framing;
 use crate::real_links::RealLink;
 use flux_outside::{Failed, count_failure};
 use std::alloc::Global;
 use std::net::Net;
 use std::time::Clock;
 
-/// So many clients at most are left to end while others stand ready.
-const ENDING_LIMIT: usize = 64;
-
-/// A port of this machine alone, 127.0.0.1. The links of a batch are told at once that nothing more comes, each as it is taken
-/// back. Their clients' ends are waited for later: of the earliest while a batch stands ready, so that it doesn't wait for
-/// those of the batch before; of all where none does, and where the door is let go.
+/// A port of this machine alone, 127.0.0.1. It gives only links whose text is there, and no call waits for a client but a
+/// first accept, which waits for any. Where the door is let go, what was written to its links is sent.
 #[derive(Drop)]
 pub struct RealDoor<R: Net + Clock + Copy> {
-    entrance: Entrance<R>,
+    runtime: R,
+    alloc: Global,
+    framing: Framing,
+    event_loop: Option<EventLoop<R>>,
     port: Option<u16>,
-    endings: Endings<R>,
     out: usize,
     faults: u64,
     late: u64,
@@ -33,12 +32,30 @@ impl<R: Net + Clock + Copy> RealDoor<R> {
         ensures { (result.port ≡ None) × (result.out ≡ 0) × (result.faults ≡ 0) × (result.late ≡ 0) }
     {
         RealDoor {
-            entrance: Entrance::new(alloc, runtime),
+            runtime,
+            alloc,
+            framing: Framing::Head,
+            event_loop: None,
             port: None,
-            endings: Endings::new(alloc),
             out: 0,
             faults: 0,
             late: 0,
+        }
+    }
+
+    /// The next link. A first accept waits for one; a later one doesn't.
+    fn next_link(&mut self, first: bool) -> Result<Option<RealLink<R>>, Refused>
+        ensures some { first ≡ true → IfOk result IsSome }
+        ensures port { self.new.port ≡ self.old.port }
+        ensures counts { (self.new.out ≡ self.old.out) × (self.new.faults ≡ self.old.faults) × (self.new.late ≡ self.old.late) }
+    {
+        let Some(event_loop) = &mut self.event_loop else {
+            return Err(Refused);
+        };
+        if first {
+            Ok(Some(event_loop.first_link(self.out)?))
+        } else {
+            event_loop.later_link(self.out)
         }
     }
 }
@@ -64,9 +81,14 @@ where
 
     ghost late = { λ door. door.late };
 
+    fn expect(&mut self, framing: Framing) {
+        self.framing = framing;
+    }
+
     fn open(&mut self, port: u16) -> Result<(), Failed> {
-        match self.entrance.open(port) {
-            Ok(()) => {
+        match EventLoop::open(self.alloc, self.runtime, self.framing, port) {
+            Ok(event_loop) => {
+                self.event_loop = Some(event_loop);
                 self.port = Some(port);
                 Ok(())
             }
@@ -84,12 +106,7 @@ where
         // This door is never closed: a first accept that answers gives a link.
         ensures first { first ≡ true → IfOk result IsSome }
     {
-        if first {
-            let ready = self.entrance.has_ready();
-            self.endings
-                .close_all_but(if ready { ENDING_LIMIT } else { 0 });
-        }
-        match self.entrance.next_ready(first) {
+        match self.next_link(first) {
             Ok(Some(link)) => {
                 self.out += 1;
                 Ok(Some(link))
@@ -104,8 +121,8 @@ where
     }
 
     fn done(&mut self, link: RealLink<R>) {
-        if let Some(ending) = link.end() {
-            self.endings.add(ending);
+        if let Some(event_loop) = &mut self.event_loop {
+            event_loop.take_back(link);
         }
         self.out -= 1;
     }

@@ -1,98 +1,132 @@
-//! Links over real sockets: thin adapters, which tell nothing of what they hold.
+//! Links over real sockets: they tell nothing of what they hold.
 
-ghost use Rattle.std.specs.Prelude.{◌≡◌, ◌<◌, ◌≤◌, IfSome, length};
+ghost use Rattle.std.specs.Prelude.{◌≡◌, ◌≤◌, IfSome, length};
 
 use crate::endings::Ending;
+use crate::flushing::Flushing;
 use crate::links::Link;
-use flux_outside::{Failed, count_failure, read_on, write_on};
-use std::net::{Net, OpenStream};
-use std::time::{Clock, Duration};
+use crate::unsent::Unsent;
+use flux_outside::{Failed, count_failure, write_on};
+use std::io::ErrorKind;
+use std::net::Net;
+use std::time::Clock;
 
-/// So many seconds after a link was accepted, what it has to read has to be there.
-pub const READ_SECONDS: u64 = 10;
-
-/// So many seconds after the first write, a reply has to be taken.
-pub const REPLY_SECONDS: u64 = 30;
-
-/// What is there already is read behind that, too: a read waits so many milliseconds at least.
-const READ_MILLIS: u64 = 1;
-
-/// A client over a socket. What it has to send has to be there within `READ_SECONDS` of its accept, also where it is read
-/// later, and a reply has to be taken within `REPLY_SECONDS`: other reads and writes fail.
+/// A client over a socket, whose text is there. No read waits, and no write does: what the socket doesn't take is kept, and sent by
+/// the door. A write fails where its client is gone, or where the socket takes nothing and no more bytes may be kept.
 #[derive(Drop)]
 pub struct RealLink<R: Net + Clock + Copy> {
     stream: R::Stream,
     clock: R,
-    /// When it was accepted, and when its reply began.
-    accepted: Duration,
-    replied: Option<Duration>,
+    /// Its number at the door, and whether the door watches its socket.
+    number: u64,
+    is_watched: bool,
+    text: Vec<u8>,
+    /// So many bytes of the text were read.
+    given: usize,
+    /// Whether some of its reply was written, and what of it wasn't sent yet.
+    is_answered: bool,
+    unsent: Unsent,
     faults: u64,
 }
 
+/// What is left to do with a link that was given back.
+pub(crate) enum Left<R: Net> {
+    /// Nothing: it is closed.
+    Nothing,
+    /// Its reply has to be sent.
+    Reply(Flushing<R>),
+    /// Its client has to end.
+    End(Ending<R>),
+}
+
 impl<R: Net + Clock + Copy> RealLink<R> {
-    /// A link that is accepted now; None where there is no clock.
-    pub(crate) fn new(clock: R, stream: R::Stream) -> Option<RealLink<R>>
-        ensures { IfSome result (λ link. link.faults ≡ 0) }
+    /// A link of a number at its door, with its text.
+    pub(crate) fn new(
+        clock: R,
+        stream: R::Stream,
+        number: u64,
+        is_watched: bool,
+        text: Vec<u8>,
+        unsent: Unsent,
+    ) -> RealLink<R>
+        ensures { result.faults ≡ 0 }
     {
-        let accepted = clock.monotonic().ok()?;
-        Some(RealLink {
+        RealLink {
             stream,
             clock,
-            accepted,
-            replied: None,
+            number,
+            is_watched,
+            text,
+            given: 0,
+            is_answered: false,
+            unsent,
             faults: 0,
-        })
-    }
-
-    /// What is left of some seconds; None where they are over, or there is no clock.
-    fn time_left(&self, since: Duration, seconds: u64) -> Option<Duration> {
-        let spent = self.clock.monotonic().ok()?.saturating_sub(since);
-        let left = Duration::from_secs(seconds).saturating_sub(spent);
-        if left.is_zero() { None } else { Some(left) }
-    }
-
-    fn read_within(&mut self, limit: Duration, buffer: &mut [u8]) -> Option<usize>
-        ensures bound { IfSome result (λ count. count ≤ length buffer.new) }
-        ensures faults { self.new.faults ≡ self.old.faults }
-    {
-        self.stream.set_read_timeout(Some(limit)).ok()?;
-        read_on(&mut self.stream, buffer).ok()
-    }
-
-    /// How long a read may wait.
-    fn read_limit(&self) -> Duration {
-        let least = Duration::from_millis(READ_MILLIS);
-        match self.time_left(self.accepted, READ_SECONDS) {
-            Some(left) => left.max(least),
-            None => least,
         }
     }
 
-    fn write_in_time(&mut self, bytes: &[u8]) -> Option<usize>
+    pub(crate) fn number(&self) -> u64 {
+        self.number
+    }
+
+    pub(crate) fn is_watched(&self) -> bool {
+        self.is_watched
+    }
+
+    /// Sends a front of these bytes, where nothing is left to be sent before; None where the client is gone.
+    fn send_now(&mut self, bytes: &[u8]) -> Option<usize>
         ensures bound { IfSome result (λ count. count ≤ length bytes.now) }
         ensures faults { self.new.faults ≡ self.old.faults }
     {
-        let since = match self.replied {
-            Some(since) => since,
-            None => self.clock.monotonic().ok()?,
-        };
-        self.replied = Some(since);
-        let left = self.time_left(since, REPLY_SECONDS)?;
-        self.stream.set_write_timeout(Some(left)).ok()?;
-        write_on(&mut self.stream, bytes).ok()
+        if !self.unsent.is_empty() {
+            return Some(0);
+        }
+        match write_on(&mut self.stream, bytes) {
+            Ok(count) => Some(count),
+            Err(ErrorKind::WouldBlock) => Some(0),
+            Err(_) => None,
+        }
     }
 
-    /// Tells the client that nothing more comes. Where nothing was written there is nothing to take back, and the socket is
-    /// closed.
-    pub(crate) fn end(self) -> Option<Ending<R>> {
+    /// Sends what the socket takes of some bytes, and keeps the rest to be sent later. Returns how many bytes that was.
+    fn take(&mut self, bytes: &[u8]) -> Option<usize>
+        ensures bound { IfSome result (λ count. count ≤ length bytes.now) }
+        ensures faults { self.new.faults ≡ self.old.faults }
+    {
+        let sent = self.send_now(bytes)?;
+        if sent == bytes.len() || self.unsent.keep(&bytes[sent..]) {
+            Some(bytes.len())
+        } else {
+            Some(sent)
+        }
+    }
+
+    /// What is left to do with it. Where nothing was written, or a write failed, it is closed.
+    pub(crate) fn leave(self) -> Left<R> {
         let RealLink {
             stream,
             clock,
-            replied,
+            is_answered,
+            unsent,
+            faults,
             ..
         } = self;
-        replied?;
-        Ending::new(clock, stream)
+        let Ok(now) = clock.monotonic() else {
+            return Left::Nothing;
+        };
+        if !is_answered || faults > 0 {
+            return Left::Nothing;
+        }
+        if !unsent.is_empty() {
+            return Left::Reply(Flushing {
+                stream,
+                unsent,
+                took: now,
+            });
+        }
+        match Ending::new(stream, now) {
+            Some(ending) => Left::End(ending),
+            None => Left::Nothing,
+        }
     }
 }
 
@@ -108,15 +142,21 @@ impl<R: Net + Clock + Copy> Link for RealLink<R> {
     ghost faults = { λ link. link.faults };
 
     fn read(&mut self, buffer: &mut [u8]) -> Result<usize, Failed> {
-        match self.read_within(self.read_limit(), buffer) {
-            Some(count) => Ok(count),
-            None => Err(count_failure(&mut self.faults)),
-        }
+        let Some(rest) = self.text.as_slice().get(self.given..) else {
+            return Ok(0);
+        };
+        let count = rest.len().min(buffer.len());
+        buffer[..count].copy_from_slice(&rest[..count]);
+        self.given = self.given.saturating_add(count);
+        Ok(count)
     }
 
     fn write(&mut self, bytes: &[u8]) -> Result<usize, Failed> {
-        match self.write_in_time(bytes) {
-            Some(taken) if taken > 0 || bytes.is_empty() => Ok(taken),
+        match self.take(bytes) {
+            Some(taken) if taken > 0 || bytes.is_empty() => {
+                self.is_answered = true;
+                Ok(taken)
+            }
             _ => Err(count_failure(&mut self.faults)),
         }
     }

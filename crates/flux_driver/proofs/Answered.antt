@@ -1,6 +1,6 @@
 -- What is printed and said is the answer, and it is the one that is due.
 use Rattle.std.proofs.Common.{◌≡◌, ◌≤◌, ℕ, ◌⊎◌, inl, inr, List, [], Option, refl, sym, subst, ◌∙◌, arith}
-use Rattle.flux_words.specs.Commands.{Command, Spells, SpellsNone}
+use Rattle.flux_cli.specs.Commands.{Command, Spells, SpellsNone}
 use Rattle.flux_commands.specs.declared.statuses.Status.{Status}
 use Rattle.flux_commands.specs.declared.statuses.Status.TheVariants as statuses
 use Rattle.flux_commands.specs.declared.prepared.Prepared.{Prepared}

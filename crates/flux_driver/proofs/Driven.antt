@@ -3,15 +3,15 @@ use Rattle.std.proofs.Common.{◌≡◌, List, [], refl}
 use Rattle.flux_values.specs.Meanings.{LibraryMeaning}
 use Rattle.flow_model.specs.declared.journals.Entry.{Entry}
 use Rattle.flow_model.specs.Setup.{Setup}
-use Rattle.flux_words.specs.declared.values.Runtime.{Runtime}
-use Rattle.flux_words.specs.declared.values.Runtime.TheVariants as words
+use Rattle.flux_cli.specs.declared.values.Runtime.{Runtime}
+use Rattle.flux_cli.specs.declared.values.Runtime.TheVariants as words
 use Rattle.flux_runs.specs.Orders.{IsOrderOf}
 use Rattle.flow_core.specs.States.{CoreState, setup_in}
 use Rattle.flow_core.specs.Runs.{GoesToEnd}
-use Rattle.rt_all.specs.Orders.{chosen_by, IsOrder}
+use Rattle.rt_all.specs.Orders.{runtime_by, IsOrder}
 use Rattle.flux_commands.specs.Driving.{DrivesTo}
 
-order_of : (runtime : Runtime) (setup : Setup) (old new : List Entry) → IsOrder (chosen_by runtime) setup old new
+order_of : (runtime : Runtime) (setup : Setup) (old new : List Entry) → IsOrder (runtime_by runtime) setup old new
     → IsOrderOf runtime setup old new
 order_of words.Event setup old new order = order refl
 order_of (words.EventWithHelpers helpers) setup old new order = tt
@@ -24,7 +24,7 @@ module _ {L : Type 0} (meaning : L → LibraryMeaning) (runtime : Runtime) (old 
   own = setup_in meaning old
 
   pub driven_to : old.entries ≡ [] → GoesToEnd meaning old new
-      → IsOrder (chosen_by runtime) own old.entries new.entries → DrivesTo meaning runtime old new
+      → IsOrder (runtime_by runtime) own old.entries new.entries → DrivesTo meaning runtime old new
   driven_to empty goes order = let on = goes.legally.on in let same = on.setup_ in record {
     setup_ = same;
     driven = record {

@@ -10,8 +10,8 @@ use Rattle.flux_serve.specs.Ends.{Sight, as_seen}
 use Rattle.flux_serve.specs.AtOnce.{HasServedAtOnce}
 use Rattle.flux_serve.proofs.AsSeen.{served_as_seen}
 use Rattle.flux_serve.proofs.AtOnceSeen.{at_once_seen}
-use Rattle.flux_words.specs.declared.replies.Replying.{Replying}
-use Rattle.flux_words.specs.declared.replies.Replying.TheVariants.{AtEnd, AtOnce}
+use Rattle.flux_cli.specs.declared.replies.Replying.{Replying}
+use Rattle.flux_cli.specs.declared.replies.Replying.TheVariants.{AtEnd, AtOnce}
 use Rattle.flux_driver.specs.Serving.{IsOpened, HasServedBy}
 use Rattle.flux_driver.proofs.Serves.{unplanned, unopened}
 

@@ -7,14 +7,14 @@ use Rattle.flux_outside.specs.Streams.{WroteOrBroke}
 use Rattle.flux_syntax.specs.ProgramOfText.{program_of}
 use Rattle.flux_model.specs.declared.programs.Program.{Program}
 use Rattle.flux_hoist.specs.declared.checked.Checked.{Checked}
-use Rattle.flux_batches.specs.declared.framing.Framing.{Framing}
+use Rattle.flux_doors.specs.declared.framing.Framing.{Framing}
 use Rattle.flux_serve.specs.declared.batches.ServeEnd.{ServeEnd}
 use Rattle.flux_serve.specs.declared.batches.ServeEnd.TheVariants.{Closed, Counted, Door, Log, Memory}
 use Rattle.flux_serve.specs.Batches.{Service}
 use Rattle.flux_serve.specs.AtOnce.{HasServedAtOnce}
 use Rattle.flux_serve.proofs.AtOnceSeen.{at_once_door_rose, at_once_door_same, at_once_log_rose, at_once_log_same}
-use Rattle.flux_words.specs.Behind.{Serving}
-use Rattle.flux_words.specs.Commands.{serve, Spells}
+use Rattle.flux_cli.specs.Behind.{Serving}
+use Rattle.flux_cli.specs.Commands.{serve, Spells}
 use Rattle.flux_commands.specs.declared.statuses.Status.{Status}
 use Rattle.flux_commands.specs.declared.statuses.Status.TheVariants as statuses
 use Rattle.flux_commands.specs.declared.services.Service as services

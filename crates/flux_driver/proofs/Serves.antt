@@ -4,15 +4,15 @@ use Rattle.flux_values.specs.Meanings.{LibraryMeaning}
 use Rattle.flux_outside.specs.Causes.{Rose}
 use Rattle.flux_outside.specs.Streams.{Stream}
 use Rattle.flux_model.specs.declared.programs.Program.{Program}
-use Rattle.flux_batches.specs.declared.framing.Framing.{Framing}
+use Rattle.flux_doors.specs.declared.framing.Framing.{Framing}
 use Rattle.flux_batches.specs.Links.{Seen}
 use Rattle.flux_batches.proofs.Giving.{back_none}
 use Rattle.flux_serve.specs.declared.batches.ServeEnd.TheVariants.{Door, Memory}
 use Rattle.flux_serve.specs.Batches.{Service}
 use Rattle.flux_serve.specs.Ends.{Sight, HasServed}
-use Rattle.flux_words.specs.Behind.{Serving}
-use Rattle.flux_words.specs.Values.{IsBatches}
-use Rattle.flux_words.specs.Commands.{serve, Spells}
+use Rattle.flux_cli.specs.Behind.{Serving}
+use Rattle.flux_cli.specs.Values.{IsBatches}
+use Rattle.flux_cli.specs.Commands.{serve, Spells}
 
 -- ---- how many batches
 

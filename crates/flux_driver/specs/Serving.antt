@@ -9,10 +9,10 @@ use Rattle.flux_serve.specs.Batches.{Service}
 use Rattle.flux_serve.specs.Ends.{Sight, HasServed}
 use Rattle.flux_serve.specs.AtOnce.{HasServedAtOnce}
 use Rattle.flux_batches.specs.Links as links
-use Rattle.flux_words.specs.declared.replies.Replying.{Replying}
-use Rattle.flux_words.specs.declared.replies.Replying.TheVariants.{AtEnd, AtOnce}
-use Rattle.flux_words.specs.Behind.{Serving}
-use Rattle.flux_words.specs.Commands.{serve, Spells}
+use Rattle.flux_cli.specs.declared.replies.Replying.{Replying}
+use Rattle.flux_cli.specs.declared.replies.Replying.TheVariants.{AtEnd, AtOnce}
+use Rattle.flux_cli.specs.Behind.{Serving}
+use Rattle.flux_cli.specs.Commands.{serve, Spells}
 use Rattle.flux_commands.specs.declared.statuses.Status.{Status}
 use Rattle.flux_commands.specs.declared.statuses.Status.TheVariants as statuses
 use Rattle.flux_driver.specs.Seen.{Link, Seen}

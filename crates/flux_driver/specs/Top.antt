@@ -1,7 +1,7 @@
 -- What a call of the program has done, by what is seen of the world before and after.
 use Rattle.std.specs.Prelude.{◌≡◌, ◌≢◌, ◌≤◌, ℕ, ◌⊎◌, List, ⊤}
 use Rattle.flux_outside.specs.Causes.{Rose}
-use Rattle.flux_words.specs.Commands.{Command, serve, Spells, SpellsNone}
+use Rattle.flux_cli.specs.Commands.{Command, serve, Spells, SpellsNone}
 use Rattle.flux_commands.specs.declared.statuses.Status.{Status}
 use Rattle.flux_commands.specs.declared.statuses.Status.TheVariants as statuses
 use Rattle.flux_outside.specs.Streams.{Wrote, Broke, WroteOrBroke}
@@ -11,7 +11,7 @@ use Rattle.flux_commands.specs.Documents.{TellsAll}
 use Rattle.flux_commands.specs.Asked.{HasAsked}
 use Rattle.flux_commands.specs.Answers.{Libraries, Decided, IsAnswer, OrMemory}
 use Rattle.flux_driver.specs.Serving.{HasServedWords}
-use Rattle.flux_words.specs.Behind.{Serving}
+use Rattle.flux_cli.specs.Behind.{Serving}
 
 -- ---- what was printed and said
 

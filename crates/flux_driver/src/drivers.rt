@@ -9,13 +9,13 @@ ghost use Rattle.flux_runs.specs.Simulations.{IsSimulationText};
 ghost use Rattle.flux_commands.specs.Driving.{DrivesTo};
 
 use flow_core::{Core, Gate};
+use flux_cli::{Costs, Processors, Runtime};
 use flux_commands::Simulator;
 use flux_hoist::Checked;
 use flux_library::Library;
 use flux_model::Item;
 use flux_values::{Bytes, List, Memory};
-use flux_words::{Costs, Processors, Runtime};
-use rt_all::Chosen;
+use rt_all::AnyRuntime;
 use simulated_items::simulate_items;
 use std::alloc::Global;
 use std::marker::{Send, Sync};
@@ -31,7 +31,7 @@ pub fn drive_alone<L: Library, G: Gate>(
     requires { core.entries ≡ [] }
     ensures { IfOk result (DrivesTo L.meaning runtime core) }
 {
-    match Chosen::by(runtime).drive_alone(core, gate) {
+    match AnyRuntime::by(runtime).drive_alone(core, gate) {
         Ok(core) => Ok(core),
         Err(_) => Err(Memory),
     }
@@ -47,7 +47,7 @@ pub fn drive_by_threads<L: Library + Send + Sync, G: Gate + Sync, Rt: Threads + 
     requires { core.entries ≡ [] }
     ensures { IfOk result (DrivesTo L.meaning runtime core) }
 {
-    match Chosen::by(runtime).drive_by_threads(rt, core, gate) {
+    match AnyRuntime::by(runtime).drive_by_threads(rt, core, gate) {
         Ok(core) => Ok(core),
         Err(_) => Err(Memory),
     }

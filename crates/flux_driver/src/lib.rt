@@ -13,6 +13,6 @@ mod serving;
 mod telling;
 
 pub use flow_core::{Gate, OpenGate};
+pub use flux_cli::needs_threads;
 pub use flux_commands::Status;
-pub use flux_words::needs_threads;
 pub use outermost::{World, answer, top, top_alone};

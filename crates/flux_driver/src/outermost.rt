@@ -1,7 +1,7 @@
 //! All that the program does, as one call.
 
 ghost use Rattle.std.specs.Prelude.{◌≡◌, [], IfOk, IsErr};
-ghost use Rattle.flux_words.specs.Commands.{Command, Spells, IsServe, NeedsThreads};
+ghost use Rattle.flux_cli.specs.Commands.{Command, Spells, IsServe, NeedsThreads};
 ghost use Rattle.flux_commands.specs.BuiltIn.{built_in, meaning_in};
 ghost use Rattle.flux_driver.specs.Seen.{seen_by, door_by, link_by};
 ghost use Rattle.flux_driver.specs.Top.{HasDone};
@@ -11,11 +11,11 @@ use crate::drivers::{TickByTick, drive_alone, drive_by_threads};
 use crate::serving::serve_ready;
 use crate::telling::{print, refuse, tell_end};
 use flow_core::{Core, Gate};
+use flux_cli::{Runtime, needs_threads, spells_serve};
 use flux_commands::{Status, prepare_words, ready_words};
 use flux_doors::{Door, Link};
 use flux_outside::{Folder, Sink, Store};
 use flux_values::{Bytes, List, Memory};
-use flux_words::{Runtime, needs_threads, spells_serve};
 use nodes_all::All;
 use std::alloc::Global;
 use std::marker::Sync;

@@ -1,30 +1,33 @@
 //! Serving a checked program: its plans, its door, and batch after batch.
 
-ghost use Rattle.std.specs.Prelude.{◌≡◌, ◌<◌, ◌≤◌, IfOk};
+ghost use Rattle.std.specs.Prelude.{◌≡◌, ◌<◌, ◌≤◌, length, IfOk};
+ghost use Rattle.std.specs.List.{AllByRecursion};
 ghost use Rattle.std.specs.Arc.{arc_value};
 ghost use Rattle.flux_model.specs.Kinds.{kinds_at};
 ghost use Rattle.flux_model.specs.Soundness.{IsSound};
-ghost use Rattle.flux_batches.specs.Links.{seen_by};
+ghost use Rattle.flux_batches.specs.Links.{seen_by, IsLinkItem};
 ghost use Rattle.flux_serve.specs.Served.{CanServe};
 ghost use Rattle.flux_sources.specs.Sources.{IsServed};
 ghost use Rattle.flux_serve.specs.Batches as batches;
+ghost use Rattle.flux_serve.specs.Runs.{IsRun};
 ghost use Rattle.flux_driver.specs.Serving.{IsOpened, HasServedBy};
 ghost use Rattle.flux_driver.specs.steps.Sights.{sight_by};
 
 use flow_core::Gate;
-use flux_batches::Framing;
+use flow_model::Journal;
+use flux_cells::Cells;
+use flux_cli::Replying;
 use flux_commands::{Ready, Service};
 use flux_compile::compile;
-use flux_doors::Door;
+use flux_doors::{Door, Framing};
 use flux_hoist::Checked;
 use flux_library::Library;
-use flux_model::Program;
+use flux_model::{Item, Program};
 use flux_outside::Sink;
 use flux_plan::VerifiedPlan;
-use flux_serve::{ServeEnd, Served, serve, serve_at_once};
+use flux_serve::{ServeEnd, Served, open, serve_at_once, serve_by};
 use flux_values::{List, Memory};
-use flux_words::Replying;
-use rt_all::Chosen;
+use rt_all::AnyRuntime;
 use std::alloc::Global;
 use std::marker::{Send, Sync};
 use std::sync::{Arc, Wait};
@@ -72,6 +75,30 @@ fn plan_all<L: Library>(
     assemble(alloc, library, checked.program, plans, framing)
 }
 
+/// Runs the items of a batch from the cells that the one before left, by threads where the runtime starts some.
+fn run_by_threads<L: Library + Send + Sync, G: Gate + Sync, Rt: Threads + Wait + Sync>(
+    rt: &Rt,
+    alloc: Global,
+    served: &Served<L>,
+    runtime: &mut AnyRuntime,
+    gate: &G,
+    items: List<Item>,
+    opening: Cells,
+) -> Result<(Journal, Cells), Memory>
+    requires can { CanServe (L.meaning (arc_value served.now.library)) (arc_value served.now.program)
+        (arc_value served.now.plans) served.now.framing }
+    requires items { AllByRecursion IsLinkItem items }
+    requires few { length items ≤ 4096 }
+    ensures { let own : batches.Service = (record { program = arc_value served.now.program; framing = served.now.framing; meaning = L.meaning (arc_value served.now.library) }) in
+        IfOk result (IsRun own opening items) }
+{
+    let core = open(alloc, served, items, opening)?;
+    match runtime.drive_by_threads(rt, core, gate) {
+        Ok(core) => Ok(core.into_parts()),
+        Err(_) => Err(Memory),
+    }
+}
+
 /// Serves so many batches, one after another, with replies when they are wanted.
 fn serve_batches<
     L: Library + Send + Sync,
@@ -107,8 +134,24 @@ fn serve_batches<
 {
     match replying {
         Replying::AtEnd(runtime) => {
-            let mut runtime = Chosen::by(runtime);
-            serve(rt, alloc, served, door, log, &mut runtime, gate, wanted)
+            let mut runtime = AnyRuntime::by(runtime);
+            serve_by(
+                rt,
+                alloc,
+                served,
+                door,
+                log,
+                &mut runtime,
+                &|runtime: &mut AnyRuntime, items: List<Item>, opening: Cells|
+                    requires can { CanServe (L.meaning (arc_value served.now.library)) (arc_value served.now.program)
+                        (arc_value served.now.plans) served.now.framing }
+                    requires items { AllByRecursion IsLinkItem items }
+                    requires few { length items ≤ 4096 }
+                    ensures { let own : batches.Service = (record { program = arc_value served.entry.now.program; framing = served.entry.now.framing; meaning = L.meaning (arc_value served.entry.now.library) }) in
+                        IfOk result (IsRun own opening items) }
+                { run_by_threads(rt, alloc, served, runtime, gate, items, opening) },
+                wanted,
+            )
         }
         Replying::AtOnce(workers) => serve_at_once(
             rt,
@@ -170,6 +213,7 @@ pub fn serve_ready<
         Ok(served) => served,
         Err(_) => return ServeEnd::Memory,
     };
+    door.expect(framing);
     match door.open(service.port) {
         Ok(()) => {}
         Err(_) => return ServeEnd::Door,

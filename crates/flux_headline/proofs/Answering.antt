@@ -4,9 +4,9 @@ use Rattle.flux_values.specs.Meanings.{LibraryMeaning}
 use Rattle.flux_library.specs.Documents.{DocMap}
 use Rattle.flux_outside.specs.Causes.{Rose}
 use Rattle.flux_outside.specs.Streams.{Stream, Gains, Wrote, Broke, WroteOrBroke}
-use Rattle.flux_words.specs.Behind.{Serving}
-use Rattle.flux_words.specs.Commands.{Command, serve, Spells}
-use Rattle.flux_words.proofs.OneCommand.{one_command}
+use Rattle.flux_cli.specs.Behind.{Serving}
+use Rattle.flux_cli.specs.Commands.{Command, serve, Spells}
+use Rattle.flux_cli.proofs.OneCommand.{one_command}
 use Rattle.flux_commands.specs.declared.statuses.Status.{Status}
 use Rattle.flux_commands.specs.declared.statuses.Status.TheVariants as statuses
 use Rattle.flux_commands.specs.Told.{Told}

@@ -1,7 +1,7 @@
 -- Why each status comes, from what a call of the program has done.
 use Rattle.std.proofs.Common.{◌≡◌, ◌⊎◌, inl, inr, ℕ, List, refl}
-use Rattle.flux_words.specs.Commands.{Command, Spells, SpellsNone, IsServe}
-use Rattle.flux_words.specs.Commands.{check, plan, format, run, audit, load, serve, help, simulate, swarm}
+use Rattle.flux_cli.specs.Commands.{Command, Spells, SpellsNone, IsServe}
+use Rattle.flux_cli.specs.Commands.{check, plan, format, run, audit, load, serve, help, simulate, swarm}
 use Rattle.flux_commands.specs.declared.statuses.Status.{Status}
 use Rattle.flux_commands.specs.declared.statuses.Status.TheVariants as statuses
 use Rattle.flux_driver.specs.Seen.{Seen}
@@ -20,7 +20,7 @@ no_serve : (words : List (List ℕ)) (command : Command) → Spells words comman
 no_serve words (check file) spelled none is = is
 no_serve words (plan file) spelled none is = is
 no_serve words (format file) spelled none is = is
-no_serve words (run file items manner) spelled none is = is
+no_serve words (run file items options) spelled none is = is
 no_serve words (audit file items journal docs) spelled none is = is
 no_serve words (load count first runtime) spelled none is = is
 no_serve words (serve file serving) spelled none is = none file serving spelled

@@ -1,8 +1,8 @@
 -- What `run` has done, and why it answers 0, from what a call of the program has done.
 use Rattle.std.proofs.Common.{◌≡◌, ◌⊎◌, inl, inr, ℕ, List, subst}
 use Rattle.flux_values.specs.Meanings.{LibraryMeaning}
-use Rattle.flux_words.specs.Behind.{Manner}
-use Rattle.flux_words.specs.Commands.{run}
+use Rattle.flux_cli.specs.Behind.{RunOptions}
+use Rattle.flux_cli.specs.Commands.{run}
 use Rattle.flux_outside.specs.Streams.{Gains, WroteOrBroke}
 use Rattle.flux_commands.specs.declared.files.TheConstants.{PROGRAM_FILE_LIMIT, ITEMS_FILE_LIMIT}
 use Rattle.flux_commands.specs.declared.statuses.Status.{Status}
@@ -18,9 +18,9 @@ use Rattle.flux_commands.proofs.Once.{not_lost, gives_here, not_faulty, fault_he
 use Rattle.flux_headline.proofs.Answering.{silent, gained, answered_of, of_done, done_or_no, not_read, not_write, answered_by}
 use Rattle.flux_headline.specs.Headline.{IsThere, HasRun, AreFaultless, RunsAreTrue, NoneRose, RunsAreAnswered}
 
-has_run : (library : Libraries) (before after : Seen) (file items : List ℕ) (manner : Manner) (text line : List ℕ) → Decided library (run file items manner) before.told statuses.Done text line
-    → Gains before.out after.out text → WroteOrBroke before.err after.err line → HasRun library before after file items manner
-has_run library before after file items manner text line (prints, none) out err =
+has_run : (library : Libraries) (before after : Seen) (file items : List ℕ) (options : RunOptions) (text line : List ℕ) → Decided library (run file items options) before.told statuses.Done text line
+    → Gains before.out after.out text → WroteOrBroke before.err after.err line → HasRun library before after file items options
+has_run library before after file items options text line (prints, none) out err =
     let says = prints.says in
     let given = says.given in
     let has = given.has in
@@ -51,16 +51,16 @@ has_run library before after file items manner text line (prints, none) out err 
     }
 
 pub runs_true : RunsAreTrue
-runs_true library words before after file items manner spelled done =
-    let answered = answered_of library words before after statuses.Done (run file items manner) spelled (λ other serving e. absurd cc) done.answered in
-    has_run library before after file items manner answered.text answered.line
-    (of_done library words before.told (run file items manner) spelled answered.text answered.line answered.cause)
+runs_true library words before after file items options spelled done =
+    let answered = answered_of library words before after statuses.Done (run file items options) spelled (λ other serving e. absurd cc) done.answered in
+    has_run library before after file items options answered.text answered.line
+    (of_done library words before.told (run file items options) spelled answered.text answered.line answered.cause)
     (gained before.out after.out answered.text answered.out) answered.err
 
 -- ---- why it answers 0
 
-module _ (library : Libraries) (told : Told) (file items : List ℕ) (manner : Manner)
-    (tells : TellsAll told (run file items manner)) (there : IsThere library told file items manner) where
+module _ (library : Libraries) (told : Told) (file items : List ℕ) (options : RunOptions)
+    (tells : TellsAll told (run file items options)) (there : IsThere library told file items options) where
   abbrev meaning : LibraryMeaning
   meaning = library there.docs
 
@@ -70,39 +70,39 @@ module _ (library : Libraries) (told : Told) (file items : List ℕ) (manner : M
   abbrev items_here : HasItems meaning told.files (named file) (named items)
   items_here = record { decls = there.decls; program_ = program_there; text = there.items_text; gives = there.in_items }
 
-  not_static : (line : List ℕ) → IsStatic meaning (run file items manner) told.files line → ⊥
+  not_static : (line : List ℕ) → IsStatic meaning (run file items options) told.files line → ⊥
   not_static line s =
       not_faulty meaning told.files (named file) tells.files s.text s.fault there.decls program_there
       (gives_here meaning told.files (named file) s.program s.text s.reads s.gives) s.stands
 
-  not_missing : (line : List ℕ) → IsMissing meaning (run file items manner) told.files line → ⊥
+  not_missing : (line : List ℕ) → IsMissing meaning (run file items options) told.files line → ⊥
   not_missing line m = one m.lost
     where
-      one : ((named m.name ≡ named file) × IsLost told.files m.name PROGRAM_FILE_LIMIT) ⊎ (AreItemsLost meaning (run file items manner) told.files m.name ⊎ ⊥) → ⊥
+      one : ((named m.name ≡ named file) × IsLost told.files m.name PROGRAM_FILE_LIMIT) ⊎ (AreItemsLost meaning (run file items options) told.files m.name ⊎ ⊥) → ⊥
       one (inl (same, lost)) = let own : m.name ≡ file = cc in not_lost told.files file PROGRAM_FILE_LIMIT there.text tells.files there.in_file (subst (λ (n : List ℕ). IsLost told.files n PROGRAM_FILE_LIMIT) own lost)
       one (inr (inl late)) = not_lost told.files items ITEMS_FILE_LIMIT there.items_text tells.files there.in_items late.lost
       one (inr (inr none)) = none
 
-  not_items : AreFaultless library told file items manner there → (line : List ℕ) → IsItemsText meaning told.files (named file) (named items) line → ⊥
+  not_items : AreFaultless library told file items options there → (line : List ℕ) → IsItemsText meaning told.files (named file) (named items) line → ⊥
   not_items none line is = none is.fault (fault_here meaning told.files (named file) tells.files (named items) tells.files items_here line is)
 
 -- a run has no verdict
-no_verdict : (library : Libraries) (told : Told) (file items : List ℕ) (manner : Manner) (status : Status) (text line : List ℕ) → Decided library (run file items manner) told status text line ⊎ Happened library (run file items manner) told status text line
+no_verdict : (library : Libraries) (told : Told) (file items : List ℕ) (options : RunOptions) (status : Status) (text line : List ℕ) → Decided library (run file items options) told status text line ⊎ Happened library (run file items options) told status text line
     → status ≡ statuses.No → ⊥
-no_verdict library told file items manner statuses.No text line (inl (with_, none)) e = with_.says
-no_verdict library told file items manner statuses.No text line (inr happened) e = happened
-no_verdict library told file items manner other text line cause e = absurd cc
+no_verdict library told file items options statuses.No text line (inl (with_, none)) e = with_.says
+no_verdict library told file items options statuses.No text line (inr happened) e = happened
+no_verdict library told file items options other text line cause e = absurd cc
 
 pub runs_answered : RunsAreAnswered
-runs_answered library words before after status file items manner spelled tells there none rose done =
-    answered_by library words before after status rose done (run file items manner) (OrMemory status (status ≡ statuses.Done)) spelled (λ other serving e. absurd cc)
-    (λ text line cause. settled text line cause (done_or_no library before.told (run file items manner) tells there.docs there.are_docs
-    (not_static library before.told file items manner tells there) (not_items library before.told file items manner tells there none) (not_missing library before.told file items manner tells there)
+runs_answered library words before after status file items options spelled tells there none rose done =
+    answered_by library words before after status rose done (run file items options) (OrMemory status (status ≡ statuses.Done)) spelled (λ other serving e. absurd cc)
+    (λ text line cause. settled text line cause (done_or_no library before.told (run file items options) tells there.docs there.are_docs
+    (not_static library before.told file items options tells there) (not_items library before.told file items options tells there none) (not_missing library before.told file items options tells there)
     (λ line unserved. unserved) status text line (not_read library words before after status rose done) (not_write library words before after status rose done) cause))
     (λ memory. inr memory)
   where
-    settled : (text line : List ℕ) → Decided library (run file items manner) before.told status text line ⊎ Happened library (run file items manner) before.told status text line
+    settled : (text line : List ℕ) → Decided library (run file items options) before.told status text line ⊎ Happened library (run file items options) before.told status text line
         → OrMemory status ((status ≡ statuses.Done) ⊎ (status ≡ statuses.No)) → OrMemory status (status ≡ statuses.Done)
     settled text line cause (inl (inl own)) = inl own
-    settled text line cause (inl (inr said)) = absurd (no_verdict library before.told file items manner status text line cause said)
+    settled text line cause (inl (inr said)) = absurd (no_verdict library before.told file items options status text line cause said)
     settled text line cause (inr memory) = inr memory

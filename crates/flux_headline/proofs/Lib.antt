@@ -7,3 +7,9 @@ mod Swarms
 mod Prints
 mod ServedHeadline
 mod Explained
+mod LoadLexed
+mod LoadDeclared
+mod LoadSound
+mod LoadLines
+mod LoadItems
+mod LoadsDone

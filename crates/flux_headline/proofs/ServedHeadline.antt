@@ -3,9 +3,9 @@ use Rattle.std.proofs.Common.{◌≡◌, ◌⊎◌, inl, inr, ℕ, List, [], ref
 use Rattle.flux_outside.specs.Causes.{Rose}
 use Rattle.flux_serve.specs.declared.batches.ServeEnd.{ServeEnd}
 use Rattle.flux_serve.specs.declared.batches.ServeEnd.TheVariants.{Closed, Counted, Door, Log, Memory}
-use Rattle.flux_words.specs.Behind.{Serving}
-use Rattle.flux_words.specs.Commands.{Command, serve, Spells}
-use Rattle.flux_words.proofs.OneCommand.{one_command}
+use Rattle.flux_cli.specs.Behind.{Serving}
+use Rattle.flux_cli.specs.Commands.{Command, serve, Spells}
+use Rattle.flux_cli.proofs.OneCommand.{one_command}
 use Rattle.flux_commands.specs.declared.statuses.Status.{Status}
 use Rattle.flux_commands.specs.declared.statuses.Status.TheVariants as statuses
 use Rattle.flux_driver.specs.Seen.{Seen}

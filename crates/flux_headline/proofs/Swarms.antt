@@ -1,7 +1,7 @@
 -- What `swarm` has done, and why it answers 0 or 8.
 use Rattle.std.proofs.Common.{◌≡◌, ◌⊎◌, inl, inr, ℕ, List, Option, subst}
 use Rattle.flux_values.specs.Meanings.{LibraryMeaning}
-use Rattle.flux_words.specs.Commands.{swarm}
+use Rattle.flux_cli.specs.Commands.{swarm}
 use Rattle.flux_outside.specs.Streams.{Gains, Wrote, Broke, WroteOrBroke}
 use Rattle.flux_commands.specs.declared.files.TheConstants.{PROGRAM_FILE_LIMIT, ITEMS_FILE_LIMIT, JOURNAL_FILE_LIMIT}
 use Rattle.flux_commands.specs.declared.statuses.Status.TheVariants as statuses

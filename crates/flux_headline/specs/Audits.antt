@@ -9,7 +9,7 @@ use Rattle.flux_audit.specs.declared.verdicts.Rule.{Rule}
 use Rattle.flux_audit.specs.declared.verdicts.Verdict.{Verdict}
 use Rattle.flux_audit.specs.declared.verdicts.Verdict.TheVariants.{Yes, No}
 use Rattle.flux_audit.specs.Printed.{printed_verdict}
-use Rattle.flux_words.specs.Commands.{audit, Spells}
+use Rattle.flux_cli.specs.Commands.{audit, Spells}
 use Rattle.flux_commands.specs.declared.files.TheConstants.{JOURNAL_FILE_LIMIT}
 use Rattle.flux_commands.specs.declared.statuses.Status.{Status}
 use Rattle.flux_commands.specs.declared.statuses.Status.TheVariants as statuses

@@ -3,7 +3,7 @@
 use Rattle.std.specs.Prelude.{◌≡◌, ◌⊎◌, List, [], ℕ}
 use Rattle.flux_outside.specs.Causes.{Rose}
 use Rattle.flux_outside.specs.Streams.{Wrote, Broke, WroteOrBroke}
-use Rattle.flux_words.specs.Commands.{Command, Spells, SpellsNone, IsServe}
+use Rattle.flux_cli.specs.Commands.{Command, Spells, SpellsNone, IsServe}
 use Rattle.flux_commands.specs.declared.statuses.Status.{Status}
 use Rattle.flux_commands.specs.declared.statuses.Status.TheVariants as statuses
 use Rattle.flux_driver.specs.Seen.{Seen}

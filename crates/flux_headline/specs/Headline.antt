@@ -6,7 +6,7 @@
 -- hold, the texts below are those. Of a real one, which doesn't tell, the program's text and the
 -- items' are some within their limits, the documents of a named folder are any, each within its
 -- limit, and what a stream gained isn't said.
--- A manner is what the options say: the runtime, `event` where none is named; the folder of
+-- The options of a run are the runtime, `event` where none is named; the folder of
 -- documents; the format, 1 where none is named. `Libraries` gives what the library's nodes mean, by
 -- its documents. `Holds` are classes with modes for each node; in a legal journal they are its locks:
 -- the classes that it declares, and of those that nodes below it declare the ones up to the last of
@@ -45,8 +45,8 @@ use Rattle.flux_syntax.specs.declared.declarations.Decl.{Decl}
 use Rattle.flux_syntax.specs.Declares.{Declares}
 use Rattle.flux_syntax.specs.ProgramOfText.{program_of}
 use Rattle.flux_check.specs.Judgement.{AreSound}
-use Rattle.flux_words.specs.Behind.{Manner}
-use Rattle.flux_words.specs.Commands.{run, Spells}
+use Rattle.flux_cli.specs.Behind.{RunOptions}
+use Rattle.flux_cli.specs.Commands.{run, Spells}
 use Rattle.flux_runs.specs.Setups.{setup_of}
 use Rattle.flux_runs.specs.Printed.{printed_in}
 use Rattle.flux_runs.specs.Orders.{IsOrderOf}
@@ -68,10 +68,10 @@ use Rattle.flux_driver.specs.Top.{HasDone}
 --                          static faults 1 to 4, which are of the grammar;
 --   sound                  and none of the others, 5 to 28, for the library with these documents;
 --   items_text, in_items   the text of the items' file, of at most 16,777,216 bytes.
-pub record IsThere (library : Libraries) (told : Told) (file items : List ℕ) (manner : Manner)
+pub record IsThere (library : Libraries) (told : Told) (file items : List ℕ) (options : RunOptions)
     : Type 0 where
   pub docs : DocMap
-  pub are_docs : AreDocs told.folders manner.docs docs
+  pub are_docs : AreDocs told.folders options.docs docs
   pub text : List ℕ
   pub in_file : Gives told.files file PROGRAM_FILE_LIMIT (Found text)
   pub decls : List Decl
@@ -82,8 +82,8 @@ pub record IsThere (library : Libraries) (told : Told) (file items : List ℕ) (
 
 -- what a journal of these items is judged by: the program of the text, with these locks, empty cells
 -- at the start, and the library
-abbrev pub setup_there : {library : Libraries} {told : Told} {file items : List ℕ} {manner : Manner}
-    → IsThere library told file items manner → Holds → List Item → Setup
+abbrev pub setup_there : {library : Libraries} {told : Told} {file items : List ℕ} {options : RunOptions}
+    → IsThere library told file items options → Holds → List Item → Setup
 setup_there {library} there locks its =
     setup_of (program_of there.decls) locks its (library there.docs)
 
@@ -95,12 +95,12 @@ setup_there {library} there locks its =
 --   legal, whole     that journal is legal, and whole;
 --   order            from an empty journal on: by `event`, turns up to a call, a wait or the end; by a
 --                    script, the flows that it lists, then the lowest; by threads and helpers, any;
---   printed          `out` has gained this journal's printed text in the format of the manner, of
+--   printed          `out` has gained this journal's printed text in the format of the options, of
 --                    which 2 begins with a line that tells the flows and events; and no more;
 --   silent           `err` has gained nothing.
-pub record HasRun (library : Libraries) (before after : Seen) (file items : List ℕ) (manner : Manner)
-    : Type 0 where
-  pub there : IsThere library before.told file items manner
+pub record HasRun (library : Libraries) (before after : Seen) (file items : List ℕ)
+    (options : RunOptions) : Type 0 where
+  pub there : IsThere library before.told file items options
   pub its : List Item
   pub are_items : let own = there in
       AreItemsOf (rules_in (library own.docs) own.decls own.sound) its own.items_text
@@ -108,17 +108,17 @@ pub record HasRun (library : Libraries) (before after : Seen) (file items : List
   pub locks : Holds
   pub legal : IsLegal (setup_there there locks its) journal.entries
   pub whole : IsWhole (setup_there there locks its) journal.entries
-  pub order : IsOrderOf manner.runtime (setup_there there locks its) [] journal.entries
+  pub order : IsOrderOf options.runtime (setup_there there locks its) [] journal.entries
   pub printed : let own = there in Gains before.out after.out
-      (printed_in manner.journal (program_of own.decls) (length its) journal)
+      (printed_in options.journal (program_of own.decls) (length its) journal)
   pub silent : Gains before.err after.err []
 
 -- where the words spell `run` and the program has answered 0, it has run
 abbrev pub RunsAreTrue : Type 0
 RunsAreTrue = (library : Libraries) (words : List (List ℕ)) (before after : Seen)
-    (file items : List ℕ) (manner : Manner)
-    → Spells words (run file items manner) → HasDone library words before statuses.Done after
-    → HasRun library before after file items manner
+    (file items : List ℕ) (options : RunOptions)
+    → Spells words (run file items options) → HasDone library words before statuses.Done after
+    → HasRun library before after file items options
 
 -- no reading of a file or of the folder failed, nor a write of `out`: their counts of failures didn't
 -- rise, and none stands at the end of its type
@@ -129,9 +129,9 @@ pub record NoneRose (before after : Seen) : Type 0 where
 
 -- no line of the items' text has a fault: each is blank, a comment, or an item of a source's name and
 -- kinds, and no limit of items is passed
-abbrev pub AreFaultless : (library : Libraries) (told : Told) (file items : List ℕ) (manner : Manner)
-    → IsThere library told file items manner → Type 0
-AreFaultless library told file items manner there = (fault : ItemFault)
+abbrev pub AreFaultless : (library : Libraries) (told : Told) (file items : List ℕ) (options : RunOptions)
+    → IsThere library told file items options → Type 0
+AreFaultless library told file items options there = (fault : ItemFault)
     → IsFaultOf (rules_in (library there.docs) there.decls there.sound) fault there.items_text → ⊥
 
 -- where the words spell `run`, all that it reads is told and there, the items' text has no fault, and
@@ -139,8 +139,8 @@ AreFaultless library told file items manner there = (fault : ItemFault)
 -- what it holds, this says nothing
 abbrev pub RunsAreAnswered : Type 0
 RunsAreAnswered = (library : Libraries) (words : List (List ℕ)) (before after : Seen) (status : Status)
-    (file items : List ℕ) (manner : Manner)
-    → Spells words (run file items manner) → TellsAll before.told (run file items manner)
-    → (there : IsThere library before.told file items manner)
-    → AreFaultless library before.told file items manner there → NoneRose before after
+    (file items : List ℕ) (options : RunOptions)
+    → Spells words (run file items options) → TellsAll before.told (run file items options)
+    → (there : IsThere library before.told file items options)
+    → AreFaultless library before.told file items options there → NoneRose before after
     → HasDone library words before status after → OrMemory status (status ≡ statuses.Done)

@@ -6,3 +6,7 @@ pub mod Swarms
 pub mod Prints
 pub mod ServedHeadline
 pub mod Explained
+pub mod LoadDeclarations
+pub mod LoadTexts
+pub mod LoadsDone
+pub mod Limits

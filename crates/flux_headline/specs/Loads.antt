@@ -5,8 +5,8 @@ use Rattle.flux_outside.specs.Streams.{Gains}
 use Rattle.flux_items.specs.declared.rules.ItemFault.{ItemFault}
 use Rattle.flux_items.specs.Faults.{IsFaultOf}
 use Rattle.flux_load.specs.Loads.{program_text, items_text}
-use Rattle.flux_words.specs.declared.values.Runtime.{Runtime}
-use Rattle.flux_words.specs.Commands.{load, Spells}
+use Rattle.flux_cli.specs.declared.values.Runtime.{Runtime}
+use Rattle.flux_cli.specs.Commands.{load, Spells}
 use Rattle.flux_runs.specs.declared.printing.Printing.TheVariants.{Summary}
 use Rattle.flux_commands.specs.declared.statuses.Status.{Status}
 use Rattle.flux_commands.specs.declared.statuses.Status.TheVariants as statuses

@@ -5,7 +5,7 @@ use Rattle.flux_values.specs.Meanings.{LibraryMeaning}
 use Rattle.flux_library.specs.Documents.{DocMap}
 use Rattle.flux_outside.specs.Streams.{Gains}
 use Rattle.flux_syntax.specs.declared.declarations.Decl.{Decl}
-use Rattle.flux_words.specs.Commands.{Command, check, plan, format, help, Spells}
+use Rattle.flux_cli.specs.Commands.{Command, check, plan, format, help, Spells}
 use Rattle.flux_commands.specs.declared.statuses.Status.{Status}
 use Rattle.flux_commands.specs.declared.statuses.Status.TheVariants as statuses
 use Rattle.flux_commands.specs.Told.{Files, Told}

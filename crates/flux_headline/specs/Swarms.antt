@@ -3,8 +3,8 @@
 use Rattle.std.specs.Prelude.{◌≡◌, ◌⊎◌, List, [], ℕ, Option}
 use Rattle.flux_library.specs.Documents.{DocMap}
 use Rattle.flux_outside.specs.Streams.{Gains}
-use Rattle.flux_words.specs.Commands.{swarm, Spells}
-use Rattle.tracker_peers.specs.Tracked.{HasTrackersNodes}
+use Rattle.flux_cli.specs.Commands.{swarm, Spells}
+use Rattle.flux_swarms.specs.Tracked.{HasTrackersNodes}
 use Rattle.flux_commands.specs.declared.statuses.Status.{Status}
 use Rattle.flux_commands.specs.declared.statuses.Status.TheVariants as statuses
 use Rattle.flux_driver.specs.Seen.{Seen}

@@ -11,7 +11,8 @@ use Rattle.flux_lexer.specs.declared.kinds.TokenKind.{TokenKind}
 use Rattle.flux_lexer.specs.declared.kinds.TokenKind.TheVariants as kinds
 use Rattle.flux_lexer.specs.declared.fronts.Front.{Front}
 use Rattle.flux_lexer.specs.declared.fronts.Front.TheVariants as fronts
-use Rattle.flux_lexer.specs.Kinds.{is_digit, is_word_start, is_word_byte, is_word, is_number, word_kind, single, double, mark_kind, kind_of}
+use Rattle.flux_values.specs.Identifiers.{is_digit, is_word_start, is_word_byte, is_word}
+use Rattle.flux_lexer.specs.Kinds.{is_number, word_kind, single, double, mark_kind, kind_of}
 use Rattle.flux_lexer.specs.Pieces.{Piece, blank, remark, comment, token, is_blank, close_of, IsToken, Begins, BeginsNone, IsUnclosed}
 use Rattle.flux_lexer.specs.steps.Fronts.{limited, comment_front, slash_front, arrow_front, single_front, front_from, front_of}
 

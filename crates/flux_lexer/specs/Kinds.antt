@@ -1,30 +1,10 @@
 -- Which bytes a token's kind spells.
-use Rattle.std.specs.Prelude.{ℕ, ◌==◌, ◌&&◌, ◌||◌, nat_le, Bool, false, if◌then◌else◌, List, [], ◌∷◌, Option, Some, None, codes}
+use Rattle.std.specs.Prelude.{ℕ, ◌==◌, ◌&&◌, Bool, false, if◌then◌else◌, List, [], ◌∷◌, Option, Some, None, codes}
 use Rattle.std.specs.List.{list_all}
 use Rattle.std.specs.Str.{bytes_eq}
+use Rattle.flux_values.specs.Identifiers.{is_digit, is_word}
 use Rattle.flux_lexer.specs.declared.kinds.TokenKind.{TokenKind}
 use Rattle.flux_lexer.specs.declared.kinds.TokenKind.TheVariants.{Identifier, Number, Source, Typedef, Handle, Error, Atomic, Session, Wildcard, OpenParen, CloseParen, OpenBracket, CloseBracket, OpenBrace, CloseBrace, Comma, Semicolon, Colon, Equals, Star, Question, Bang, ThinArrow, Arrow}
-
--- a letter: `A` to `Z`, or `a` to `z`
-abbrev pub is_letter : ℕ → Bool
-is_letter b = (nat_le 65 b && nat_le b 90) || (nat_le 97 b && nat_le b 122)
-
--- a digit: `0` to `9`
-abbrev pub is_digit : ℕ → Bool
-is_digit b = nat_le 48 b && nat_le b 57
-
--- a word begins with a letter or `_`
-abbrev pub is_word_start : ℕ → Bool
-is_word_start b = is_letter b || b == 95
-
--- and goes on with these and digits
-abbrev pub is_word_byte : ℕ → Bool
-is_word_byte b = is_word_start b || is_digit b
-
--- bytes that are a word
-abbrev pub is_word : List ℕ → Bool
-is_word [] = false
-is_word (b ∷ bytes) = is_word_start b && list_all is_word_byte bytes
 
 -- bytes that are a number: one digit or more
 abbrev pub is_number : List ℕ → Bool

@@ -2,7 +2,7 @@
 
 ghost use Rattle.std.specs.Prelude.{◌≡◌, ◌≤◌, length, take, IfSome};
 ghost use Rattle.std.specs.List.{prefix_len};
-ghost use Rattle.flux_lexer.specs.Kinds.{is_digit, is_word_start, is_word_byte};
+ghost use Rattle.flux_values.specs.Identifiers.{is_digit, is_word_start, is_word_byte};
 ghost use Rattle.flux_lexer.specs.Pieces.{is_blank, close_of, line_length};
 ghost use Rattle.flux_lexer.specs.steps.Fronts.{limited, slash_front, arrow_front, front_of};
 

@@ -13,6 +13,6 @@ mod stacks;
 mod verified;
 
 pub use locals::{Local, Next};
-pub use moving::{advance, answered, next, rests, take_answer};
+pub use moving::{advance, answered, has_next, next, take_answer};
 pub use plans::{Arm, Instr, Plan, Segment, Segments};
 pub use verified::VerifiedPlan;

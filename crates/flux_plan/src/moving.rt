@@ -31,7 +31,7 @@ pub fn next<L: Library>(p: &Program, plan: &VerifiedPlan, local: &Local, library
 }
 
 /// Does nothing. Its clause: something comes next at each place that a run reaches.
-pub fn rests(plan: &VerifiedPlan)
+pub fn has_next(plan: &VerifiedPlan)
     ensures { (matches : Matches) (position : Position) → IsReached plan.now matches position
         → IsSome (next_in plan.now matches position) }
 {

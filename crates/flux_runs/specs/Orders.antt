@@ -2,8 +2,8 @@
 use Rattle.std.specs.Prelude.{List, ⊤}
 use Rattle.flow_model.specs.declared.journals.Entry.{Entry}
 use Rattle.flow_model.specs.Setup.{Setup}
-use Rattle.flux_words.specs.declared.values.Runtime.{Runtime}
-use Rattle.flux_words.specs.declared.values.Runtime.TheVariants.{Event, EventWithHelpers, Script, PerFlow, Pool}
+use Rattle.flux_cli.specs.declared.values.Runtime.{Runtime}
+use Rattle.flux_cli.specs.declared.values.Runtime.TheVariants.{Event, EventWithHelpers, Script, PerFlow, Pool}
 use Rattle.flow_orders.specs.Round.{IsRound}
 use Rattle.flow_orders.specs.Follow.{IsFollow}
 

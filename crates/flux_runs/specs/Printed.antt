@@ -5,8 +5,8 @@ use Rattle.flow_model.specs.declared.journals.Journal.{Journal}
 use Rattle.flow_model.specs.Keys.{Cells}
 use Rattle.flow_model.specs.Texts.{printed_journal}
 use Rattle.flux_journal.specs.Formats.{printed_journal_2}
-use Rattle.flux_words.specs.declared.values.JournalFormat.{JournalFormat}
-use Rattle.flux_words.specs.declared.values.JournalFormat.TheVariants.{One, Two}
+use Rattle.flux_cli.specs.declared.values.JournalFormat.{JournalFormat}
+use Rattle.flux_cli.specs.declared.values.JournalFormat.TheVariants.{One, Two}
 use Rattle.flux_runs.specs.declared.printing.Printing.{Printing}
 use Rattle.flux_runs.specs.declared.printing.Printing.TheVariants as printings
 use Rattle.flux_runs.specs.Summaries.{printed_summary}

@@ -8,10 +8,10 @@ ghost use Rattle.flux_runs.specs.Printed.{printed_in, printed_by};
 use crate::summaries::print_summary;
 use flow_model::Journal;
 use flux_cells::Cells;
+use flux_cli::JournalFormat;
 use flux_journal::{Pages, print_pages, print_pages_2};
 use flux_model::Program;
 use flux_values::Memory;
-use flux_words::JournalFormat;
 use std::alloc::Global;
 
 /// What is printed of a run.

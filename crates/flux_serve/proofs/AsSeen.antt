@@ -10,9 +10,9 @@ use Rattle.flow_model.specs.Legal.{IsLegal, IsWhole}
 use Rattle.flux_outside.specs.Streams.{Stream, Wrote, Broke}
 use Rattle.flux_journal.specs.Logs.{printed_batch}
 use Rattle.flux_doors.specs.Doors.{waiting, first_link}
-use Rattle.flux_batches.specs.declared.framing.Framing.{Framing}
-use Rattle.flux_batches.specs.declared.reading.Held.{Held}
-use Rattle.flux_batches.specs.Links.{Seen, AreHeld, AreRead, item_sent, items_from}
+use Rattle.flux_doors.specs.declared.framing.Framing.{Framing}
+use Rattle.flux_batches.specs.declared.reading.ReadLink.{ReadLink}
+use Rattle.flux_batches.specs.Links.{Seen, WereRead, AreRead, item_sent, items_from}
 use Rattle.flux_batches.specs.Replies.{AreAnswered, flow_behind, TakesBack}
 use Rattle.flux_batches.specs.Gathered.{AreFirst, AreAll, AreGathered}
 use Rattle.flux_serve.specs.declared.batches.ServeEnd.{ServeEnd}
@@ -70,37 +70,37 @@ module _ {L : Type 0} (see : L → Seen) where
 
   -- ---- links that were read
 
-  abbrev pub held_seen : Held L → Held Seen
-  held_seen held = record { link = see held.link; sent = held.sent }
+  abbrev pub request_seen : ReadLink L → ReadLink Seen
+  request_seen request = record { link = see request.link; sent = request.sent }
 
-  pub read_seen : (framing : Framing) (links : List L) (helds : List (Held L)) → AreHeld see framing links helds [] → AreHeld itself framing (map see links) (map held_seen helds) []
+  pub read_seen : (framing : Framing) (links : List L) (requests : List (ReadLink L)) → WereRead see framing links requests [] → WereRead itself framing (map see links) (map request_seen requests) []
   read_seen framing links [] read = ap (map see) read
-  read_seen framing [] (held ∷ helds) read = absurd read
-  read_seen framing (link ∷ links) (held ∷ helds) read = (read.0, read.1, read_seen framing links helds read.2)
+  read_seen framing [] (request ∷ requests) read = absurd read
+  read_seen framing (link ∷ links) (request ∷ requests) read = (read.0, read.1, read_seen framing links requests read.2)
 
-  pub each_seen : (helds : List (Held L)) → AreRead helds → AreRead (map held_seen helds)
+  pub each_seen : (requests : List (ReadLink L)) → AreRead requests → AreRead (map request_seen requests)
   each_seen [] each = tt
-  each_seen (held ∷ helds) each = (each.0, each_seen helds each.1)
+  each_seen (request ∷ requests) each = (each.0, each_seen requests each.1)
 
-  pub items_seen : (number : ℕ) (helds : List (Held L)) → items_from number (map held_seen helds) ≡ items_from number helds
+  pub items_seen : (number : ℕ) (requests : List (ReadLink L)) → items_from number (map request_seen requests) ≡ items_from number requests
   items_seen number [] = refl
-  items_seen number (held ∷ helds) = ap (λ (l : List Item). item_sent number held.sent ++ l) (items_seen (number + 1) helds)
+  items_seen number (request ∷ requests) = ap (λ (l : List Item). item_sent number request.sent ++ l) (items_seen (number + 1) requests)
 
-  answered_seen : (entries : List Entry) (flow : ℕ) (helds : List (Held L)) (backs : List L) → AreAnswered see entries flow helds backs [] → AreAnswered itself entries flow (map held_seen helds) (map see backs) []
-  answered_seen entries flow helds [] a = ap (map held_seen) a
+  answered_seen : (entries : List Entry) (flow : ℕ) (requests : List (ReadLink L)) (backs : List L) → AreAnswered see entries flow requests backs [] → AreAnswered itself entries flow (map request_seen requests) (map see backs) []
+  answered_seen entries flow requests [] a = ap (map request_seen) a
   answered_seen entries flow [] (back ∷ backs) a = absurd a
-  answered_seen entries flow (held ∷ helds) (back ∷ backs) a = (a.0, a.1, answered_seen entries (flow_behind flow held.sent) helds backs a.2)
+  answered_seen entries flow (request ∷ requests) (back ∷ backs) a = (a.0, a.1, answered_seen entries (flow_behind flow request.sent) requests backs a.2)
 
   -- ---- a batch
 
   abbrev pub batch_seen : Batch L → Batch Seen
-  batch_seen batch = record { came = map see batch.came; held = map held_seen batch.held; back = map see batch.back; journal = batch.journal }
+  batch_seen batch = record { came = map see batch.came; requests = map request_seen batch.requests; back = map see batch.back; journal = batch.journal }
 
   cells_seen : (service : Service) (opening : Cells) (number : ℕ) (batch : Batch L) → cells_behind service opening number (batch_seen batch) ≡ cells_behind service opening number batch
-  cells_seen service opening number batch = let journal = batch.journal in ap (λ (its : List Item). cells_after (batch_setup service opening its) journal.entries) (items_seen number batch.held)
+  cells_seen service opening number batch = let journal = batch.journal in ap (λ (its : List Item). cells_after (batch_setup service opening its) journal.entries) (items_seen number batch.requests)
 
   number_seen : (number : ℕ) (batch : Batch L) → number_behind number (batch_seen batch) ≡ number_behind number batch
-  number_seen number batch = ap (λ (n : ℕ). number + n) (length-map batch.held held_seen)
+  number_seen number batch = ap (λ (n : ℕ). number + n) (length-map batch.requests request_seen)
 
   driven_seen : (service : Service) (opening : Cells) (number : ℕ) (batch : Batch L) → IsDriven see service opening number batch → IsDriven itself service opening number (batch_seen batch)
   driven_seen service opening number batch d =
@@ -108,11 +108,11 @@ module _ {L : Type 0} (see : L → Seen) where
       let Q : List Item → Type 0 = λ its. IsLegal (batch_setup service opening its) journal.entries in
       let W : List Item → Type 0 = λ its. IsWhole (batch_setup service opening its) journal.entries in
       record {
-        read = read_seen service.framing batch.came batch.held d.read;
-        each = each_seen batch.held d.each;
-        legal = subst Q (sym (items_seen number batch.held)) d.legal;
-        whole = subst W (sym (items_seen number batch.held)) d.whole;
-        replies = answered_seen journal.entries 0 batch.held batch.back d.replies;
+        read = read_seen service.framing batch.came batch.requests d.read;
+        each = each_seen batch.requests d.each;
+        legal = subst Q (sym (items_seen number batch.requests)) d.legal;
+        whole = subst W (sym (items_seen number batch.requests)) d.whole;
+        replies = answered_seen journal.entries 0 batch.requests batch.back d.replies;
       }
 
   has_driven : (service : Service) (opening : Cells) (count number : ℕ) (batch : Batch L) (before after : Sight L) (Gained : Stream → Stream → List ℕ → Type 0) → HasDriven see service opening count number batch before after Gained
@@ -125,7 +125,7 @@ module _ {L : Type 0} (see : L → Seen) where
         driven = driven_seen service opening number batch d.driven;
         back = taken_seen before.taken_back after.taken_back batch.back d.back;
         steady = d.steady;
-        gained = subst G (sym (items_seen number batch.held)) d.gained;
+        gained = subst G (sym (items_seen number batch.requests)) d.gained;
       }
 
   -- ---- batches one after another

@@ -7,7 +7,7 @@ use Rattle.flow_model.specs.Keys.{Cells}
 use Rattle.flow_model.specs.Legal.{IsLegal, IsWhole}
 use Rattle.flux_outside.specs.Causes.{Rose}
 use Rattle.flux_outside.specs.Streams.{Stream}
-use Rattle.flux_batches.specs.declared.reading.Held.{Held}
+use Rattle.flux_batches.specs.declared.reading.ReadLink.{ReadLink}
 use Rattle.flux_batches.specs.Links.{Seen}
 use Rattle.flux_batches.specs.Replies.{flow_behind}
 use Rattle.flux_serve.specs.declared.batches.ServeEnd.{ServeEnd}
@@ -15,16 +15,16 @@ use Rattle.flux_serve.specs.declared.batches.ServeEnd.TheVariants.{Door, Log}
 use Rattle.flux_serve.specs.Batches.{Service, Batch, batch_setup, empty_cells}
 use Rattle.flux_serve.specs.Ends.{Sight, as_seen, cells_at_end, number_at_end}
 use Rattle.flux_serve.specs.AtOnce.{AreAnsweredSoFar, IsBegun, HasBrokenOff, HasServedAtOnce}
-use Rattle.flux_serve.proofs.AsSeen.{itself, held_seen, batch_seen, gathered_seen, taken_seen, read_seen, each_seen, items_seen, served_seen, cells_end, number_end, served_as_seen}
+use Rattle.flux_serve.proofs.AsSeen.{itself, request_seen, batch_seen, gathered_seen, taken_seen, read_seen, each_seen, items_seen, served_seen, cells_end, number_end, served_as_seen}
 use Rattle.flux_serve.proofs.Counted.{log_faults, door_steady, log_steady, door_rose, door_same, log_rose, log_same}
 
 module _ {L : Type 0} (see : L → Seen) where
-  so_far_seen : (entries : List Entry) (flow : ℕ) (helds : List (Held L)) (backs : List L) → AreAnsweredSoFar see entries flow helds backs
-      → AreAnsweredSoFar itself entries flow (map (held_seen see) helds) (map see backs)
+  so_far_seen : (entries : List Entry) (flow : ℕ) (requests : List (ReadLink L)) (backs : List L) → AreAnsweredSoFar see entries flow requests backs
+      → AreAnsweredSoFar itself entries flow (map (request_seen see) requests) (map see backs)
   so_far_seen entries flow [] [] a = tt
   so_far_seen entries flow [] (back ∷ backs) a = absurd a
-  so_far_seen entries flow (held ∷ helds) [] a = absurd a
-  so_far_seen entries flow (held ∷ helds) (back ∷ backs) a = (a.0, a.1, so_far_seen entries (flow_behind flow held.sent) helds backs a.2)
+  so_far_seen entries flow (request ∷ requests) [] a = absurd a
+  so_far_seen entries flow (request ∷ requests) (back ∷ backs) a = (a.0, a.1, so_far_seen entries (flow_behind flow request.sent) requests backs a.2)
 
   begun_seen : (service : Service) (opening : Cells) (number : ℕ) (batch : Batch L) (before after : Sight L)
       → IsBegun see service opening number batch before after
@@ -36,11 +36,11 @@ module _ {L : Type 0} (see : L → Seen) where
       record {
         formed = gathered_seen see before.to_come after.to_come before.late after.late batch.came b.formed;
         size = (rw (length-map batch.came see) b.size.0, rw (length-map batch.came see) b.size.1);
-        read = read_seen see service.framing batch.came batch.held b.read;
-        each = each_seen see batch.held b.each;
-        legal = subst Q (sym (items_seen see number batch.held)) b.legal;
-        unfinished = subst U (sym (items_seen see number batch.held)) b.unfinished;
-        replies = so_far_seen journal.entries 0 batch.held batch.back b.replies;
+        read = read_seen see service.framing batch.came batch.requests b.read;
+        each = each_seen see batch.requests b.each;
+        legal = subst Q (sym (items_seen see number batch.requests)) b.legal;
+        unfinished = subst U (sym (items_seen see number batch.requests)) b.unfinished;
+        replies = so_far_seen journal.entries 0 batch.requests batch.back b.replies;
         back = taken_seen see before.taken_back after.taken_back batch.back b.back;
         steady = b.steady;
         log_ = b.log_;

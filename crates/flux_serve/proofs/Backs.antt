@@ -11,12 +11,12 @@ use Rattle.flux_laws.proofs.OwnEvents.{events_by-append}
 use Rattle.flux_outside.specs.Streams.{WroteOrBroke}
 use Rattle.flux_batches.specs.declared.reading.Sent.{Sent}
 use Rattle.flux_batches.specs.declared.reading.Sent.TheVariants.{Text, Failed, Memory}
-use Rattle.flux_batches.specs.declared.reading.Held.{Held}
+use Rattle.flux_batches.specs.declared.reading.ReadLink.{ReadLink}
 use Rattle.flux_batches.specs.Links.{Seen, IsSame, stream_of}
 use Rattle.flux_batches.specs.Replies.{reply_of, flow_behind, IsAnswered, AreAnswered}
 use Rattle.flux_serve.specs.AtOnce.{IsAnsweredSoFar, AreAnsweredSoFar}
-use Rattle.flux_serve.specs.declared.dues.Due.{Due}
-use Rattle.flux_serve.specs.steps.Dues.{HasText, IsFromFront, IsDueSo, IsBack, IsBackOf, AreBack}
+use Rattle.flux_serve.specs.declared.replies.PendingReply.{PendingReply}
+use Rattle.flux_serve.specs.steps.PendingReplies.{HasText, IsFromFront, IsReplySoFar, IsBack, IsBackOf, AreBack}
 use Rattle.flux_serve.proofs.EndedReplies.{reply-stays}
 
 -- ---- one link
@@ -69,41 +69,41 @@ module _ (setup : Setup) (entries : List Entry) (legal : IsLegal setup entries) 
 
 module _ {K : Type 0} (see : K → Seen) (setup : Setup) (entries : List Entry) (legal : IsLegal setup entries) where
   -- of a batch that was driven whole
-  pub back-answered : (flow : ℕ) (helds : List (Held K)) (backs : List K) (next : ℕ)
-      → AreBack see true entries flow helds backs [] next → AreAnswered see entries flow helds backs []
-  back-answered flow helds [] next back = back.0
+  pub back-answered : (flow : ℕ) (requests : List (ReadLink K)) (backs : List K) (next : ℕ)
+      → AreBack see true entries flow requests backs [] next → AreAnswered see entries flow requests backs []
+  back-answered flow requests [] next back = back.0
   back-answered flow [] (link ∷ backs) next back = absurd back
-  back-answered flow (held ∷ rest) (link ∷ backs) next back = (
+  back-answered flow (request ∷ rest) (link ∷ backs) next back = (
     back.0,
-    back-one setup entries legal flow (see held.link) (see link) held.sent back.1,
-    back-answered (flow_behind flow held.sent) rest backs next back.2,
+    back-one setup entries legal flow (see request.link) (see link) request.sent back.1,
+    back-answered (flow_behind flow request.sent) rest backs next back.2,
   )
 
   -- and of any other
-  pub back-so-far : (flow : ℕ) (helds : List (Held K)) (backs : List K) (next : ℕ)
-      → AreBack see false entries flow helds backs [] next → AreAnsweredSoFar see entries flow helds backs
-  back-so-far flow helds [] next back =
-      let P : List (Held K) → Type 0 = λ them. AreAnsweredSoFar see entries flow them [] in subst P (sym back.0) tt
+  pub back-so-far : (flow : ℕ) (requests : List (ReadLink K)) (backs : List K) (next : ℕ)
+      → AreBack see false entries flow requests backs [] next → AreAnsweredSoFar see entries flow requests backs
+  back-so-far flow requests [] next back =
+      let P : List (ReadLink K) → Type 0 = λ them. AreAnsweredSoFar see entries flow them [] in subst P (sym back.0) tt
   back-so-far flow [] (link ∷ backs) next back = absurd back
-  back-so-far flow (held ∷ rest) (link ∷ backs) next back = (
+  back-so-far flow (request ∷ rest) (link ∷ backs) next back = (
     back.0,
-    back-one-so-far setup entries legal flow (see held.link) (see link) held.sent back.1,
-    back-so-far (flow_behind flow held.sent) rest backs next back.2,
+    back-one-so-far setup entries legal flow (see request.link) (see link) request.sent back.1,
+    back-so-far (flow_behind flow request.sent) rest backs next back.2,
   )
 
 -- one link more
-pub back-more : {K : Type 0} → (see : K → Seen) (whole : Bool) (entries : List Entry) (flow : ℕ) (helds : List (Held K)) (backs : List K)
-    (held : Held K) (rest : List (Held K)) (next : ℕ) (link : K)
-    → AreBack see whole entries flow helds backs (held ∷ rest) next → IsSame (see held.link) (see link)
-    → IsBack whole entries next (see held.link) (see link) held.sent
-    → AreBack see whole entries flow helds (backs ++ link ∷ []) rest (flow_behind next held.sent)
-back-more {K} see whole entries flow helds [] held rest next link back same is =
-    let H : List (Held K) → Type 0 = λ them. AreBack see whole entries flow them (link ∷ []) rest (flow_behind next held.sent) in
-    let F : ℕ → Type 0 = λ f. AreBack see whole entries f (held ∷ rest) (link ∷ []) rest (flow_behind next held.sent) in
+pub back-more : {K : Type 0} → (see : K → Seen) (whole : Bool) (entries : List Entry) (flow : ℕ) (requests : List (ReadLink K)) (backs : List K)
+    (request : ReadLink K) (rest : List (ReadLink K)) (next : ℕ) (link : K)
+    → AreBack see whole entries flow requests backs (request ∷ rest) next → IsSame (see request.link) (see link)
+    → IsBack whole entries next (see request.link) (see link) request.sent
+    → AreBack see whole entries flow requests (backs ++ link ∷ []) rest (flow_behind next request.sent)
+back-more {K} see whole entries flow requests [] request rest next link back same is =
+    let H : List (ReadLink K) → Type 0 = λ them. AreBack see whole entries flow them (link ∷ []) rest (flow_behind next request.sent) in
+    let F : ℕ → Type 0 = λ f. AreBack see whole entries f (request ∷ rest) (link ∷ []) rest (flow_behind next request.sent) in
     subst H (sym back.0) (subst F (sym back.1) (same, is, (refl, refl)))
-back-more see whole entries flow [] (first ∷ backs) held rest next link back same is = absurd back
-back-more see whole entries flow (one ∷ helds) (first ∷ backs) held rest next link back same is =
-    (back.0, back.1, back-more see whole entries (flow_behind flow one.sent) helds backs held rest next link back.2 same is)
+back-more see whole entries flow [] (first ∷ backs) request rest next link back same is = absurd back
+back-more see whole entries flow (one ∷ requests) (first ∷ backs) request rest next link back same is =
+    (back.0, back.1, back-more see whole entries (flow_behind flow one.sent) requests backs request rest next link back.2 same is)
 
 -- ---- a link that is answered when it is taken back, if it has to be
 
@@ -121,37 +121,37 @@ module _ {K : Type 0} (see : K → Seen) (entries : List Entry) where
   text-answered before after flow Memory has wrote = absurd has
 
   -- it wasn't
-  pub answered-stood : (whole : Bool) (before old : Due K) → before.written ≡ false → IsDueSo see entries before old
-      → (whole ≡ true → (let held = old.held in HasText held.sent) → old.written ≡ true)
-      → (let held = old.held in IsBackOf see whole entries before held.link)
+  pub answered-stood : (whole : Bool) (before old : PendingReply K) → before.written ≡ false → IsReplySoFar see entries before old
+      → (whole ≡ true → (let request = old.request in HasText request.sent) → old.written ≡ true)
+      → (let request = old.request in IsBackOf see whole entries before request.link)
   answered-stood whole before old fresh (inr was) over = (was.same, inr was.from)
   answered-stood whole before old fresh (inl same) over =
-      let P : Due K → Type 0 = λ due. ((whole ≡ true → (let held = due.held in HasText held.sent) → due.written ≡ true)
-      → (let held = due.held in IsBackOf see whole entries before held.link)) in
+      let P : PendingReply K → Type 0 = λ reply. ((whole ≡ true → (let request = reply.request in HasText request.sent) → reply.written ≡ true)
+      → (let request = reply.request in IsBackOf see whole entries before request.link)) in
       subst P (sym same) (λ over'. (refl, inl (by whole over'))) over
     where
-      held : Held K
-      held = before.held
+      request : ReadLink K
+      request = before.request
 
-      by : (b : Bool) → (b ≡ true → HasText held.sent → before.written ≡ true)
-          → (let flow = before.flow in MatchBool b (IsAnswered entries flow.0 (see held.link) (see held.link) held.sent)
-          (stream_of (see held.link) ≡ stream_of (see held.link)))
+      by : (b : Bool) → (b ≡ true → HasText request.sent → before.written ≡ true)
+          → (let flow = before.flow in MatchBool b (IsAnswered entries flow.0 (see request.link) (see request.link) request.sent)
+          (stream_of (see request.link) ≡ stream_of (see request.link)))
       by false over' = refl
       by true over' = let flow = before.flow in
-          silent-same (see held.link) flow.0 held.sent (λ has. let is : false ≡ true = sym fresh ∙ over' refl has in absurd cc)
+          silent-same (see request.link) flow.0 request.sent (λ has. let is : false ≡ true = sym fresh ∙ over' refl has in absurd cc)
 
   -- it was
-  pub answered-now : (before old : Due K) (link : K) → before.written ≡ false → IsDueSo see entries before old
-      → (let held = old.held in HasText held.sent) → old.written ≡ false
-      → (let held = old.held in IsSame (see held.link) (see link))
-      → (let held = old.held in let flow = old.flow in WroteOrBroke (stream_of (see held.link)) (stream_of (see link)) (reply_of flow.0 entries))
+  pub answered-now : (before old : PendingReply K) (link : K) → before.written ≡ false → IsReplySoFar see entries before old
+      → (let request = old.request in HasText request.sent) → old.written ≡ false
+      → (let request = old.request in IsSame (see request.link) (see link))
+      → (let request = old.request in let flow = old.flow in WroteOrBroke (stream_of (see request.link)) (stream_of (see link)) (reply_of flow.0 entries))
       → IsBackOf see true entries before link
   answered-now before old link fresh (inr was) has unwritten same wrote =
       let is : false ≡ true = sym unwritten ∙ was.written_ in absurd cc
   answered-now before old link fresh (inl is) has unwritten same wrote =
-      let P : Due K → Type 0 = λ due. (let held = due.held in HasText held.sent)
-      → (let held = due.held in IsSame (see held.link) (see link))
-      → (let held = due.held in let flow = due.flow in WroteOrBroke (stream_of (see held.link)) (stream_of (see link)) (reply_of flow.0 entries))
+      let P : PendingReply K → Type 0 = λ reply. (let request = reply.request in HasText request.sent)
+      → (let request = reply.request in IsSame (see request.link) (see link))
+      → (let request = reply.request in let flow = reply.flow in WroteOrBroke (stream_of (see request.link)) (stream_of (see link)) (reply_of flow.0 entries))
       → IsBackOf see true entries before link in
-      subst P (sym is) (λ has' same' wrote'. let held = before.held in let flow = before.flow in
-      (same', inl (text-answered (see held.link) (see link) flow.0 held.sent has' wrote'))) has same wrote
+      subst P (sym is) (λ has' same' wrote'. let request = before.request in let flow = before.flow in
+      (same', inl (text-answered (see request.link) (see link) flow.0 request.sent has' wrote'))) has same wrote

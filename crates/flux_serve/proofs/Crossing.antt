@@ -1,4 +1,4 @@
--- A lane with its seat may cross threads, and what the seats are of is shared by them.
+-- A queue with its seat may cross threads, and what the seats are of is shared by them.
 use denote.RattleType.{RattleType}
 use denote.Param.Send.{IsSend, IsSync, sendable, view_sync}
 use denote.Param.SendFields.{declared_send, declared_sync}
@@ -14,8 +14,8 @@ use Rattle.flow_shared.specs.contracts.shared.Shared.TheInside as shared_fields
 use Rattle.atomic_table.proofs.shared.Shared.TheSendSync.{the_sync as shared_sync}
 use Rattle.atomic_table.proofs.send_lease.SendLease.TheSendSync.{the_sync as lease_sync}
 use Rattle.atomic_table.proofs.shared.Seat.TheSendSync.{the_send as table_send}
-use Rattle.flux_serve.specs.contracts.dues.Due as dues
-use Rattle.flux_serve.specs.contracts.lanes.Lane as lanes
+use Rattle.flux_serve.specs.contracts.replies.PendingReply as replies
+use Rattle.flux_serve.specs.contracts.queues.WorkerQueue as queues
 
 pub seat_send : (L : RattleType) (l : library.Ghosts L.Denot) (m : meaning.Ghosts L.Denot) → IsSend L → IsSync L
     → IsSend (seats.the_row L l m)
@@ -31,11 +31,11 @@ all_sync L l m send sync = by (search (core_send, sendable) depth 40)
       tt,
     ))
 
-due_send : (K : RattleType) → IsSend K → IsSend (dues.the_row K)
-due_send K send = search (crosses, sendable) depth 80
+reply_send : (K : RattleType) → IsSend K → IsSend (replies.the_row K)
+reply_send K send = search (crosses, sendable) depth 80
 
-pub lane_send : (S K : RattleType) → IsSend S → IsSend K → IsSend (lanes.the_row S K)
-lane_send S K seat link = declared_send (lanes.the_type S K) (
+pub queue_send : (S K : RattleType) → IsSend S → IsSend K → IsSend (queues.the_row S K)
+queue_send S K seat link = declared_send (queues.the_type S K) (
   search sendable depth 40,
-  (search (due_send, crosses, sendable) depth 40, tt),
+  (search (reply_send, crosses, sendable) depth 40, tt),
 )

@@ -9,8 +9,8 @@ use Rattle.flow_model.specs.Legal.{IsLegal, IsWhole}
 use Rattle.flux_cells.specs.Kept.{Kept, cells_of}
 use Rattle.flux_journal.specs.Logs.{printed_batch}
 use Rattle.flux_outside.specs.Streams.{Stream, Wrote, Broke}
-use Rattle.flux_batches.specs.declared.framing.Framing.{Framing}
-use Rattle.flux_batches.specs.declared.reading.Held.{Held}
+use Rattle.flux_doors.specs.declared.framing.Framing.{Framing}
+use Rattle.flux_batches.specs.declared.reading.ReadLink.{ReadLink}
 use Rattle.flux_batches.specs.Links.{Seen, AreRead, items_from}
 use Rattle.flux_batches.specs.Replies.{TakesBack, AreAllAnswered}
 use Rattle.flux_batches.specs.Gathered.{AreGathered}
@@ -20,32 +20,32 @@ use Rattle.flux_serve.specs.declared.batches.ServeEnd.TheVariants.{Closed, Count
 use Rattle.flux_serve.specs.Batches.{Service, batch_items, batch_setup}
 use Rattle.flux_serve.specs.Ends.{Sight, IsUndriven, HasDriven, Stands, HasStopped}
 use Rattle.flux_serve.specs.steps.Batches.{with_log, IsTaken, IsNone, HasFinished, HasRun, HasPassed}
-use Rattle.flux_serve.proofs.Unwritten.{unwritten_held}
+use Rattle.flux_serve.proofs.Unwritten.{unwritten_request}
 
 -- ---- driven
 
 -- what is known of a batch behind its replies
-pub record Parts {L : Type 0} (see : L → Seen) (service : Service) (opening : Cells) (number : ℕ) (before after : Sight L) (held : List (Held L)) (run : Run) : Type 0 where
+pub record Parts {L : Type 0} (see : L → Seen) (service : Service) (opening : Cells) (number : ℕ) (before after : Sight L) (requests : List (ReadLink L)) (run : Run) : Type 0 where
   pub to_come : Option (List (List L))
   pub taken_back : Option (List L)
   pub late : ℕ
-  pub taken : IsTaken see service.framing before.to_come to_come before.late late held
+  pub taken : IsTaken see service.framing before.to_come to_come before.late late requests
   pub back : taken_back ≡ before.taken_back
-  pub each : AreRead held
-  pub is : run.items ≡ items_from number held
+  pub each : AreRead requests
+  pub is : run.items ≡ items_from number requests
   pub legal : let journal = run.journal in IsLegal (batch_setup service opening run.items) journal.entries
   pub whole : let journal = run.journal in IsWhole (batch_setup service opening run.items) journal.entries
   pub cells_ : let journal = run.journal in cells_of run.cells ≡ cells_after (batch_setup service opening run.items) journal.entries
-  pub next_ : run.next ≡ number + length held
-  pub answered : let journal = run.journal in AreAllAnswered see journal.entries held taken_back after.taken_back
+  pub next_ : run.next ≡ number + length requests
+  pub answered : let journal = run.journal in AreAllAnswered see journal.entries requests taken_back after.taken_back
   pub come : after.to_come ≡ to_come
   pub late_ : after.late ≡ late
   pub steady : after.faults ≡ before.faults
   pub log_ : after.log ≡ before.log
 
-pub ran_of : {L : Type 0} (see : L → Seen) (service : Service) (opening : Cells) (number : ℕ) (before after : Sight L) (held : List (Held L)) (run : Run)
-    → Parts see service opening number before after held run → HasRun see service opening number before after run
-ran_of {L} see service opening number before after held run p =
+pub ran_of : {L : Type 0} (see : L → Seen) (service : Service) (opening : Cells) (number : ℕ) (before after : Sight L) (requests : List (ReadLink L)) (run : Run)
+    → Parts see service opening number before after requests run → HasRun see service opening number before after run
+ran_of {L} see service opening number before after requests run p =
     let t = p.taken in
     let a = p.answered in
     let journal = run.journal in
@@ -55,7 +55,7 @@ ran_of {L} see service opening number before after held run p =
     let C : Option (List (List L)) → Type 0 = λ c. AreGathered before.to_come c before.late after.late t.came in
     let D : ℕ → Type 0 = λ n. AreGathered before.to_come p.to_come before.late n t.came in
     record {
-      batch = record { came = t.came; held = held; back = a.backs; journal = journal };
+      batch = record { came = t.came; requests = requests; back = a.backs; journal = journal };
       driven = record {
         formed = subst C (sym p.come) (subst D (sym p.late_) t.formed);
         size = t.size;
@@ -73,11 +73,11 @@ ran_of {L} see service opening number before after held run p =
 -- ---- not driven
 
 -- links that were read went back
-pub undriven_of : {L : Type 0} (see : L → Seen) (framing : Framing) (before after : Sight L) (come : Option (List (List L))) (back : Option (List L)) (late : ℕ) (helds : List (Held L))
-    → IsTaken see framing before.to_come come before.late late helds → back ≡ before.taken_back → TakesBack back after.taken_back (map (λ held. held.link) helds)
+pub undriven_of : {L : Type 0} (see : L → Seen) (framing : Framing) (before after : Sight L) (come : Option (List (List L))) (back : Option (List L)) (late : ℕ) (requests : List (ReadLink L))
+    → IsTaken see framing before.to_come come before.late late requests → back ≡ before.taken_back → TakesBack back after.taken_back (map (λ request. request.link) requests)
     → after.to_come ≡ come → after.late ≡ late → after.faults ≡ before.faults → after.log ≡ before.log → IsUndriven see before after
-undriven_of {L} see framing before after come back late helds t same taken come_ late_ steady log_ =
-    let backs = map (λ held. held.link) helds in
+undriven_of {L} see framing before after come back late requests t same taken come_ late_ steady log_ =
+    let backs = map (λ request. request.link) requests in
     let T : Option (List L) → Type 0 = λ b. TakesBack b after.taken_back backs in
     let C : Option (List (List L)) → Type 0 = λ c. AreGathered before.to_come c before.late after.late t.came in
     let D : ℕ → Type 0 = λ n. AreGathered before.to_come come before.late n t.came in
@@ -87,7 +87,7 @@ undriven_of {L} see framing before after come back late helds t same taken come_
       formed = inl (subst C (sym come_) (subst D (sym late_) t.formed));
       size = t.size.1;
       back = subst T same taken;
-      unwritten = unwritten_held see framing t.came helds t.read;
+      unwritten = unwritten_request see framing t.came requests t.read;
       steady = steady;
       log_ = log_;
     }

@@ -18,8 +18,8 @@ use Rattle.flux_model.specs.Items.{AreValues, IsItemOf, IsItemFor}
 use Rattle.flux_model.specs.Kinds.{NodeKinds}
 use Rattle.flux_model.specs.Soundness.{IsLike, IsBodyLike, IsSound}
 use Rattle.flow_state.specs.Calls.{body_name, node_name}
-use Rattle.flux_batches.specs.declared.framing.Framing.{Framing}
-use Rattle.flux_batches.specs.declared.framing.Framing.TheVariants.{Head, Line}
+use Rattle.flux_doors.specs.declared.framing.Framing.{Framing}
+use Rattle.flux_doors.specs.declared.framing.Framing.TheVariants.{Head, Line}
 use Rattle.flux_batches.specs.Links.{IsLinkItem}
 use Rattle.flux_sources.specs.Sources.{role_of, IsServed}
 

@@ -2,55 +2,55 @@
 use Rattle.std.proofs.Common.{◌≡◌, inl, inr, ℕ, zero, suc, ◌%◌, ◌<◌, Bool, if◌then◌else◌, List, [], ◌∷◌, ◌++◌, length, slice_index_or, refl, sym, ap, ◌∙◌, append_assoc, arith}
 use Rattle.std.proofs.lemmas.Bool.{eq-eqb, ne_eqb}
 use Rattle.flow_model.specs.declared.journals.Entry.{Entry}
-use Rattle.flux_batches.specs.declared.reading.Held.{Held}
+use Rattle.flux_batches.specs.declared.reading.ReadLink.{ReadLink}
 use Rattle.flux_batches.specs.Links.{Seen}
 use Rattle.flux_batches.specs.Replies.{flow_behind}
-use Rattle.flux_serve.specs.declared.dues.Due.{Due}
-use Rattle.flux_serve.specs.steps.Dues.{IsDueSo, AreDueSo, to_answer, share}
+use Rattle.flux_serve.specs.declared.replies.PendingReply.{PendingReply}
+use Rattle.flux_serve.specs.steps.PendingReplies.{IsReplySoFar, AreRepliesSoFar, to_answer, share}
 
 -- ---- shares
 
-module _ {K : Type 0} (workers flow : ℕ) (held : Held K) (rest : List (Held K)) where
-  abbrev more : ℕ → List (Due K)
-  more worker = share workers worker (flow_behind flow held.sent) rest
+module _ {K : Type 0} (workers flow : ℕ) (request : ReadLink K) (rest : List (ReadLink K)) where
+  abbrev more : ℕ → List (PendingReply K)
+  more worker = share workers worker (flow_behind flow request.sent) rest
 
   -- the first link is its worker's
-  pub share-own : (worker : ℕ) → flow % workers ≡ worker → share workers worker flow (held ∷ rest) ≡ to_answer held flow ∷ more worker
-  share-own worker own = ap (λ (b : Bool). (if b then to_answer held flow ∷ [] else []) ++ more worker) (eq-eqb (flow % workers) worker own)
+  pub share-own : (worker : ℕ) → flow % workers ≡ worker → share workers worker flow (request ∷ rest) ≡ to_answer request flow ∷ more worker
+  share-own worker own = ap (λ (b : Bool). (if b then to_answer request flow ∷ [] else []) ++ more worker) (eq-eqb (flow % workers) worker own)
 
   -- and no other one's
-  pub share-other : (worker : ℕ) → (flow % workers ≡ worker → ⊥) → share workers worker flow (held ∷ rest) ≡ more worker
-  share-other worker other = ap (λ (b : Bool). (if b then to_answer held flow ∷ [] else []) ++ more worker) (ne_eqb (flow % workers) worker other)
+  pub share-other : (worker : ℕ) → (flow % workers ≡ worker → ⊥) → share workers worker flow (request ∷ rest) ≡ more worker
+  share-other worker other = ap (λ (b : Bool). (if b then to_answer request flow ∷ [] else []) ++ more worker) (ne_eqb (flow % workers) worker other)
 
   -- dealt to its worker
-  pub dealt-own : (worker : ℕ) (before after all : List (Due K)) → flow % workers ≡ worker
-      → before ++ share workers worker flow (held ∷ rest) ≡ all → after ≡ before ++ to_answer held flow ∷ []
+  pub dealt-own : (worker : ℕ) (before after all : List (PendingReply K)) → flow % workers ≡ worker
+      → before ++ share workers worker flow (request ∷ rest) ≡ all → after ≡ before ++ to_answer request flow ∷ []
       → after ++ more worker ≡ all
   dealt-own worker before after all own so_far is =
-      ap (λ (l : List (Due K)). l ++ more worker) is ∙ append_assoc before (to_answer held flow ∷ []) (more worker)
-      ∙ ap (λ (l : List (Due K)). before ++ l) (sym (share-own worker own)) ∙ so_far
+      ap (λ (l : List (PendingReply K)). l ++ more worker) is ∙ append_assoc before (to_answer request flow ∷ []) (more worker)
+      ∙ ap (λ (l : List (PendingReply K)). before ++ l) (sym (share-own worker own)) ∙ so_far
 
-  pub dealt-other : (worker : ℕ) (before all : List (Due K)) → (flow % workers ≡ worker → ⊥)
-      → before ++ share workers worker flow (held ∷ rest) ≡ all → before ++ more worker ≡ all
-  dealt-other worker before all other so_far = ap (λ (l : List (Due K)). before ++ l) (sym (share-other worker other)) ∙ so_far
+  pub dealt-other : (worker : ℕ) (before all : List (PendingReply K)) → (flow % workers ≡ worker → ⊥)
+      → before ++ share workers worker flow (request ∷ rest) ≡ all → before ++ more worker ≡ all
+  dealt-other worker before all other so_far = ap (λ (l : List (PendingReply K)). before ++ l) (sym (share-other worker other)) ∙ so_far
 
 -- ---- links, each at its place
 
 module _ {K : Type 0} (see : K → Seen) where
   -- by places, and one after another
-  pub dues-each : (entries : List Entry) (old new : List (Due K)) → length new ≡ length old
-      → ((place : ℕ) (none : Due K) → place < length old → IsDueSo see entries (slice_index_or old place none) (slice_index_or new place none))
-      → AreDueSo see entries old new
-  dues-each entries [] [] same each = tt
-  dues-each entries [] (n ∷ new) same each = absurd (omega (arith, same))
-  dues-each entries (o ∷ old) [] same each = absurd (omega (arith, same))
-  dues-each entries (o ∷ old) (n ∷ new) same each =
-      (each zero o (omega arith), dues-each entries old new (omega (arith, same)) (λ place none below. each (suc place) none (omega (arith, below))))
+  pub replies-each : (entries : List Entry) (old new : List (PendingReply K)) → length new ≡ length old
+      → ((place : ℕ) (none : PendingReply K) → place < length old → IsReplySoFar see entries (slice_index_or old place none) (slice_index_or new place none))
+      → AreRepliesSoFar see entries old new
+  replies-each entries [] [] same each = tt
+  replies-each entries [] (n ∷ new) same each = absurd (omega (arith, same))
+  replies-each entries (o ∷ old) [] same each = absurd (omega (arith, same))
+  replies-each entries (o ∷ old) (n ∷ new) same each =
+      (each zero o (omega arith), replies-each entries old new (omega (arith, same)) (λ place none below. each (suc place) none (omega (arith, below))))
 
   -- what was so stays so, where more was seen
-  pub due-later : (entries more : List Entry) (old new : Due K) → IsDueSo see entries old new → IsDueSo see (entries ++ more) old new
-  due-later entries more old new (inl same) = inl same
-  due-later entries more old new (inr was) =
+  pub reply-later : (entries more : List Entry) (old new : PendingReply K) → IsReplySoFar see entries old new → IsReplySoFar see (entries ++ more) old new
+  reply-later entries more old new (inl same) = inl same
+  reply-later entries more old new (inr was) =
       let from = was.from in inr (record {
         sent_ = was.sent_;
         written_ = was.written_;
@@ -65,12 +65,12 @@ module _ {K : Type 0} (see : K → Seen) where
         };
       })
 
-  pub dues-later : (entries more : List Entry) (old new : List (Due K)) → AreDueSo see entries old new → AreDueSo see (entries ++ more) old new
-  dues-later entries more [] [] are = tt
-  dues-later entries more [] (n ∷ new) are = absurd are
-  dues-later entries more (o ∷ old) [] are = absurd are
-  dues-later entries more (o ∷ old) (n ∷ new) are = (due-later entries more o n are.0, dues-later entries more old new are.1)
+  pub replies-later : (entries more : List Entry) (old new : List (PendingReply K)) → AreRepliesSoFar see entries old new → AreRepliesSoFar see (entries ++ more) old new
+  replies-later entries more [] [] are = tt
+  replies-later entries more [] (n ∷ new) are = absurd are
+  replies-later entries more (o ∷ old) [] are = absurd are
+  replies-later entries more (o ∷ old) (n ∷ new) are = (reply-later entries more o n are.0, replies-later entries more old new are.1)
 
-  pub dues-same : (entries : List Entry) (dues : List (Due K)) → AreDueSo see entries dues dues
-  dues-same entries [] = tt
-  dues-same entries (due ∷ dues) = (inl refl, dues-same entries dues)
+  pub replies-same : (entries : List Entry) (replies : List (PendingReply K)) → AreRepliesSoFar see entries replies replies
+  replies-same entries [] = tt
+  replies-same entries (reply ∷ replies) = (inl refl, replies-same entries replies)

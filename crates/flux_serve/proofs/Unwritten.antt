@@ -1,10 +1,10 @@
 -- Links that were read, and not written.
 use Rattle.std.proofs.Common.{◌≡◌, ℕ, ◌+◌, ◌≤◌, List, [], ◌∷◌, length, length-append, map, refl, sym, subst, arith}
-use Rattle.flux_batches.specs.declared.framing.Framing.{Framing}
+use Rattle.flux_doors.specs.declared.framing.Framing.{Framing}
 use Rattle.flux_batches.specs.declared.reading.Sent.{Sent}
 use Rattle.flux_batches.specs.declared.reading.Sent.TheVariants.{Text, Failed, Memory}
-use Rattle.flux_batches.specs.declared.reading.Held.{Held}
-use Rattle.flux_batches.specs.Links.{Seen, IsSent, AreHeld, item_sent, items_from}
+use Rattle.flux_batches.specs.declared.reading.ReadLink.{ReadLink}
+use Rattle.flux_batches.specs.Links.{Seen, IsSent, WereRead, item_sent, items_from}
 use Rattle.flux_serve.specs.Ends.{AreUnwritten}
 
 pub unwritten_same : {L : Type 0} → (see : L → Seen) (links : List L) → AreUnwritten see links links
@@ -16,11 +16,11 @@ sent_unwritten framing before after (Text text) is = is.2
 sent_unwritten framing before after Failed is = is.1
 sent_unwritten framing before after Memory is = is.1
 
-pub unwritten_held : {L : Type 0} → (see : L → Seen) (framing : Framing) (links : List L) (helds : List (Held L)) → AreHeld see framing links helds [] → AreUnwritten see links (map (λ held. held.link) helds)
-unwritten_held {L} see framing links [] is = let P : List L → Type 0 = λ l. AreUnwritten see l [] in subst P (sym is) tt
-unwritten_held see framing [] (held ∷ helds) is = absurd is
-unwritten_held see framing (link ∷ links) (held ∷ helds) is =
-    (is.0, sent_unwritten framing (see link) (see held.link) held.sent is.1, unwritten_held see framing links helds is.2)
+pub unwritten_request : {L : Type 0} → (see : L → Seen) (framing : Framing) (links : List L) (requests : List (ReadLink L)) → WereRead see framing links requests [] → AreUnwritten see links (map (λ request. request.link) requests)
+unwritten_request {L} see framing links [] is = let P : List L → Type 0 = λ l. AreUnwritten see l [] in subst P (sym is) tt
+unwritten_request see framing [] (request ∷ requests) is = absurd is
+unwritten_request see framing (link ∷ links) (request ∷ requests) is =
+    (is.0, sent_unwritten framing (see link) (see request.link) request.sent is.1, unwritten_request see framing links requests is.2)
 
 few_sent : (number : ℕ) (sent : Sent) → length (item_sent number sent) ≤ 1
 few_sent number (Text text) = omega arith
@@ -28,6 +28,6 @@ few_sent number Failed = omega arith
 few_sent number Memory = omega arith
 
 -- there are no more items than links
-pub few_items : {K : Type 0} → (number : ℕ) (helds : List (Held K)) → length (items_from number helds) ≤ length helds
+pub few_items : {K : Type 0} → (number : ℕ) (requests : List (ReadLink K)) → length (items_from number requests) ≤ length requests
 few_items number [] = omega arith
-few_items number (held ∷ helds) = omega (arith, length-append (item_sent number held.sent) (items_from (number + 1) helds), few_sent number held.sent, few_items (number + 1) helds)
+few_items number (request ∷ requests) = omega (arith, length-append (item_sent number request.sent) (items_from (number + 1) requests), few_sent number request.sent, few_items (number + 1) requests)

@@ -9,7 +9,7 @@ use Rattle.std.proofs.lemmas.List.{get_or-set_other, length-set, append-nil}
 use Rattle.flow_model.specs.declared.journals.Entry.{Entry}
 use Rattle.flow_core.specs.States.{CoreState}
 use Rattle.flow_core.specs.Runs.{GoesOn}
-use Rattle.flow_outings.specs.Outings.{AddsOwn}
+use Rattle.flow_turns.specs.Turns.{AddsOwn}
 use Rattle.flux_model.specs.declared.items.FlowNo.{FlowNo}
 use Rattle.flow_shared.specs.Journals.{BeginsWith}
 use Rattle.flow_shared.specs.States.{SharedState, SeatState}
@@ -19,11 +19,11 @@ use Rattle.flux_laws.specs.Growth.{has_ended}
 use Rattle.flux_outside.specs.Streams.{WroteOrBroke}
 use Rattle.flux_batches.specs.Links.{Seen, IsSame, stream_of}
 use Rattle.flux_batches.specs.Replies.{reply_of}
-use Rattle.flux_serve.specs.declared.dues.Due.{Due}
-use Rattle.flux_serve.specs.steps.Dues.{HasText, IsDueSo, AreDueSo}
-use Rattle.flux_serve.specs.declared.lanes.Lane.{Lane}
-use Rattle.flux_serve.specs.steps.Workers.{KeepsDue, KeepDues, HasSeat, HasWorked, WasJoined}
-use Rattle.flux_serve.proofs.Shares.{due-later, dues-each, dues-later}
+use Rattle.flux_serve.specs.declared.replies.PendingReply.{PendingReply}
+use Rattle.flux_serve.specs.steps.PendingReplies.{HasText, IsReplySoFar, AreRepliesSoFar}
+use Rattle.flux_serve.specs.declared.queues.WorkerQueue.{WorkerQueue}
+use Rattle.flux_serve.specs.steps.Workers.{KeepsReply, KeepReplies, HasSeat, HasWorked, WasJoined}
+use Rattle.flux_serve.proofs.Shares.{reply-later, replies-each, replies-later}
 
 -- ---- journals
 
@@ -64,22 +64,22 @@ other-default (x ∷ xs) zero one other below = refl
 other-default (x ∷ xs) (suc place) one other below = other-default xs place one other (omega (arith, below))
 
 module _ {K : Type 0} (see : K → Seen) where
-  pub due-so-later : (seen later : List Entry) (old new : Due K) → BeginsWith later seen → IsDueSo see seen old new → IsDueSo see later old new
-  due-so-later seen later old new begins is =
-      let P : List Entry → Type 0 = λ l. IsDueSo see l old new in subst P (sym begins.1) (due-later see seen begins.0 old new is)
+  pub reply-so-later : (seen later : List Entry) (old new : PendingReply K) → BeginsWith later seen → IsReplySoFar see seen old new → IsReplySoFar see later old new
+  reply-so-later seen later old new begins is =
+      let P : List Entry → Type 0 = λ l. IsReplySoFar see l old new in subst P (sym begins.1) (reply-later see seen begins.0 old new is)
 
-  pub dues-so-later : (seen later : List Entry) (old new : List (Due K)) → BeginsWith later seen → AreDueSo see seen old new → AreDueSo see later old new
-  dues-so-later seen later old new begins are =
-      let P : List Entry → Type 0 = λ l. AreDueSo see l old new in subst P (sym begins.1) (dues-later see seen begins.0 old new are)
+  pub replies-so-later : (seen later : List Entry) (old new : List (PendingReply K)) → BeginsWith later seen → AreRepliesSoFar see seen old new → AreRepliesSoFar see later old new
+  replies-so-later seen later old new begins are =
+      let P : List Entry → Type 0 = λ l. AreRepliesSoFar see l old new in subst P (sym begins.1) (replies-later see seen begins.0 old new are)
 
   -- a reply was written, of what a worker saw
-  pub replied-so : (seen : List Entry) (old new : Due K) → (let held = old.held in HasText held.sent)
-      → (let held = old.held in let held' = new.held in IsSame (see held.link) (see held'.link))
-      → (let held = old.held in let held' = new.held in held'.sent ≡ held.sent)
+  pub replied-so : (seen : List Entry) (old new : PendingReply K) → (let request = old.request in HasText request.sent)
+      → (let request = old.request in let request' = new.request in IsSame (see request.link) (see request'.link))
+      → (let request = old.request in let request' = new.request in request'.sent ≡ request.sent)
       → new.written ≡ true → (let flow = old.flow in has_ended seen flow.0 ≡ true)
-      → (let held = old.held in let held' = new.held in let flow = old.flow in
-      WroteOrBroke (stream_of (see held.link)) (stream_of (see held'.link)) (reply_of flow.0 seen))
-      → IsDueSo see seen old new
+      → (let request = old.request in let request' = new.request in let flow = old.flow in
+      WroteOrBroke (stream_of (see request.link)) (stream_of (see request'.link)) (reply_of flow.0 seen))
+      → IsReplySoFar see seen old new
   replied-so seen old new text same sent written ended wrote = inr (record {
     sent_ = sent;
     written_ = written;
@@ -88,48 +88,48 @@ module _ {K : Type 0} (see : K → Seen) where
   })
 
   -- a link that wasn't visited
-  pub keeps-none : (seen later : List Entry) (due : Due K) → BeginsWith later seen → KeepsDue see seen later due due
-  keeps-none seen later due begins first is = due-so-later seen later first due begins is
+  pub keeps-none : (seen later : List Entry) (reply : PendingReply K) → BeginsWith later seen → KeepsReply see seen later reply reply
+  keeps-none seen later reply begins first is = reply-so-later seen later first reply begins is
 
   -- one that was, and was open
-  pub keeps-visit : (seen later : List Entry) (old new : Due K) → old.written ≡ false → IsDueSo see later old new → KeepsDue see seen later old new
+  pub keeps-visit : (seen later : List Entry) (old new : PendingReply K) → old.written ≡ false → IsReplySoFar see later old new → KeepsReply see seen later old new
   keeps-visit seen later old new fresh so first (inl is) =
-      let P : Due K → Type 0 = λ due. IsDueSo see later due new in subst P is so
+      let P : PendingReply K → Type 0 = λ reply. IsReplySoFar see later reply new in subst P is so
   keeps-visit seen later old new fresh so first (inr was) = let no : false ≡ true = sym fresh ∙ was.written_ in absurd cc
 
-  pub keeps-then : (one two three : List Entry) (old mid new : List (Due K)) → length mid ≡ length old
-      → KeepDues see one two old mid → KeepDues see two three mid new → KeepDues see one three old new
-  keeps-then one two three old mid new same first second place none below due is =
-      second place none (subst (λ (n : ℕ). place < n) (sym same) below) due (first place none below due is)
+  pub keeps-then : (one two three : List Entry) (old mid new : List (PendingReply K)) → length mid ≡ length old
+      → KeepReplies see one two old mid → KeepReplies see two three mid new → KeepReplies see one three old new
+  keeps-then one two three old mid new same first second place none below reply is =
+      second place none (subst (λ (n : ℕ). place < n) (sym same) below) reply (first place none below reply is)
 
-  pub keep-all-none : (seen later : List Entry) (dues : List (Due K)) → BeginsWith later seen → KeepDues see seen later dues dues
-  keep-all-none seen later dues begins place none below = keeps-none seen later (slice_index_or dues place none) begins
+  pub keep-all-none : (seen later : List Entry) (replies : List (PendingReply K)) → BeginsWith later seen → KeepReplies see seen later replies replies
+  keep-all-none seen later replies begins place none below = keeps-none seen later (slice_index_or replies place none) begins
 
   -- the link at a place was visited
-  pub keeps-at : (one two three : List Entry) (old mid : List (Due K)) (at : ℕ) (new : Due K) → at < length mid → length mid ≡ length old
-      → BeginsWith three two → KeepDues see one two old mid → (or : Due K) → KeepsDue see two three (slice_index_or mid at or) new
-      → KeepDues see one three old (set mid at new)
-  keeps-at one two three old mid at new within same begins first or one_more place none below due is = by (cases_eq at place)
+  pub keeps-at : (one two three : List Entry) (old mid : List (PendingReply K)) (at : ℕ) (new : PendingReply K) → at < length mid → length mid ≡ length old
+      → BeginsWith three two → KeepReplies see one two old mid → (or : PendingReply K) → KeepsReply see two three (slice_index_or mid at or) new
+      → KeepReplies see one three old (set mid at new)
+  keeps-at one two three old mid at new within same begins first or one_more place none below reply is = by (cases_eq at place)
     where
-      P : Due K → Type 0
-      P d = IsDueSo see three due d
+      P : PendingReply K → Type 0
+      P d = IsReplySoFar see three reply d
 
-      by : (at ≡ place) ⊎ (at ≡ place → ⊥) → IsDueSo see three due (slice_index_or (set mid at new) place none)
+      by : (at ≡ place) ⊎ (at ≡ place → ⊥) → IsReplySoFar see three reply (slice_index_or (set mid at new) place none)
       by (inl equal) =
-          let Q : Due K → Type 0 = λ d. IsDueSo see two due d in
+          let Q : PendingReply K → Type 0 = λ d. IsReplySoFar see two reply d in
           let here : slice_index_or mid place none ≡ slice_index_or mid at or =
           other-default mid place none or (subst (λ (n : ℕ). place < n) (sym same) below) ∙ ap (λ (k : ℕ). slice_index_or mid k or) (sym equal) in
           subst P (sym (get_or-set_at mid at place new none (sym equal) within))
-          (one_more due (subst Q here (first place none below due is)))
+          (one_more reply (subst Q here (first place none below reply is)))
       by (inr apart) =
           subst P (sym (get_or-set_other mid at place new none (λ e. apart (sym e))))
-          (due-so-later two three due (slice_index_or mid place none) begins (first place none below due is))
+          (reply-so-later two three reply (slice_index_or mid place none) begins (first place none below reply is))
 
   -- all links of a worker, behind its work
-  pub keeps-are : (seen later : List Entry) (old new : List (Due K)) → length new ≡ length old → KeepDues see seen later old new → AreDueSo see later old new
-  keeps-are seen later old new same keep = dues-each see later old new same (λ place none below. keep place none below (slice_index_or old place none) (inl refl))
+  pub keeps-are : (seen later : List Entry) (old new : List (PendingReply K)) → length new ≡ length old → KeepReplies see seen later old new → AreRepliesSoFar see later old new
+  keeps-are seen later old new same keep = replies-each see later old new same (λ place none below. keep place none below (slice_index_or old place none) (inl refl))
 
--- ---- lists of lanes, one lane after another
+-- ---- lists of queues, one queue after another
 
 module _ {X : Type 0} (P : ℕ → X → X → Type 0) (xs : List X) (at : ℕ) (x : X) (within : at < length xs) (own : (none : X) → P at none x) where
   -- what holds of all below a place, and of the one there
@@ -173,27 +173,27 @@ some-later seen later begins None is = tt
 some-later seen later begins (Some o) is = begins-more o.seen seen later is begins
 
 module _ {L K : Type 0} where
-  pub joined-later : (seat later : SeatState L) (old new : Lane (SeatState L) K) → BeginsWith later.seen seat.seen → WasJoined seat old new → WasJoined later old new
+  pub joined-later : (seat later : SeatState L) (old new : WorkerQueue (SeatState L) K) → BeginsWith later.seen seat.seen → WasJoined seat old new → WasJoined later old new
   joined-later seat later old new begins was = record {
     seen_ = some-later seat.seen later.seen begins old.seat was.seen_;
-    dues_ = was.dues_;
+    replies_ = was.replies_;
   }
 
   -- a worker did its work, its seat was joined, and the core went on
-  pub worked-joined : (see : K → Seen) (shared : SharedState L) (entries : List Entry) (seat : SeatState L) (first seated worked joined : Lane (SeatState L) K)
-      → seated.dues ≡ first.dues → HasWorked see shared seated worked → WasJoined seat worked joined → BeginsWith entries seat.seen
-      → (let dues = first.dues in let dues' = joined.dues in AreDueSo see entries dues.items dues'.items)
+  pub worked-joined : (see : K → Seen) (shared : SharedState L) (entries : List Entry) (seat : SeatState L) (first seated worked joined : WorkerQueue (SeatState L) K)
+      → seated.replies ≡ first.replies → HasWorked see shared seated worked → WasJoined seat worked joined → BeginsWith entries seat.seen
+      → (let replies = first.replies in let replies' = joined.replies in AreRepliesSoFar see entries replies.items replies'.items)
   worked-joined see shared entries seat first seated worked joined same has was begins =
       let own = has.seat in
       let S : Option (SeatState L) → Type 0 = λ o. IfSome o (λ other. BeginsWith seat.seen other.seen) in
       let saw : BeginsWith seat.seen own.seen = subst S has.seat_ was.seen_ in
-      let old = seated.dues in let mid = worked.dues in
-      let are = dues-so-later see own.seen entries old.items mid.items (begins-more own.seen seat.seen entries saw begins) has.dues_ in
-      let N : VecDeque (Due K) Global → Type 0 = λ d. AreDueSo see entries old.items d.items in
-      let dues' = joined.dues in
-      let O : VecDeque (Due K) Global → Type 0 = λ d. AreDueSo see entries d.items dues'.items in
-      subst O same (subst N (sym was.dues_) are)
+      let old = seated.replies in let mid = worked.replies in
+      let are = replies-so-later see own.seen entries old.items mid.items (begins-more own.seen seat.seen entries saw begins) has.replies_ in
+      let N : VecDeque (PendingReply K) Global → Type 0 = λ d. AreRepliesSoFar see entries old.items d.items in
+      let replies' = joined.replies in
+      let O : VecDeque (PendingReply K) Global → Type 0 = λ d. AreRepliesSoFar see entries d.items replies'.items in
+      subst O same (subst N (sym was.replies_) are)
 
-  -- a lane has its seat behind the work, too
-  pub has-worked : (see : K → Seen) (shared : SharedState L) (old new : Lane (SeatState L) K) → HasWorked see shared old new → HasSeat shared new
+  -- a queue has its seat behind the work, too
+  pub has-worked : (see : K → Seen) (shared : SharedState L) (old new : WorkerQueue (SeatState L) K) → HasWorked see shared old new → HasSeat shared new
   has-worked see shared old new has = record { seat = has.seat; seat_ = has.seat_; shared_ = has.shared_ }

@@ -8,8 +8,8 @@ use Rattle.flux_outside.specs.Streams.{WroteOrBroke}
 use Rattle.flux_batches.specs.declared.reading.Sent.{Sent}
 use Rattle.flux_batches.specs.declared.reading.Sent.TheVariants.{Text, Failed}
 use Rattle.flux_batches.specs.declared.reading.Sent.TheVariants as sents
-use Rattle.flux_batches.specs.declared.reading.Held.{Held}
-use Rattle.flux_batches.specs.Links.{Seen, IsSame, AreHeld, AreRead, stream_of}
+use Rattle.flux_batches.specs.declared.reading.ReadLink.{ReadLink}
+use Rattle.flux_batches.specs.Links.{Seen, IsSame, WereRead, AreRead, stream_of}
 use Rattle.flux_batches.specs.Replies.{reply_of, flow_behind, TakesBack}
 use Rattle.flux_batches.specs.Gathered.{AreGathered}
 use Rattle.flux_serve.specs.declared.batches.ServeEnd.{ServeEnd}
@@ -30,15 +30,15 @@ IsAnsweredSoFar entries flow before after Failed = stream_of after ≡ stream_of
 IsAnsweredSoFar entries flow before after sents.Memory = stream_of after ≡ stream_of before
 
 -- links were answered so far, from a flow on, and given back as these, each at its place
-abbrev pub AreAnsweredSoFar : {K : Type 0} → (K → Seen) → List Entry → ℕ → List (Held K) → List K
+abbrev pub AreAnsweredSoFar : {K : Type 0} → (K → Seen) → List Entry → ℕ → List (ReadLink K) → List K
     → Type 0
 AreAnsweredSoFar see entries flow [] [] = Unit {0}
 AreAnsweredSoFar see entries flow [] (back ∷ backs) = ⊥
-AreAnsweredSoFar see entries flow (held ∷ rest) [] = ⊥
-AreAnsweredSoFar see entries flow (held ∷ rest) (back ∷ backs) =
-    IsSame (see held.link) (see back)
-    × IsAnsweredSoFar entries flow (see held.link) (see back) held.sent
-    × AreAnsweredSoFar see entries (flow_behind flow held.sent) rest backs
+AreAnsweredSoFar see entries flow (request ∷ rest) [] = ⊥
+AreAnsweredSoFar see entries flow (request ∷ rest) (back ∷ backs) =
+    IsSame (see request.link) (see back)
+    × IsAnsweredSoFar entries flow (see request.link) (see back) request.sent
+    × AreAnsweredSoFar see entries (flow_behind flow request.sent) rest backs
 
 -- a batch that was broken off: its links are the first of the door's next batch, one to 64; they were
 -- read, answered so far by one legal journal of its items, which isn't whole, and given back; the log and
@@ -47,14 +47,14 @@ pub record IsBegun {L : Type 0} (see : L → Seen) (service : Service) (opening 
     (batch : Batch L) (before after : Sight L) : Type 0 where
   pub formed : AreGathered before.to_come after.to_come before.late after.late batch.came
   pub size : (0 < length batch.came) × (length batch.came ≤ 64)
-  pub read : AreHeld see service.framing batch.came batch.held []
-  pub each : AreRead batch.held
+  pub read : WereRead see service.framing batch.came batch.requests []
+  pub each : AreRead batch.requests
   pub legal : let journal = batch.journal in
       IsLegal (batch_setup service opening (batch_items number batch)) journal.entries
   pub unfinished : let journal = batch.journal in
       IsWhole (batch_setup service opening (batch_items number batch)) journal.entries → ⊥
   pub replies : let journal = batch.journal in
-      AreAnsweredSoFar see journal.entries 0 batch.held batch.back
+      AreAnsweredSoFar see journal.entries 0 batch.requests batch.back
   pub back : TakesBack before.taken_back after.taken_back batch.back
   pub steady : after.faults ≡ before.faults
   pub log_ : after.log ≡ before.log

@@ -11,9 +11,9 @@ use Rattle.flow_model.specs.CellsAfter.{cells_after}
 use Rattle.flow_model.specs.Legal.{IsLegal, IsWhole}
 use Rattle.flux_laws.specs.Hoisted.{locks_of}
 use Rattle.flux_journal.specs.Logs.{printed_batch}
-use Rattle.flux_batches.specs.declared.framing.Framing.{Framing}
-use Rattle.flux_batches.specs.declared.reading.Held.{Held}
-use Rattle.flux_batches.specs.Links.{Seen, AreHeld, AreRead, items_from}
+use Rattle.flux_doors.specs.declared.framing.Framing.{Framing}
+use Rattle.flux_batches.specs.declared.reading.ReadLink.{ReadLink}
+use Rattle.flux_batches.specs.Links.{Seen, WereRead, AreRead, items_from}
 use Rattle.flux_batches.specs.Replies.{AreAnswered}
 
 -- what is served: a program, how its links are read, and what its library means
@@ -36,26 +36,26 @@ batch_setup service opening items = record {
 -- a batch: its links as they came, as they were read and as they went back, and its journal
 pub record Batch (L : Type 0) : Type 0 where
   pub came : List L
-  pub held : List (Held L)
+  pub requests : List (ReadLink L)
   pub back : List L
   pub journal : Journal
 
 -- its items: the numbers of its links, from one on, and their texts
 abbrev pub batch_items : {L : Type 0} → ℕ → Batch L → List Item
-batch_items number batch = items_from number batch.held
+batch_items number batch = items_from number batch.requests
 
 -- its links were read, its journal is legal and whole for its items from these cells, and each link
 -- was written the reply of its flow
 pub record IsDriven {L : Type 0} (see : L → Seen) (service : Service) (opening : Cells) (number : ℕ)
     (batch : Batch L) : Type 0 where
-  pub read : AreHeld see service.framing batch.came batch.held []
-  pub each : AreRead batch.held
+  pub read : WereRead see service.framing batch.came batch.requests []
+  pub each : AreRead batch.requests
   pub legal : let journal = batch.journal in
       IsLegal (batch_setup service opening (batch_items number batch)) journal.entries
   pub whole : let journal = batch.journal in
       IsWhole (batch_setup service opening (batch_items number batch)) journal.entries
   pub replies : let journal = batch.journal in
-      AreAnswered see journal.entries 0 batch.held batch.back []
+      AreAnswered see journal.entries 0 batch.requests batch.back []
 
 -- ---- behind a batch
 
@@ -66,7 +66,7 @@ cells_behind service opening number batch = let journal = batch.journal in
 
 -- the number of the next link
 abbrev pub number_behind : {L : Type 0} → ℕ → Batch L → ℕ
-number_behind number batch = number + length batch.held
+number_behind number batch = number + length batch.requests
 
 -- its text in the log
 abbrev pub batch_text : {L : Type 0} → Service → ℕ → ℕ → Batch L → List ℕ

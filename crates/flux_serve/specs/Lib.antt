@@ -1,5 +1,6 @@
 pub mod Served
 pub mod Batches
+pub mod Runs
 pub mod Ends
 pub mod AtOnce
 pub mod steps

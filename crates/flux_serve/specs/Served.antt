@@ -6,7 +6,7 @@ use Rattle.flux_model.specs.Kinds.{NodeKinds}
 use Rattle.flux_model.specs.Soundness.{IsSound}
 use Rattle.flux_plan.specs.declared.plans.Plan.{Plan}
 use Rattle.flux_plan.specs.Runs.{ArePlansOf}
-use Rattle.flux_batches.specs.declared.framing.Framing.{Framing}
+use Rattle.flux_doors.specs.declared.framing.Framing.{Framing}
 use Rattle.flux_sources.specs.Sources.{IsServed}
 
 -- a sound program with its plans, and with one source by whose role links are read

@@ -1,4 +1,5 @@
 pub mod Batches
-pub mod Dues
+pub mod Driving
+pub mod PendingReplies
 pub mod Turns
 pub mod Workers

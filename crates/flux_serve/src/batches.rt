@@ -1,4 +1,4 @@
-//! One batch: taken, driven, answered and logged.
+//! One batch: taken, run, answered and logged.
 
 ghost use Rattle.std.specs.Prelude.{◌≡◌, ◌+◌, ◌^◌, ◌<◌, ◌≤◌, IfOk, IfErr, OnOk, OnErr};
 ghost use Rattle.std.specs.VecDeque.{deque_len};
@@ -9,17 +9,16 @@ ghost use Rattle.flux_outside.specs.Streams.{Stream, Wrote};
 ghost use Rattle.flux_journal.specs.Logs.{printed_batch};
 ghost use Rattle.flux_batches.specs.Links.{seen_by, AreRead, items_from};
 ghost use Rattle.flux_serve.specs.Batches.{batch_setup};
-ghost use Rattle.flux_serve.specs.Ends.{HasStopped};
-ghost use Rattle.flux_serve.specs.steps.Batches.{sight_in, service_in, MayServe, IsTaken, IsNone, HasFinished, HasRun, HasPassed};
+ghost use Rattle.flux_serve.specs.Runs.{MayRun, Runs};
+ghost use Rattle.flux_serve.specs.steps.Batches.{sight_in, service_in, IsTaken, IsNone, HasFinished, HasRun};
 
-use crate::runs::{Served, run};
-use flow_core::{Gate, Runtime};
+use crate::runs::{Served, run_items};
 use flow_model::Journal;
 use flux_batches::{
-    Framing, Held, NoBatch, answer_links, gather, give_back, give_back_held, items_of, read_links,
+    NoBatch, ReadLink, answer_links, gather, give_back, give_back_read, items_of, read_links,
 };
 use flux_cells::Cells;
-use flux_doors::Door;
+use flux_doors::{Door, Framing};
 use flux_journal::print_batch;
 use flux_library::Library;
 use flux_model::{Item, Program};
@@ -28,7 +27,6 @@ use flux_values::{List, Memory};
 use std::alloc::Global;
 use std::collections::VecDeque;
 use std::marker::Sync;
-use std::sync::Wait;
 use std::thread::Threads;
 
 /// How serving ended.
@@ -60,12 +58,13 @@ pub fn take<D: Door, Rt: Threads + Sync>(
     alloc: Global,
     door: &mut D,
     framing: Framing,
-) -> Result<VecDeque<Held<D::Link>>, ServeEnd>
+) -> Result<VecDeque<ReadLink<D::Link>>, ServeEnd>
     requires { D.out door.old ≡ 0 }
-    ensures taken { IfOk result (λ held. IsTaken
+    ensures taken { IfOk result (λ requests. IsTaken
         (seen_by D.Link.had D.Link.left D.Link.written D.Link.faults)
-        framing (D.to_come door.old) (D.to_come door.new) (D.late door.old) (D.late door.new) held.items) }
-    ensures out { IfOk result (λ held. (D.out door.new ≡ deque_len held) × (deque_len held ≤ 64)) }
+        framing (D.to_come door.old) (D.to_come door.new) (D.late door.old) (D.late door.new) requests.items) }
+    ensures out { IfOk result (λ requests. (D.out door.new ≡ deque_len requests) × (deque_len requests ≤ 64)) }
+    ensures some { IfOk result (λ requests. 0 < deque_len requests) }
     ensures back { OnOk result (D.taken_back door.new ≡ D.taken_back door.old) }
     ensures open { D.open_at door.new ≡ D.open_at door.old }
     ensures steady { OnOk result (D.faults door.new ≡ D.faults door.old) }
@@ -83,7 +82,7 @@ pub fn take<D: Door, Rt: Threads + Sync>(
         Err(NoBatch::Memory) => return Err(ServeEnd::Memory),
     };
     match read_links(rt, alloc, links, framing) {
-        Ok(held) => Ok(held),
+        Ok(requests) => Ok(requests),
         Err(links) => {
             give_back(door, links);
             Err(ServeEnd::Memory)
@@ -91,22 +90,26 @@ pub fn take<D: Door, Rt: Threads + Sync>(
     }
 }
 
-/// Drives the items of links from the cells that the batch before left.
-fn run_links<K, L: Library, R: Runtime, G: Gate, Rt: Threads + Wait + Sync>(
-    rt: &Rt,
+/// Runs the items of links from the cells that the batch before left.
+fn run_links<
+    K,
+    L: Library,
+    S,
+    F: Fn(&mut S, List<Item>, Cells) -> Result<(Journal, Cells), Memory>,
+>(
     alloc: Global,
     served: &Served<L>,
-    runtime: &mut R,
-    gate: &G,
-    links: &VecDeque<Held<K>>,
+    state: &mut S,
+    run: &F,
+    links: &VecDeque<ReadLink<K>>,
     number: u64,
     opening: Cells,
 ) -> Result<Run, Memory>
-    requires can { MayServe L.meaning served.now }
-    requires ready { R.ready runtime.old }
+    requires may { MayRun F.Fn run.now state.old }
+    requires runs { Runs F.Fn run.now (service_in L.meaning served.now) }
     requires few { deque_len links.now ≤ 64 }
     requires numbers { number + 64 < 2 ^ 63 }
-    ensures again { R.ready runtime.new }
+    ensures again { MayRun F.Fn run.now state.new }
     ensures items { IfOk result (λ run. run.items ≡ items_from number links.now.items) }
     ensures next { IfOk result (λ run. run.next ≡ number + deque_len links.now) }
     ensures read { OnOk result (AreRead links.now.items) }
@@ -120,7 +123,7 @@ fn run_links<K, L: Library, R: Runtime, G: Gate, Rt: Threads + Wait + Sync>(
     let items = items_of(alloc, links, number)?;
     let kept = items_of(alloc, links, number)?;
     let next = number + links.len() as u64;
-    let (journal, cells) = run(rt, alloc, served, runtime, gate, items, opening)?;
+    let (journal, cells) = run_items(served, state, run, items, opening)?;
     Ok(Run {
         items: kept,
         journal,
@@ -129,22 +132,28 @@ fn run_links<K, L: Library, R: Runtime, G: Gate, Rt: Threads + Wait + Sync>(
     })
 }
 
-/// Drives the next batch to its end, and answers its links.
-fn drive_batch<L: Library, D: Door, R: Runtime, G: Gate, Rt: Threads + Wait + Sync>(
+/// Runs the next batch to its end, and answers its links.
+pub fn drive_batch<
+    L: Library,
+    D: Door,
+    S,
+    F: Fn(&mut S, List<Item>, Cells) -> Result<(Journal, Cells), Memory>,
+    Rt: Threads + Sync,
+>(
     rt: &Rt,
     alloc: Global,
     served: &Served<L>,
     door: &mut D,
-    runtime: &mut R,
-    gate: &G,
+    state: &mut S,
+    run: &F,
     opening: Cells,
     number: u64,
 ) -> Result<Run, ServeEnd>
-    requires can { MayServe L.meaning served.now }
-    requires ready { R.ready runtime.old }
+    requires may { MayRun F.Fn run.now state.old }
+    requires runs { Runs F.Fn run.now (service_in L.meaning served.now) }
     requires out { D.out door.old ≡ 0 }
     requires numbers { number + 64 < 2 ^ 63 }
-    ensures again { R.ready runtime.new }
+    ensures again { MayRun F.Fn run.now state.new }
     ensures out { D.out door.new ≡ 0 }
     ensures open { D.open_at door.new ≡ D.open_at door.old }
     ensures later { (D.faults door.old ≤ D.faults door.new) × (D.late door.old ≤ D.late door.new) }
@@ -163,13 +172,13 @@ fn drive_batch<L: Library, D: Door, R: Runtime, G: Gate, Rt: Threads + Wait + Sy
         Ok(links) => links,
         Err(end) => return Err(end),
     };
-    match run_links(rt, alloc, served, runtime, gate, &links, number, opening) {
+    match run_links(alloc, served, state, run, &links, number, opening) {
         Ok(run) => {
             answer_links(rt, door, links, run.journal.entries.as_slice());
             Ok(run)
         }
         Err(_) => {
-            give_back_held(door, links);
+            give_back_read(door, links);
             Err(ServeEnd::Memory)
         }
     }
@@ -223,47 +232,6 @@ pub fn log_batch<O: Sink>(
 {
     match write_batch(alloc, program, log, count, &run) {
         Ok(()) => Ok((run.cells, run.next)),
-        Err(end) => Err(end),
-    }
-}
-
-/// Serves the next batch: gives the cells at its end, and the number of the link behind its links.
-pub fn serve_batch<L: Library, D: Door, O: Sink, R: Runtime, G: Gate, Rt: Threads + Wait + Sync>(
-    rt: &Rt,
-    alloc: Global,
-    served: &Served<L>,
-    door: &mut D,
-    log: &mut O,
-    runtime: &mut R,
-    gate: &G,
-    opening: Cells,
-    count: u32,
-    number: u64,
-) -> Result<(Cells, u64), ServeEnd>
-    requires can { MayServe L.meaning served.now }
-    requires ready { R.ready runtime.old }
-    requires out { D.out door.old ≡ 0 }
-    requires numbers { number + 64 < 2 ^ 63 }
-    ensures again { R.ready runtime.new }
-    ensures out { D.out door.new ≡ 0 }
-    ensures open { D.open_at door.new ≡ D.open_at door.old }
-    ensures later { (D.faults door.old ≤ D.faults door.new) × (D.late door.old ≤ D.late door.new) }
-    ensures later_log { O.faults log.old ≤ O.faults log.new }
-    ensures bound { IfOk result (λ next. next.1 ≤ number + 64) }
-    ensures passed { IfOk result (λ next. HasPassed
-        (seen_by D.Link.had D.Link.left D.Link.written D.Link.faults)
-        (service_in L.meaning served.now) (cells_of opening) count number
-        (sight_in D.to_come D.taken_back D.faults D.late door.old (record { written = O.written log.old; faults = O.faults log.old }))
-        (sight_in D.to_come D.taken_back D.faults D.late door.new (record { written = O.written log.new; faults = O.faults log.new }))
-        (cells_of next.0) next.1) }
-    ensures stopped { IfErr result (HasStopped
-        (seen_by D.Link.had D.Link.left D.Link.written D.Link.faults)
-        (service_in L.meaning served.now) (cells_of opening) count number
-        (sight_in D.to_come D.taken_back D.faults D.late door.old (record { written = O.written log.old; faults = O.faults log.old }))
-        (sight_in D.to_come D.taken_back D.faults D.late door.new (record { written = O.written log.new; faults = O.faults log.new }))) }
-{
-    match drive_batch(rt, alloc, served, door, runtime, gate, opening, number) {
-        Ok(run) => log_batch(alloc, &served.program, log, count, run),
         Err(end) => Err(end),
     }
 }

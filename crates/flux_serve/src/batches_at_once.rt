@@ -10,22 +10,21 @@ ghost use Rattle.flux_outside.specs.Streams.{Stream};
 ghost use Rattle.flow_core.specs.States.{opened, setup_in};
 ghost use Rattle.flux_batches.specs.Links.{seen_by, AreRead, items_from};
 ghost use Rattle.flux_batches.specs.Replies.{TakesBack};
-ghost use Rattle.flux_serve.specs.steps.Batches.{sight_in, service_in, MayServe, HasRun, HasPassed, IsNoneAtOnce, StopsAtOnce};
-ghost use Rattle.flux_serve.specs.steps.Dues.{IsEmptyLane, AreBack};
+ghost use Rattle.flux_serve.specs.steps.Batches.{sight_in, service_in, MayServe, HasRun, IsNoneAtOnce};
+ghost use Rattle.flux_serve.specs.steps.PendingReplies.{IsEmptyQueue, AreBack};
 
-use crate::batches::{Run, ServeEnd, log_batch, take};
-use crate::lanes::{Lane, deal, empty_lanes, give_back_dues};
+use crate::batches::{Run, ServeEnd, take};
+use crate::queues::{WorkerQueue, deal, empty_queues, give_back_links};
 use crate::runs::{Served, open};
 use crate::workers::drive;
 use flow_core::{Core, Gate, none_live_is_whole};
 use flow_model::Journal;
 use flow_shared::SharedSeat;
-use flux_batches::{Held, LINK_LIMIT, give_back_held, items_of};
+use flux_batches::{LINK_LIMIT, ReadLink, give_back_read, items_of};
 use flux_cells::Cells;
 use flux_doors::Door;
 use flux_library::Library;
 use flux_model::Item;
-use flux_outside::Sink;
 use flux_values::{List, Memory};
 use std::alloc::Global;
 use std::collections::VecDeque;
@@ -38,7 +37,7 @@ use std::thread::Threads;
 fn begin<K, L: Library>(
     alloc: Global,
     served: &Served<L>,
-    links: &VecDeque<Held<K>>,
+    links: &VecDeque<ReadLink<K>>,
     number: u64,
     opening: Cells,
 ) -> Result<(Core<L>, List<Item>), Memory>
@@ -56,15 +55,15 @@ fn begin<K, L: Library>(
     Ok((core, kept))
 }
 
-/// What a batch's run needs: the core of its items, those items, and a lane for each worker.
+/// What a batch's run needs: the core of its items, those items, and a queue for each worker.
 fn prepare<K: Drop, L: Library>(
     alloc: Global,
     served: &Served<L>,
-    links: &VecDeque<Held<K>>,
+    links: &VecDeque<ReadLink<K>>,
     number: u64,
     opening: Cells,
     workers: u8,
-) -> Result<(Core<L>, List<Item>, Vec<Lane<SharedSeat<L>, K>>), Memory>
+) -> Result<(Core<L>, List<Item>, Vec<WorkerQueue<SharedSeat<L>, K>>), Memory>
     requires can { MayServe L.meaning served.now }
     requires few { deque_len links.now ≤ 64 }
     requires numbers { number + 64 < 2 ^ 63 }
@@ -73,25 +72,25 @@ fn prepare<K: Drop, L: Library>(
     ensures items { IfOk result (λ all. all.1 ≡ items_from number links.now.items) }
     ensures read { OnOk result (AreRead links.now.items) }
     ensures count { IfOk result (λ all. vec_len all.2 ≡ workers) }
-    ensures empty { IfOk result (λ all. All (IsEmptyLane (deque_len links.now)) all.2.items) }
+    ensures empty { IfOk result (λ all. All (IsEmptyQueue (deque_len links.now)) all.2.items) }
 {
     let (core, items) = begin(alloc, served, links, number, opening)?;
-    let lanes = empty_lanes(alloc, workers, links.len())?;
-    Ok((core, items, lanes))
+    let queues = empty_queues(alloc, workers, links.len())?;
+    Ok((core, items, queues))
 }
 
 /// Drives a batch by its workers, answers its links, and gives them back. Says whether it was driven whole.
-fn run_lanes<L: Library + Send + Sync, D: Door, G: Gate + Sync, Rt: Threads + Wait + Sync>(
+fn run_queues<L: Library + Send + Sync, D: Door, G: Gate + Sync, Rt: Threads + Wait + Sync>(
     rt: &Rt,
     alloc: Global,
     core: Core<L>,
-    lanes: &mut [Lane<SharedSeat<L>, D::Link>],
-    links: VecDeque<Held<D::Link>>,
+    queues: &mut [WorkerQueue<SharedSeat<L>, D::Link>],
+    links: VecDeque<ReadLink<D::Link>>,
     door: &mut D,
     gate: &G,
 ) -> (Journal, Cells, bool)
-    requires some { 0 < length lanes.old }
-    requires empty { All (IsEmptyLane (deque_len links)) lanes.old }
+    requires some { 0 < length queues.old }
+    requires empty { All (IsEmptyQueue (deque_len links)) queues.old }
     requires few { deque_len links ≤ LINK_LIMIT }
     requires out { D.out door.old ≡ deque_len links }
     ensures out { D.out door.new ≡ 0 }
@@ -108,17 +107,38 @@ fn run_lanes<L: Library + Send + Sync, D: Door, G: Gate + Sync, Rt: Threads + Wa
 {
     let came = Snapshot::of(&links);
     let count = links.len();
-    deal(lanes, links);
-    let core = drive(rt, alloc, core, lanes, gate);
+    deal(queues, links);
+    let core = drive(rt, alloc, core, queues, gate);
     none_live_is_whole::<L>();
     let whole = core.live() == 0;
     let (journal, cells) = core.into_parts();
-    give_back_dues(door, lanes, &came, count, journal.entries.as_slice(), whole);
+    give_back_links(
+        door,
+        queues,
+        &came,
+        count,
+        journal.entries.as_slice(),
+        whole,
+    );
     (journal, cells, whole)
 }
 
+/// How many workers a batch of some links has: no more than links.
+fn worker_count(workers: u8, links: usize) -> u8
+    requires some { 0 < workers }
+    requires some_links { 0 < links }
+    ensures some { 0 < result }
+    ensures few { (result ≤ workers) × (result ≤ links) }
+{
+    if links < workers as usize {
+        links as u8
+    } else {
+        workers
+    }
+}
+
 /// Drives the next batch by its workers, and answers each link as soon as its flow has its `end`.
-fn drive_batch_at_once<
+pub fn drive_batch_at_once<
     L: Library + Send + Sync,
     D: Door,
     G: Gate + Sync,
@@ -156,20 +176,21 @@ fn drive_batch_at_once<
         Ok(links) => links,
         Err(end) => return Err(end),
     };
-    let (core, items, lanes) = match prepare(alloc, served, &links, number, opening, workers) {
+    let workers = worker_count(workers, links.len());
+    let (core, items, queues) = match prepare(alloc, served, &links, number, opening, workers) {
         Ok(prepared) => prepared,
         Err(_) => {
-            give_back_held(door, links);
+            give_back_read(door, links);
             return Err(ServeEnd::Memory);
         }
     };
-    let mut lanes = lanes;
+    let mut queues = queues;
     let next = number + links.len() as u64;
-    let (journal, cells, whole) = run_lanes(
+    let (journal, cells, whole) = run_queues(
         rt,
         alloc,
         core,
-        lanes.as_mut_slice(),
+        queues.as_mut_slice(),
         links,
         door,
         gate,
@@ -184,52 +205,5 @@ fn drive_batch_at_once<
         Ok(run)
     } else {
         Err(ServeEnd::Memory)
-    }
-}
-
-/// Serves the next batch, each link as soon as its flow has its `end`: gives the cells at its end, and the number of the link
-/// behind its links.
-pub fn serve_batch_at_once<
-    L: Library + Send + Sync,
-    D: Door,
-    O: Sink,
-    G: Gate + Sync,
-    Rt: Threads + Wait + Sync,
->(
-    rt: &Rt,
-    alloc: Global,
-    served: &Served<L>,
-    door: &mut D,
-    log: &mut O,
-    workers: u8,
-    gate: &G,
-    opening: Cells,
-    count: u32,
-    number: u64,
-) -> Result<(Cells, u64), ServeEnd>
-    requires can { MayServe L.meaning served.now }
-    requires some { 0 < workers }
-    requires out { D.out door.old ≡ 0 }
-    requires numbers { number + 64 < 2 ^ 63 }
-    ensures out { D.out door.new ≡ 0 }
-    ensures open { D.open_at door.new ≡ D.open_at door.old }
-    ensures later { (D.faults door.old ≤ D.faults door.new) × (D.late door.old ≤ D.late door.new) }
-    ensures later_log { O.faults log.old ≤ O.faults log.new }
-    ensures bound { IfOk result (λ next. next.1 ≤ number + 64) }
-    ensures passed { IfOk result (λ next. HasPassed
-        (seen_by D.Link.had D.Link.left D.Link.written D.Link.faults)
-        (service_in L.meaning served.now) (cells_of opening) count number
-        (sight_in D.to_come D.taken_back D.faults D.late door.old (record { written = O.written log.old; faults = O.faults log.old }))
-        (sight_in D.to_come D.taken_back D.faults D.late door.new (record { written = O.written log.new; faults = O.faults log.new }))
-        (cells_of next.0) next.1) }
-    ensures stopped { IfErr result (StopsAtOnce
-        (seen_by D.Link.had D.Link.left D.Link.written D.Link.faults)
-        (service_in L.meaning served.now) (cells_of opening) count number
-        (sight_in D.to_come D.taken_back D.faults D.late door.old (record { written = O.written log.old; faults = O.faults log.old }))
-        (sight_in D.to_come D.taken_back D.faults D.late door.new (record { written = O.written log.new; faults = O.faults log.new }))) }
-{
-    match drive_batch_at_once(rt, alloc, served, door, workers, gate, opening, number) {
-        Ok(run) => log_batch(alloc, &served.program, log, count, run),
-        Err(end) => Err(end),
     }
 }

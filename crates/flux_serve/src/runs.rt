@@ -10,11 +10,13 @@ ghost use Rattle.flux_batches.specs.Links.{IsLinkItem};
 ghost use Rattle.flux_serve.specs.Served.{CanServe};
 ghost use Rattle.flow_core.specs.States.{opened};
 ghost use Rattle.flux_serve.specs.Batches.{Service, batch_setup};
+ghost use Rattle.flux_serve.specs.Runs.{MayRun, Runs};
+ghost use Rattle.flux_serve.specs.steps.Batches.{service_in};
 
 use flow_core::{Core, Gate, Runtime, Setup};
 use flow_model::Journal;
-use flux_batches::Framing;
 use flux_cells::Cells;
+use flux_doors::Framing;
 use flux_library::Library;
 use flux_model::{Item, Program};
 use flux_plan::VerifiedPlan;
@@ -85,4 +87,29 @@ pub fn run<L: Library, R: Runtime, G: Gate, Rt: Threads + Wait + Sync>(
         Ok(core) => Ok(core.into_parts()),
         Err(_) => Err(Memory),
     }
+}
+
+/// Runs a batch's items by a call.
+pub fn run_items<
+    L: Library,
+    S,
+    F: Fn(&mut S, List<Item>, Cells) -> Result<(Journal, Cells), Memory>,
+>(
+    served: &Served<L>,
+    state: &mut S,
+    run: &F,
+    items: List<Item>,
+    opening: Cells,
+) -> Result<(Journal, Cells), Memory>
+    requires may { MayRun F.Fn run.now state.old }
+    requires runs { Runs F.Fn run.now (service_in L.meaning served.now) }
+    requires items { AllByRecursion IsLinkItem items }
+    requires few { length items ≤ 4096 }
+    ensures again { MayRun F.Fn run.now state.new }
+    ensures legal { IfOk result (λ run. IsLegal (batch_setup (service_in L.meaning served.now) (cells_of opening) items) run.0.entries) }
+    ensures whole { IfOk result (λ run. IsWhole (batch_setup (service_in L.meaning served.now) (cells_of opening) items) run.0.entries) }
+    ensures cells { IfOk result (λ run. cells_of run.1
+        ≡ cells_after (batch_setup (service_in L.meaning served.now) (cells_of opening) items) run.0.entries) }
+{
+    run(state, items, opening)
 }

@@ -1,26 +1,112 @@
-//! Batch after batch.
+//! Batches whose links are answered behind each.
 
-ghost use Rattle.std.specs.Prelude.{◌≡◌, ◌≤◌};
+ghost use Rattle.std.specs.Prelude.{◌≡◌, ◌+◌, ◌^◌, ◌<◌, ◌≤◌, length, IfOk, IfErr};
+ghost use Rattle.std.specs.List.{AllByRecursion};
 ghost use Rattle.std.specs.Arc.{arc_value};
-ghost use Rattle.flux_batches.specs.Links.{seen_by};
+ghost use Rattle.flux_cells.specs.Kept.{cells_of};
+ghost use Rattle.flux_outside.specs.Streams.{Stream};
+ghost use Rattle.flux_batches.specs.Links.{seen_by, IsLinkItem};
 ghost use Rattle.flux_serve.specs.Served.{CanServe};
 ghost use Rattle.flux_serve.specs.Batches.{Service};
+ghost use Rattle.flux_serve.specs.Runs.{IsRun, MayRun, Runs};
 ghost use Rattle.flux_serve.specs.Ends.{HasServed};
+ghost use Rattle.flux_serve.specs.steps.Batches.{sight_in, service_in, MayServe, HasRun, IsNone};
 
-use crate::batches::{ServeEnd, serve_batch};
-use crate::runs::Served;
+use crate::batches::{ServeEnd, drive_batch};
+use crate::loops::serve_batches;
+use crate::runs::{Served, run};
 use flow_core::{Gate, Runtime};
+use flow_model::Journal;
 use flux_cells::Cells;
 use flux_doors::Door;
 use flux_library::Library;
+use flux_model::Item;
 use flux_outside::Sink;
+use flux_values::{List, Memory};
 use std::alloc::Global;
 use std::marker::Sync;
 use std::sync::Wait;
 use std::thread::Threads;
 
-/// Serves so many batches of a door's links, until the door is closed or something fails. Each batch is driven from the cells
-/// that the one before left, answered, and then written on the log.
+/// Serves so many batches of a door's links, each run by a call, until the door is closed or something fails. Each batch is run
+/// from the cells that the one before left, answered, and then written on the log.
+///
+/// `serve` hands in a runtime's `drive`. What starts threads can't be met as a runtime, but may be handed in here.
+pub fn serve_by<
+    L: Library,
+    D: Door,
+    O: Sink,
+    S,
+    F: Fn(&mut S, List<Item>, Cells) -> Result<(Journal, Cells), Memory>,
+    Rt: Threads + Sync,
+>(
+    rt: &Rt,
+    alloc: Global,
+    served: &Served<L>,
+    door: &mut D,
+    log: &mut O,
+    state: &mut S,
+    run: &F,
+    batches: u32,
+) -> ServeEnd
+    requires may { MayRun F.Fn run.now state.old }
+    requires runs { Runs F.Fn run.now (service_in L.meaning served.now) }
+    requires out { D.out door.old ≡ 0 }
+    ensures again { MayRun F.Fn run.now state.new }
+    // Each accepted link has gone back to the door.
+    ensures out { D.out door.new ≡ 0 }
+    ensures open { D.open_at door.new ≡ D.open_at door.old }
+    ensures later { (D.faults door.old ≤ D.faults door.new) × (D.late door.old ≤ D.late door.new) }
+    ensures later_log { O.faults log.old ≤ O.faults log.new }
+    ensures served { let service : Service = (record { program = arc_value served.now.program; framing = served.now.framing; meaning = L.meaning (arc_value served.now.library) }) in
+        HasServed
+        (seen_by D.Link.had D.Link.left D.Link.written D.Link.faults)
+        service batches
+        (record {
+          to_come = D.to_come door.old;
+          taken_back = D.taken_back door.old;
+          faults = D.faults door.old;
+          late = D.late door.old;
+          log = record { written = O.written log.old; faults = O.faults log.old };
+        })
+        (record {
+          to_come = D.to_come door.new;
+          taken_back = D.taken_back door.new;
+          faults = D.faults door.new;
+          late = D.late door.new;
+          log = record { written = O.written log.new; faults = O.faults log.new };
+        }) result }
+{
+    serve_batches(
+        alloc,
+        served,
+        door,
+        log,
+        state,
+        &|state: &mut S, door: &mut D, opening: Cells, number: u64|
+            requires may { MayRun F.Fn run.now state.old }
+            requires runs { Runs F.Fn run.now (service_in L.meaning served.now) }
+            requires out { D.out door.old ≡ 0 }
+            requires numbers { number + 64 < 2 ^ 63 }
+            ensures again { MayRun F.Fn run.entry.now state.new }
+            ensures out { D.out door.new ≡ 0 }
+            ensures open { D.open_at door.new ≡ D.open_at door.old }
+            ensures later { (D.faults door.old ≤ D.faults door.new) × (D.late door.old ≤ D.late door.new) }
+            ensures bound { IfOk result (λ run. run.next ≤ number + 64) }
+            ensures ran { (log : Stream) → IfOk result (HasRun (seen_by D.Link.had D.Link.left D.Link.written D.Link.faults)
+                (service_in L.meaning served.entry.now) (cells_of opening) number
+                (sight_in D.to_come D.taken_back D.faults D.late door.old log)
+                (sight_in D.to_come D.taken_back D.faults D.late door.new log)) }
+            ensures none { (log : Stream) → IfErr result (IsNone (seen_by D.Link.had D.Link.left D.Link.written D.Link.faults)
+                (sight_in D.to_come D.taken_back D.faults D.late door.old log)
+                (sight_in D.to_come D.taken_back D.faults D.late door.new log)) }
+        { drive_batch(rt, alloc, served, door, state, run, opening, number) },
+        batches,
+    )
+}
+
+/// Serves so many batches of a door's links, each driven by a runtime, until the door is closed or something fails. Each batch is
+/// driven from the cells that the one before left, answered, and then written on the log.
 pub fn serve<L: Library, D: Door, O: Sink, R: Runtime, G: Gate, Rt: Threads + Wait + Sync>(
     rt: &Rt,
     alloc: Global,
@@ -60,18 +146,21 @@ pub fn serve<L: Library, D: Door, O: Sink, R: Runtime, G: Gate, Rt: Threads + Wa
           log = record { written = O.written log.new; faults = O.faults log.new };
         }) result }
 {
-    let mut opening = Cells::new(alloc);
-    let mut number = 0u64;
-    'batches: for count in 0..batches {
-        match serve_batch(
-            rt, alloc, served, door, log, runtime, gate, opening, count, number,
-        ) {
-            Ok((cells, next)) => {
-                opening = cells;
-                number = next;
-            }
-            Err(end) => return end,
-        }
-    }
-    ServeEnd::Counted
+    serve_by(
+        rt,
+        alloc,
+        served,
+        door,
+        log,
+        runtime,
+        &|runtime: &mut R, items: List<Item>, opening: Cells|
+            requires ready { R.ready runtime.old }
+            requires can { MayServe L.meaning served.now }
+            requires items { AllByRecursion IsLinkItem items }
+            requires few { length items ≤ 4096 }
+            ensures again { R.ready runtime.new }
+            ensures run { IfOk result (IsRun (service_in L.meaning served.entry.now) opening items) }
+        { run(rt, alloc, served, runtime, gate, items, opening) },
+        batches,
+    )
 }

@@ -1,14 +1,18 @@
-//! Batch after batch, each link answered at once.
+//! Batches whose links are answered at once.
 
-ghost use Rattle.std.specs.Prelude.{◌≡◌, ◌<◌, ◌≤◌};
+ghost use Rattle.std.specs.Prelude.{◌≡◌, ◌+◌, ◌^◌, ◌<◌, ◌≤◌, IfOk, IfErr};
 ghost use Rattle.std.specs.Arc.{arc_value};
+ghost use Rattle.flux_cells.specs.Kept.{cells_of};
+ghost use Rattle.flux_outside.specs.Streams.{Stream};
 ghost use Rattle.flux_batches.specs.Links.{seen_by};
 ghost use Rattle.flux_serve.specs.Served.{CanServe};
 ghost use Rattle.flux_serve.specs.Batches.{Service};
 ghost use Rattle.flux_serve.specs.AtOnce.{HasServedAtOnce};
+ghost use Rattle.flux_serve.specs.steps.Batches.{sight_in, service_in, MayServe, HasRun, IsNoneAtOnce};
 
 use crate::batches::ServeEnd;
-use crate::batches_at_once::serve_batch_at_once;
+use crate::batches_at_once::drive_batch_at_once;
+use crate::loops::serve_batches;
 use crate::runs::Served;
 use flow_core::Gate;
 use flux_cells::Cells;
@@ -69,18 +73,32 @@ pub fn serve_at_once<
           log = record { written = O.written log.new; faults = O.faults log.new };
         }) result }
 {
-    let mut opening = Cells::new(alloc);
-    let mut number = 0u64;
-    'batches: for count in 0..batches {
-        match serve_batch_at_once(
-            rt, alloc, served, door, log, workers, gate, opening, count, number,
-        ) {
-            Ok((cells, next)) => {
-                opening = cells;
-                number = next;
-            }
-            Err(end) => return end,
-        }
-    }
-    ServeEnd::Counted
+    let mut workers = workers;
+    serve_batches(
+        alloc,
+        served,
+        door,
+        log,
+        &mut workers,
+        &|workers: &mut u8, door: &mut D, opening: Cells, number: u64|
+            requires can { MayServe L.meaning served.now }
+            requires some { 0 < workers.old }
+            requires out { D.out door.old ≡ 0 }
+            requires numbers { number + 64 < 2 ^ 63 }
+            ensures again { 0 < workers.new }
+            ensures out { D.out door.new ≡ 0 }
+            ensures open { D.open_at door.new ≡ D.open_at door.old }
+            ensures later { (D.faults door.old ≤ D.faults door.new) × (D.late door.old ≤ D.late door.new) }
+            ensures bound { IfOk result (λ run. run.next ≤ number + 64) }
+            ensures ran { (log : Stream) → IfOk result (HasRun (seen_by D.Link.had D.Link.left D.Link.written D.Link.faults)
+                (service_in L.meaning served.entry.now) (cells_of opening) number
+                (sight_in D.to_come D.taken_back D.faults D.late door.old log)
+                (sight_in D.to_come D.taken_back D.faults D.late door.new log)) }
+            ensures none { (log : Stream) → IfErr result (IsNoneAtOnce (seen_by D.Link.had D.Link.left D.Link.written D.Link.faults)
+                (service_in L.meaning served.entry.now) (cells_of opening) number
+                (sight_in D.to_come D.taken_back D.faults D.late door.old log)
+                (sight_in D.to_come D.taken_back D.faults D.late door.new log)) }
+        { drive_batch_at_once(rt, alloc, served, door, *workers, gate, opening, number) },
+        batches,
+    )
 }

@@ -4,8 +4,9 @@ ghost use Rattle.std.specs.Prelude.{◌≡◌, ◌<◌, length};
 ghost use Rattle.flow_core.specs.Runs.{GoesOn};
 ghost use Rattle.flux_serve.specs.steps.Turns.{LeadsTo};
 
+use crate::stages::Stage;
 use flow_core::{Core, Job};
-use flow_outings::{Outing, Stage, go_on};
+use flow_turns::{TurnEnd, go_on};
 use flux_batches::copy_of_reply;
 use flux_library::Library;
 use flux_model::FlowNo;
@@ -31,10 +32,10 @@ pub fn go<L: Library>(alloc: Global, core: &mut Core<L>, flow: FlowNo) -> Next<L
         return Next::Stands(Stage::Halted);
     }
     match go_on(core, flow) {
-        Outing::Calls(job) => Next::Runs(job),
-        Outing::Halted => Next::Stands(Stage::Halted),
-        Outing::Waits => Next::Stands(Stage::Waits),
-        Outing::Ended | Outing::Went => reply_of_ended(alloc, core, flow),
+        TurnEnd::Calls(job) => Next::Runs(job),
+        TurnEnd::Halted => Next::Stands(Stage::Halted),
+        TurnEnd::Waits(_) => Next::Stands(Stage::Waits),
+        TurnEnd::Ended | TurnEnd::Went => reply_of_ended(alloc, core, flow),
     }
 }
 

@@ -1,20 +1,21 @@
-//! Workers, each of which drives the flows of its lane and writes their replies.
+//! Workers, each of which drives the flows of its queue and writes their replies.
 
 ghost use Rattle.std.specs.Prelude.{◌≡◌, ℕ, ◌<◌, ◌≤◌, length, slice_index_or, true, IfSome};
 ghost use Rattle.flow_core.specs.Runs.{GoesOn};
-ghost use Rattle.flow_outings.specs.Outings.{IsCallIn};
+ghost use Rattle.flow_turns.specs.Turns.{IsCallIn};
 ghost use Rattle.flow_shared.specs.Journals.{BeginsWith};
 ghost use Rattle.flow_shared.specs.States.{SeatState};
 ghost use Rattle.flux_batches.specs.Links.{seen_by};
-ghost use Rattle.flux_serve.specs.steps.Dues.{HasText, IsDueSo, AreDueSo};
-ghost use Rattle.flux_serve.specs.steps.Workers.{KeepsDue, KeepDues, HasSeat, HasWorked, WasJoined};
+ghost use Rattle.flux_serve.specs.steps.PendingReplies.{HasText, IsReplySoFar, AreRepliesSoFar};
+ghost use Rattle.flux_serve.specs.steps.Workers.{KeepsReply, KeepReplies, HasSeat, HasWorked, WasJoined};
 
-use crate::dues::Due;
-use crate::lanes::Lane;
+use crate::queues::WorkerQueue;
+use crate::replies::PendingReply;
+use crate::stages::Stage;
 use crate::turns::{Next, go};
 use flow_core::{Core, Gate, Job};
-use flow_outings::{Stage, take_answer};
 use flow_shared::{Shared, SharedSeat};
+use flow_turns::{run, take_answer};
 use flux_doors::Link;
 use flux_library::Library;
 use std::alloc::Global;
@@ -23,7 +24,7 @@ use std::marker::{Send, Sync};
 use std::sync::Wait;
 use std::thread;
 use std::thread::Threads;
-use thread_pauses::Pause;
+use thread_backoff::Pause;
 
 /// Lets the flow of a link go on: in one turn up to its call, which is run outside the turn, or to its `end`, after which its
 /// reply is written.
@@ -32,23 +33,23 @@ fn visit<L: Library, K: Link, G: Gate, R: Wait>(
     alloc: Global,
     shared: &Shared<L>,
     seat: SharedSeat<L>,
-    due: &mut Due<K>,
+    reply: &mut PendingReply<K>,
     gate: &G,
 ) -> (SharedSeat<L>, Stage)
     requires shared { seat.shared ≡ shared.now }
-    requires text { HasText due.old.held.sent }
+    requires text { HasText reply.old.request.sent }
     ensures shared { result.0.shared ≡ shared.now }
     ensures seen { BeginsWith result.0.seen seat.seen }
-    ensures due { IsDueSo (seen_by K.had K.left K.written K.faults) result.0.seen due.old due.new }
+    ensures reply { IsReplySoFar (seen_by K.had K.left K.written K.faults) result.0.seen reply.old reply.new }
 {
-    let flow = due.flow;
+    let flow = reply.flow;
     let mut turn = shared.turn(rt, seat);
     let next = go(alloc, &mut turn.core, flow);
     let seat = shared.give(turn);
     match next {
         Next::Runs(job) => call(rt, alloc, shared, seat, &job, gate),
-        Next::Replies(reply) => {
-            due.write(reply.as_slice());
+        Next::Replies(text) => {
+            reply.write(text.as_slice());
             (seat, Stage::Went)
         }
         Next::Stands(stage) => (seat, stage),
@@ -69,12 +70,9 @@ fn call<L: Library, G: Gate, R: Wait>(
     ensures shared { result.0.shared ≡ shared.now }
     ensures seen { BeginsWith result.0.seen seat.seen }
 {
-    let flow = job.flow();
-    gate.before(flow, job.node());
-    let made = job.run(alloc);
-    gate.after(flow, job.node());
+    let made = run(alloc, job, gate);
     let mut turn = shared.turn(rt, seat);
-    let goes = take_answer(&mut turn.core, flow, made);
+    let goes = take_answer(&mut turn.core, job.flow(), made);
     (shared.give(turn), stage_behind(goes))
 }
 
@@ -89,16 +87,16 @@ fn visit_open<L: Library, K: Link, G: Gate, R: Wait>(
     alloc: Global,
     shared: &Shared<L>,
     seat: SharedSeat<L>,
-    due: &mut Due<K>,
+    reply: &mut PendingReply<K>,
     gate: &G,
 ) -> (SharedSeat<L>, Stage)
     requires { seat.shared ≡ shared.now }
     ensures shared { result.0.shared ≡ shared.now }
     ensures seen { BeginsWith result.0.seen seat.seen }
-    ensures due { KeepsDue (seen_by K.had K.left K.written K.faults) seat.seen result.0.seen due.old due.new }
+    ensures reply { KeepsReply (seen_by K.had K.left K.written K.faults) seat.seen result.0.seen reply.old reply.new }
 {
-    if due.is_open() {
-        return visit(rt, alloc, shared, seat, due, gate);
+    if reply.is_open() {
+        return visit(rt, alloc, shared, seat, reply, gate);
     }
     (seat, Stage::Ended)
 }
@@ -119,18 +117,18 @@ fn round<L: Library, K: Link, G: Gate, R: Wait>(
     alloc: Global,
     shared: &Shared<L>,
     seat: SharedSeat<L>,
-    dues: &mut [Due<K>],
+    replies: &mut [PendingReply<K>],
     gate: &G,
 ) -> (SharedSeat<L>, Stage)
     requires { seat.shared ≡ shared.now }
     ensures shared { result.0.shared ≡ shared.now }
     ensures seen { BeginsWith result.0.seen seat.seen }
-    ensures dues { KeepDues (seen_by K.had K.left K.written K.faults) seat.seen result.0.seen dues.old dues.new }
+    ensures replies { KeepReplies (seen_by K.had K.left K.written K.faults) seat.seen result.0.seen replies.old replies.new }
 {
     let mut seat = seat;
     let mut all = Stage::Ended;
-    for place in 0..dues.len() {
-        let (back, stage) = visit_open(rt, alloc, shared, seat, &mut dues[place], gate);
+    for place in 0..replies.len() {
+        let (back, stage) = visit_open(rt, alloc, shared, seat, &mut replies[place], gate);
         seat = back;
         all = stage_with(all, stage);
     }
@@ -144,17 +142,17 @@ fn rounds<L: Library, K: Link, G: Gate, R: Wait>(
     alloc: Global,
     shared: &Shared<L>,
     seat: SharedSeat<L>,
-    dues: &mut [Due<K>],
+    replies: &mut [PendingReply<K>],
     gate: &G,
 ) -> SharedSeat<L>
     requires { seat.shared ≡ shared.now }
     ensures shared { result.shared ≡ shared.now }
-    ensures dues { KeepDues (seen_by K.had K.left K.written K.faults) seat.seen result.seen dues.old dues.new }
+    ensures replies { KeepReplies (seen_by K.had K.left K.written K.faults) seat.seen result.seen replies.old replies.new }
 {
     let mut seat = seat;
     let mut pause = Pause::new();
     for _ in rt.forever() {
-        let (back, stage) = round(rt, alloc, shared, seat, dues, gate);
+        let (back, stage) = round(rt, alloc, shared, seat, replies, gate);
         seat = back;
         match stage {
             Stage::Went => pause = Pause::new(),
@@ -166,145 +164,151 @@ fn rounds<L: Library, K: Link, G: Gate, R: Wait>(
 }
 
 /// The same, over a queue of links.
-fn answer_dues<L: Library, K: Link, G: Gate, R: Wait>(
+fn answer_all<L: Library, K: Link, G: Gate, R: Wait>(
     rt: &R,
     alloc: Global,
     shared: &Shared<L>,
     seat: SharedSeat<L>,
-    dues: &mut VecDeque<Due<K>>,
+    replies: &mut VecDeque<PendingReply<K>>,
     gate: &G,
 ) -> SharedSeat<L>
     requires shared { seat.shared ≡ shared.now }
     ensures shared { result.shared ≡ shared.now }
-    ensures dues { AreDueSo (seen_by K.had K.left K.written K.faults) result.seen dues.old.items dues.new.items }
+    ensures replies { AreRepliesSoFar (seen_by K.had K.left K.written K.faults) result.seen replies.old.items replies.new.items }
 {
-    rounds(rt, alloc, shared, seat, dues.make_contiguous(), gate)
+    rounds(rt, alloc, shared, seat, replies.make_contiguous(), gate)
 }
 
-/// The work of a lane.
+/// The work of a queue.
 fn work<L: Library, K: Link, G: Gate, R: Wait>(
     rt: &R,
     alloc: Global,
     shared: &Shared<L>,
-    lane: &mut Lane<SharedSeat<L>, K>,
+    queue: &mut WorkerQueue<SharedSeat<L>, K>,
     gate: &G,
 )
-    requires { HasSeat shared.now lane.old }
-    ensures { HasWorked (seen_by K.had K.left K.written K.faults) shared.now lane.old lane.new }
+    requires { HasSeat shared.now queue.old }
+    ensures { HasWorked (seen_by K.had K.left K.written K.faults) shared.now queue.old queue.new }
 {
-    let Some(seat) = lane.seat.take() else {
+    let Some(seat) = queue.seat.take() else {
         unreachable!()
     };
-    let seat = answer_dues(rt, alloc, shared, seat, &mut lane.dues, gate);
-    lane.seat = Some(seat);
+    let seat = answer_all(rt, alloc, shared, seat, &mut queue.replies, gate);
+    queue.seat = Some(seat);
 }
 
-/// The work of all lanes, each by a thread.
+/// The work of all queues, each by a thread.
 fn shift<L: Library + Send + Sync, K: Link + Send, G: Gate + Sync, R: Threads + Wait + Sync>(
     rt: &R,
     alloc: Global,
     shared: &Shared<L>,
-    lanes: &mut [Lane<SharedSeat<L>, K>],
+    queues: &mut [WorkerQueue<SharedSeat<L>, K>],
     gate: &G,
 )
-    requires some { 0 < length lanes.old }
-    requires seats { (place : ℕ) (none : Lane (SeatState L) K) → place < length lanes.old
-        → HasSeat shared.now (slice_index_or lanes.old place none) }
-    ensures { (place : ℕ) (none : Lane (SeatState L) K) → place < length lanes.old
+    requires some { 0 < length queues.old }
+    requires seats { (place : ℕ) (none : WorkerQueue (SeatState L) K) → place < length queues.old
+        → HasSeat shared.now (slice_index_or queues.old place none) }
+    ensures { (place : ℕ) (none : WorkerQueue (SeatState L) K) → place < length queues.old
         → HasWorked (seen_by K.had K.left K.written K.faults) shared.now
-        (slice_index_or lanes.old place none) (slice_index_or lanes.new place none) }
+        (slice_index_or queues.old place none) (slice_index_or queues.new place none) }
 {
-    let threads = lanes.len();
+    let threads = queues.len();
     thread::for_each_mut(
         rt,
-        lanes,
+        queues,
         threads,
-        &|_, lane: &mut Lane<SharedSeat<L>, K>|
-            requires { HasSeat shared.now lane.old }
-            ensures { HasWorked (seen_by K.had K.left K.written K.faults) shared.entry.now lane.old lane.new }
-        { work(rt, alloc, shared, lane, gate) },
+        &|_, queue: &mut WorkerQueue<SharedSeat<L>, K>|
+            requires { HasSeat shared.now queue.old }
+            ensures { HasWorked (seen_by K.had K.left K.written K.faults) shared.entry.now queue.old queue.new }
+        { work(rt, alloc, shared, queue, gate) },
     );
 }
 
-/// Gives each lane a seat, beside the one that is left.
+/// Gives each queue a seat, beside the one that is left.
 fn seat_all<L: Library, K: Drop>(
     shared: &Shared<L>,
     seat: SharedSeat<L>,
-    lanes: &mut [Lane<SharedSeat<L>, K>],
+    queues: &mut [WorkerQueue<SharedSeat<L>, K>],
 ) -> SharedSeat<L>
     requires { seat.shared ≡ shared.now }
     ensures shared { result.shared ≡ shared.now }
-    ensures seats { (place : ℕ) (none : Lane (SeatState L) K) → place < length lanes.old
-        → HasSeat shared.now (slice_index_or lanes.new place none) }
-    ensures dues { (place : ℕ) (none : Lane (SeatState L) K) → place < length lanes.old
-        → (slice_index_or lanes.new place none).dues ≡ (slice_index_or lanes.old place none).dues }
+    ensures seats { (place : ℕ) (none : WorkerQueue (SeatState L) K) → place < length queues.old
+        → HasSeat shared.now (slice_index_or queues.new place none) }
+    ensures replies { (place : ℕ) (none : WorkerQueue (SeatState L) K) → place < length queues.old
+        → (slice_index_or queues.new place none).replies ≡ (slice_index_or queues.old place none).replies }
 {
     let mut seat = seat;
-    for place in 0..lanes.len() {
+    for place in 0..queues.len() {
         let (kept, given) = shared.split(seat);
         seat = kept;
-        lanes[place].seat = Some(given);
+        queues[place].seat = Some(given);
     }
     seat
 }
 
-/// Joins a lane's seat to another.
-fn join_lane<L: Library, K: Drop>(
+/// Joins a queue's seat to another.
+fn join_queue<L: Library, K: Drop>(
     shared: &Shared<L>,
     seat: SharedSeat<L>,
-    lane: &mut Lane<SharedSeat<L>, K>,
+    queue: &mut WorkerQueue<SharedSeat<L>, K>,
 ) -> SharedSeat<L>
     requires seat { seat.shared ≡ shared.now }
-    requires has { HasSeat shared.now lane.old }
+    requires has { HasSeat shared.now queue.old }
     ensures shared { result.shared ≡ shared.now }
     ensures seen { BeginsWith result.seen seat.seen }
-    ensures other { IfSome lane.old.seat (λ other. BeginsWith result.seen other.seen) }
-    ensures dues { lane.new.dues ≡ lane.old.dues }
+    ensures other { IfSome queue.old.seat (λ other. BeginsWith result.seen other.seen) }
+    ensures replies { queue.new.replies ≡ queue.old.replies }
 {
-    let Some(other) = lane.seat.take() else {
+    let Some(other) = queue.seat.take() else {
         unreachable!()
     };
     shared.join(seat, other)
 }
 
-/// Joins the seats of all lanes to one.
+/// Joins the seats of all queues to one.
 fn join_all<L: Library, K: Drop>(
     shared: &Shared<L>,
     seat: SharedSeat<L>,
-    lanes: &mut [Lane<SharedSeat<L>, K>],
+    queues: &mut [WorkerQueue<SharedSeat<L>, K>],
 ) -> SharedSeat<L>
     requires seat { seat.shared ≡ shared.now }
-    requires seats { (place : ℕ) (none : Lane (SeatState L) K) → place < length lanes.old
-        → HasSeat shared.now (slice_index_or lanes.old place none) }
+    requires seats { (place : ℕ) (none : WorkerQueue (SeatState L) K) → place < length queues.old
+        → HasSeat shared.now (slice_index_or queues.old place none) }
     ensures shared { result.shared ≡ shared.now }
-    ensures lanes { (place : ℕ) (none : Lane (SeatState L) K) → place < length lanes.old
-        → WasJoined result (slice_index_or lanes.old place none) (slice_index_or lanes.new place none) }
+    ensures queues { (place : ℕ) (none : WorkerQueue (SeatState L) K) → place < length queues.old
+        → WasJoined result (slice_index_or queues.old place none) (slice_index_or queues.new place none) }
 {
     let mut seat = seat;
-    for place in 0..lanes.len() {
-        seat = join_lane(shared, seat, &mut lanes[place]);
+    for place in 0..queues.len() {
+        seat = join_queue(shared, seat, &mut queues[place]);
     }
     seat
 }
 
-/// Lets the workers drive a core, each the flows of its lane's links, and write their replies.
+/// Lets the workers drive a core, each the flows of its queue's links, and write their replies.
 pub fn drive<
     L: Library + Send + Sync,
     K: Link + Drop + Send,
     G: Gate + Sync,
     R: Threads + Wait + Sync,
->(rt: &R, alloc: Global, core: Core<L>, lanes: &mut [Lane<SharedSeat<L>, K>], gate: &G) -> Core<L>
-    requires some { 0 < length lanes.old }
+>(
+    rt: &R,
+    alloc: Global,
+    core: Core<L>,
+    queues: &mut [WorkerQueue<SharedSeat<L>, K>],
+    gate: &G,
+) -> Core<L>
+    requires some { 0 < length queues.old }
     ensures on { GoesOn core result }
-    ensures dues { (place : ℕ) (none : Lane (SeatState L) K) → place < length lanes.old
-        → AreDueSo (seen_by K.had K.left K.written K.faults) result.entries
-        (slice_index_or lanes.old place none).dues.items (slice_index_or lanes.new place none).dues.items }
+    ensures replies { (place : ℕ) (none : WorkerQueue (SeatState L) K) → place < length queues.old
+        → AreRepliesSoFar (seen_by K.had K.left K.written K.faults) result.entries
+        (slice_index_or queues.old place none).replies.items (slice_index_or queues.new place none).replies.items }
 {
     match Shared::new(alloc, core) {
         Ok((shared, seat)) => {
-            let seat = seat_all(&shared, seat, lanes);
-            shift(rt, alloc, &shared, lanes, gate);
-            let seat = join_all(&shared, seat, lanes);
+            let seat = seat_all(&shared, seat, queues);
+            shift(rt, alloc, &shared, queues, gate);
+            let seat = join_all(&shared, seat, queues);
             shared.close(rt, seat)
         }
         Err(stopped) => stopped.core,

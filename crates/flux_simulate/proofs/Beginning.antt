@@ -10,13 +10,12 @@ use Rattle.flow_model.specs.Setup.{Setup}
 use Rattle.flux_laws.proofs.Members.{all-more}
 use Rattle.flow_state.specs.declared.inputs.Inputs.{Inputs}
 use Rattle.flow_core.specs.States.{CoreState, setup_in, begun_by}
-use Rattle.flow_waits.specs.steps.Waking.{has}
+use Rattle.flow_waits.specs.steps.Waking.{has, TakesLowest}
 use Rattle.flow_orders.specs.declared.runs.Run.{Run}
 use Rattle.flux_simulate.specs.declared.clock.Clock.{Clock}
 use Rattle.flow_orders.specs.Costs.{cost_of}
 use Rattle.flow_orders.specs.Ticks.{timed}
 use Rattle.flow_orders.specs.Runs.{starting_from}
-use Rattle.flux_simulate.specs.steps.Changes.{TakesLowest}
 use Rattle.flux_simulate.specs.steps.Calls.{IsRunOf}
 use Rattle.flux_simulate.specs.steps.Ticking.{IsOn, Lasts, AllLast, one_if, runs_of, IsOfNode, RunOrWait, Ticks, Begins}
 use Rattle.flux_simulate.proofs.Tallies.{count_one, runs-behind}

@@ -15,7 +15,6 @@ mod Ending
 mod Steps
 mod Lessening
 mod Stopping
-mod Adding
 mod Opening
 mod Handing
 mod Watching

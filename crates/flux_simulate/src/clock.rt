@@ -3,8 +3,8 @@
 ghost use Rattle.std.specs.Prelude.{◌≡◌, ◌∷◌, ◌++◌, [], OnOk, OnErr};
 
 use crate::processors::Running;
-use crate::waiting::Waiting;
 use flow_orders::Run;
+use flow_waits::Numbers;
 use flux_values::{List, Memory};
 use std::alloc::Global;
 
@@ -19,7 +19,8 @@ pub struct Clock {
     /// How many calls can run at once.
     pub processors: u32,
     pub running: Running,
-    pub waiting: Waiting,
+    /// The numbers of the flows whose calls wait for a processor.
+    pub waiting: Numbers,
 }
 
 impl Clock {
@@ -40,7 +41,7 @@ impl Clock {
             ended: List::new(alloc),
             processors,
             running: Running::new(alloc),
-            waiting: Waiting::new(alloc),
+            waiting: Numbers::new(alloc),
         }
     }
 

@@ -10,7 +10,6 @@ mod clock;
 mod processors;
 mod runs;
 mod simulating;
-mod waiting;
 
 pub use runs::Simulated;
 pub use simulating::simulate;

@@ -52,6 +52,8 @@ pub fn simulate<L: Library>(
     ensures small { IfOk result (λ done. sum_of_costs costs.now done.runs < 9000000000) }
     ensures err { IfErr result (λ stopped. GoesOnLegally L.meaning core stopped.core) }
 {
+    // Asked for what it promises: that the journal is legal, and begun calls are next.
+    let _journal = core.journal();
     let mut core = core;
     let mut clock = Clock::new(core.alloc(), processors);
     match all_ticks(&mut core, costs, &mut clock) {
@@ -76,50 +78,29 @@ fn simulated<L: Library>(core: Core<L>, clock: Clock) -> Simulated<L>
     }
 }
 
-/// From the first tick to the last. The journal is legal, also where memory is short.
+/// From the first tick to the last: one after another, as long as calls run. The core keeps what it promises where memory is
+/// short, too.
 fn all_ticks<L: Library>(
     core: &mut Core<L>,
     costs: &List<u32>,
     clock: &mut Clock,
 ) -> Result<(), Memory>
+    requires kept { IsKept L.meaning core.old }
     requires goes { Goes L.meaning core.old clock.old }
     requires last { AllLast costs.now clock.old }
     requires small { AreSmall L.meaning core.old costs.now clock.old.processors }
     ensures rests { OnOk result (Rests L.meaning core.new clock.new) }
     ensures over { OnOk result (clock.new.running ≡ []) }
     ensures last { OnOk result (AllLast costs.now clock.new) }
+    ensures further { GoesFurther core.old core.new }
+    ensures processors { clock.new.processors ≡ clock.old.processors }
     ensures kept { IsKept L.meaning core.new }
-    ensures further { GoesFurther core.old core.new }
-    ensures processors { clock.new.processors ≡ clock.old.processors }
-{
-    let done = tick_by_tick(core, costs, clock);
-    // Asked for what it promises: that the journal is legal.
-    let _journal = core.journal();
-    done
-}
-
-/// One tick after another, as long as calls run.
-fn tick_by_tick<L: Library>(
-    core: &mut Core<L>,
-    costs: &List<u32>,
-    clock: &mut Clock,
-) -> Result<(), Memory>
-    requires goes { Goes L.meaning core.old clock.old }
-    requires last { AllLast costs.now clock.old }
-    requires small { AreSmall L.meaning core.old costs.now clock.old.processors }
-    ensures rests { OnOk result (Rests L.meaning core.new clock.new) }
-    ensures over { OnOk result (clock.new.running ≡ []) }
-    ensures last { OnOk result (AllLast costs.now clock.new) }
-    ensures further { GoesFurther core.old core.new }
-    ensures processors { clock.new.processors ≡ clock.old.processors }
 {
     let mut idlers = Idlers::new(core)?;
     settle(core, costs, clock, &mut idlers)?;
     let mut more = true;
     'ticks: while more {
         more = next_tick(core, costs, clock, &mut idlers)?;
-        // Asked for what it promises: that the journal is legal, so not too long.
-        let _journal = core.journal();
     }
     Ok(())
 }
@@ -131,6 +112,7 @@ fn next_tick<L: Library>(
     clock: &mut Clock,
     idlers: &mut Idlers,
 ) -> Result<bool, Memory>
+    requires kept { IsKept L.meaning core.old }
     requires watched { Watches L.meaning core.old idlers.old }
     requires rests { Rests L.meaning core.old clock.old }
     requires last { AllLast costs.now clock.old }
@@ -140,6 +122,7 @@ fn next_tick<L: Library>(
     ensures last { OnOk result (AllLast costs.now clock.new) }
     ensures further { GoesFurther core.old core.new }
     ensures processors { clock.new.processors ≡ clock.old.processors }
+    ensures kept { IsKept L.meaning core.new }
 {
     let stopped = finish_next(core, clock, idlers)?;
     if stopped {
@@ -156,6 +139,7 @@ fn settle<L: Library>(
     clock: &mut Clock,
     idlers: &mut Idlers,
 ) -> Result<(), Memory>
+    requires kept { IsKept L.meaning core.old }
     requires watched { Watches L.meaning core.old idlers.old }
     requires goes { Goes L.meaning core.old clock.old }
     requires last { AllLast costs.now clock.old }
@@ -165,6 +149,7 @@ fn settle<L: Library>(
     ensures watched { OnOk result (Watches L.meaning core.new idlers.new) }
     ensures further { GoesFurther core.old core.new }
     ensures processors { clock.new.processors ≡ clock.old.processors }
+    ensures kept { IsKept L.meaning core.new }
 {
     go_on(core, clock, idlers)?;
     begin(core, costs, clock)
@@ -176,6 +161,7 @@ fn go_on<L: Library>(
     clock: &mut Clock,
     idlers: &mut Idlers,
 ) -> Result<(), Memory>
+    requires kept { IsKept L.meaning core.old }
     requires watched { Watches L.meaning core.old idlers.old }
     requires goes { Goes L.meaning core.old clock.old }
     ensures goes { OnOk result (Goes L.meaning core.new clock.new) }
@@ -185,11 +171,10 @@ fn go_on<L: Library>(
     ensures running { clock.new.running ≡ clock.old.running }
     ensures processors { clock.new.processors ≡ clock.old.processors }
     ensures further { GoesFurther core.old core.new }
+    ensures kept { IsKept L.meaning core.new }
 {
     while let Some(flow) = idlers.first(core, 0)? {
         go_one(core, clock, idlers, flow)?;
-        // Asked for what it promises: that the journal is legal, so not too long.
-        let _journal = core.journal();
     }
     Ok(())
 }
@@ -201,6 +186,7 @@ fn go_one<L: Library>(
     idlers: &mut Idlers,
     flow: FlowNo,
 ) -> Result<(), Memory>
+    requires kept { IsKept L.meaning core.old }
     requires goes { Goes L.meaning core.old clock.old }
     requires first { IsFirstIdle L.meaning core.old 0 flow }
     requires watched { Watches L.meaning core.old idlers.old }
@@ -212,11 +198,10 @@ fn go_one<L: Library>(
     ensures running { clock.new.running ≡ clock.old.running }
     ensures processors { clock.new.processors ≡ clock.old.processors }
     ensures further { GoesFurther core.old core.new }
+    ensures kept { IsKept L.meaning core.new }
 {
-    // Asked for what it promises: that the journal is legal, and begun calls are next.
-    let _journal = core.journal();
     match core.step(flow)? {
-        Step::Job(_) => clock.waiting.add(flow),
+        Step::Job(_) => clock.waiting.add(flow.0),
         Step::Went => note_event(core, clock, idlers),
         Step::Ended => Ok(()),
         Step::Calling => Ok(()),
@@ -237,12 +222,13 @@ fn note_event<L: Library>(
         (beside idlers.new.pools idlers.new.aside) 0) }
     ensures aside { idlers.new.aside ≡ idlers.old.aside }
 {
-    idlers.told(core, 0)?;
+    idlers.update(core, 0)?;
     clock.note()
 }
 
 /// Lets the calls of the lowest flows run, as long as a processor is free.
 fn begin<L: Library>(core: &Core<L>, costs: &List<u32>, clock: &mut Clock) -> Result<(), Memory>
+    requires kept { IsKept L.meaning core.now }
     requires begins { Begins L.meaning core.now clock.old }
     requires last { AllLast costs.now clock.old }
     requires small { AreSmall L.meaning core.now costs.now clock.old.processors }
@@ -250,13 +236,11 @@ fn begin<L: Library>(core: &Core<L>, costs: &List<u32>, clock: &mut Clock) -> Re
     ensures last { OnOk result (AllLast costs.now clock.new) }
     ensures processors { clock.new.processors ≡ clock.old.processors }
 {
-    // Asked for what it promises: that the journal is legal, so no tick is too great a number.
-    let _journal = core.journal();
     while clock.running.len() < clock.processors as usize {
-        let Some(flow) = clock.waiting.take_lowest() else {
+        let Some(number) = clock.waiting.take_lowest() else {
             return Ok(());
         };
-        let run = run_of(core, costs, clock.tick, flow)?;
+        let run = run_of(core, costs, clock.tick, FlowNo(number))?;
         clock.running.add(run)?;
     }
     Ok(())
@@ -269,13 +253,12 @@ fn run_of<L: Library>(
     tick: u64,
     flow: FlowNo,
 ) -> Result<Run, Memory>
+    requires kept { IsKept L.meaning core.now }
     requires begun { IsSome (begun_by core.now flow.0) }
     requires costs { AreCosts core.now.setup.program costs.now }
     requires tick { tick < 9000000000 }
     ensures { IfOk result (IsRunOf core.now costs.now tick flow) }
 {
-    // Asked for what it promises: that begun calls are next.
-    let _journal = core.journal();
     let Some(job) = core.recall(flow)? else {
         unreachable!()
     };
@@ -297,6 +280,7 @@ fn finish_next<L: Library>(
     clock: &mut Clock,
     idlers: &mut Idlers,
 ) -> Result<bool, Memory>
+    requires kept { IsKept L.meaning core.old }
     requires watched { Watches L.meaning core.old idlers.old }
     requires rests { Rests L.meaning core.old clock.old }
     ensures watched { OnOk result (Watches L.meaning core.new idlers.new) }
@@ -304,9 +288,8 @@ fn finish_next<L: Library>(
     ensures last { (costs : List ℕ) → AllLast costs clock.old → OnOk result (AllLast costs clock.new) }
     ensures further { GoesFurther core.old core.new }
     ensures processors { clock.new.processors ≡ clock.old.processors }
+    ensures kept { IsKept L.meaning core.new }
 {
-    // Asked for what it promises: that begun calls are next.
-    let _journal = core.journal();
     let Some(run) = clock.running.take_next() else {
         return Ok(false);
     };
@@ -323,6 +306,7 @@ fn finish_due<L: Library>(
     clock: &mut Clock,
     idlers: &mut Idlers,
 ) -> Result<(), Memory>
+    requires kept { IsKept L.meaning core.old }
     requires watched { Watches L.meaning core.old idlers.old }
     requires finishes { Finishes L.meaning core.old clock.old }
     ensures watched { OnOk result (Watches L.meaning core.new idlers.new) }
@@ -330,10 +314,9 @@ fn finish_due<L: Library>(
     ensures last { (costs : List ℕ) → AllLast costs clock.old → OnOk result (AllLast costs clock.new) }
     ensures further { GoesFurther core.old core.new }
     ensures processors { clock.new.processors ≡ clock.old.processors }
+    ensures kept { IsKept L.meaning core.new }
 {
     while let Some(run) = clock.running.take_due(clock.tick) {
-        // Asked for what it promises: that begun calls are next.
-        let _journal = core.journal();
         finish_run(core, idlers, run.flow)?;
         clock.note_end(run)?;
     }
@@ -346,25 +329,27 @@ fn finish_run<L: Library>(
     idlers: &mut Idlers,
     flow: FlowNo,
 ) -> Result<(), Memory>
+    requires kept { IsKept L.meaning core.old }
     requires watched { Watches L.meaning core.old idlers.old }
     requires flow { flow.0 < length core.old.setup.items }
     requires begun { IsSome (begun_by core.old flow.0) }
     ensures watched { OnOk result (Watches L.meaning core.new idlers.new) }
     ensures ends { OnOk result (EndsBegun L.meaning core.old core.new flow) }
     ensures further { GoesFurther core.old core.new }
+    ensures kept { IsKept L.meaning core.new }
 {
     finish_call(core, flow)?;
-    // Asked for what it promises: that the journal is legal.
-    let _journal = core.journal();
     idlers.look_again(flow)
 }
 
 /// Runs a flow's begun call, and finishes it.
 fn finish_call<L: Library>(core: &mut Core<L>, flow: FlowNo) -> Result<(), Memory>
+    requires kept { IsKept L.meaning core.old }
     requires flow { flow.0 < length core.old.setup.items }
     requires begun { IsSome (begun_by core.old flow.0) }
     ensures ends { OnOk result (EndsBegun L.meaning core.old core.new flow) }
     ensures further { GoesFurther core.old core.new }
+    ensures kept { IsKept L.meaning core.new }
 {
     match core.recall(flow)? {
         Some(job) => finish_job(core, &job),
@@ -374,9 +359,11 @@ fn finish_call<L: Library>(core: &mut Core<L>, flow: FlowNo) -> Result<(), Memor
 
 /// Runs a begun call, and finishes it.
 fn finish_job<L: Library>(core: &mut Core<L>, job: &Job<L>) -> Result<(), Memory>
-    requires { IsJobOf core.old job.now }
+    requires kept { IsKept L.meaning core.old }
+    requires job { IsJobOf core.old job.now }
     ensures ends { OnOk result (EndsBegun L.meaning core.old core.new job.now.flow) }
     ensures further { GoesFurther core.old core.new }
+    ensures kept { IsKept L.meaning core.new }
 {
     let done = job.run(core.alloc())?;
     let _ = core.finish(&done)?;

@@ -7,8 +7,8 @@ use Rattle.flux_values.specs.declared.meanings.Role.TheVariants.{HeadSource, Lin
 use Rattle.flux_model.specs.declared.programs.Program.{Program}
 use Rattle.flux_model.specs.declared.programs.SourceLine.{SourceLine}
 use Rattle.flow_state.specs.Calls.{library_name}
-use Rattle.flux_batches.specs.declared.framing.Framing.{Framing}
-use Rattle.flux_batches.specs.declared.framing.Framing.TheVariants.{Head, Line}
+use Rattle.flux_doors.specs.declared.framing.Framing.{Framing}
+use Rattle.flux_doors.specs.declared.framing.Framing.TheVariants.{Head, Line}
 
 -- the role of a source whose links are read so
 abbrev pub role_of : Framing → Role

@@ -4,7 +4,7 @@ ghost use Rattle.std.specs.Prelude.{◌≡◌, [], ◌∷◌, Some, None, IfOk, 
 ghost use Rattle.flow_state.specs.Calls.{library_name};
 ghost use Rattle.flux_sources.specs.Sources.{role_of, IsServed, IsNotServed};
 
-use flux_batches::Framing;
+use flux_doors::Framing;
 use flux_library::{Library, Role};
 use flux_model::{Body, Program, SourceLine};
 use flux_values::Memory;

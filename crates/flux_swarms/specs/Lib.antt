@@ -1,2 +1,6 @@
+pub mod Asked
+pub mod Peers
+pub mod Tracked
+pub mod steps
 pub mod Printed
 pub mod Swarms

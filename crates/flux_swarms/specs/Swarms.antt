@@ -6,8 +6,8 @@ use Rattle.flow_model.specs.declared.journals.Entry.{Entry}
 use Rattle.flow_model.specs.declared.journals.Journal.{Journal}
 use Rattle.flux_journal.specs.Journals.{ReadsAs}
 use Rattle.nodes_tracker.specs.declared.peers.Peer.{Peer}
-use Rattle.tracker_peers.specs.Peers.{ArePeersOf}
-use Rattle.tracker_peers.specs.Tracked.{AreInTheCell}
+use Rattle.flux_swarms.specs.Peers.{ArePeersOf}
+use Rattle.flux_swarms.specs.Tracked.{AreInTheCell}
 use Rattle.flux_swarms.specs.Printed.{printed_swarm}
 
 -- The text is the printed swarm of a hash after a journal:

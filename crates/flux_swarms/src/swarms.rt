@@ -7,6 +7,7 @@ ghost use Rattle.flux_model.specs.Numbered.{IsNumbered};
 ghost use Rattle.flux_journal.specs.Journals.{ReadsAs};
 ghost use Rattle.flux_swarms.specs.Swarms.{Reads, IsSwarmText};
 
+use crate::journal_peers::peers;
 use crate::printing::print_peers;
 use flow_model::Journal;
 use flux_journal::{JournalFault, read_journal};
@@ -14,7 +15,6 @@ use flux_library::Library;
 use flux_model::Program;
 use flux_values::{Bytes, Memory};
 use std::alloc::Global;
-use tracker_peers::peers;
 
 /// What is printed of the swarm of a hash after the journal that a text reads as.
 pub fn print_swarm<L: Library>(

@@ -10,7 +10,8 @@ use Rattle.flux_values.specs.declared.texts.TheConstants.{TEXT_LIMIT}
 use Rattle.flux_lexer.specs.declared.kinds.TokenKind.{TokenKind}
 use Rattle.flux_lexer.specs.declared.kinds.TokenKind.TheVariants.{Identifier, Number, Source, Typedef, Handle, Error, Atomic, Session, Wildcard, ThinArrow, Arrow}
 use Rattle.flux_lexer.specs.declared.fronts.Front.TheVariants as fronts
-use Rattle.flux_lexer.specs.Kinds.{is_digit, is_word_start, is_word_byte, is_word, is_number, word_kind, mark_kind, single, double, kind_of}
+use Rattle.flux_values.specs.Identifiers.{is_digit, is_word_start, is_word_byte, is_word}
+use Rattle.flux_lexer.specs.Kinds.{is_number, word_kind, mark_kind, single, double, kind_of}
 use Rattle.flux_lexer.specs.Pieces.{Piece, blank, remark, comment, token, is_blank}
 use Rattle.flux_lexer.specs.Texts.{Part, Laid}
 use Rattle.flux_lexer.specs.steps.Fronts.{limited, front_of}

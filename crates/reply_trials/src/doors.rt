@@ -1,6 +1,6 @@
 //! A door in memory whose first link tells when it is written to.
 
-use flux_doors::{Door, Link, MemoryDoor, MemoryLink};
+use flux_doors::{Door, Framing, Link, MemoryDoor, MemoryLink};
 use flux_outside::Failed;
 use std::sync::atomic::{AtomicU64, Ordering};
 
@@ -60,6 +60,10 @@ impl<'a> Door for TellingDoor<'a> {
     ghost faults = { λ telling. door_faults telling.door };
 
     ghost late = { λ telling. door_late telling.door };
+
+    fn expect(&mut self, framing: Framing) {
+        self.door.expect(framing)
+    }
 
     fn open(&mut self, port: u16) -> Result<(), Failed> {
         self.door.open(port)

@@ -1,9 +1,9 @@
 //! The runtimes of the program, as one.
 //!
-//! Which runtime the words name stands here, and by `specs/Orders` the order of each: one more runtime is one more of `Chosen`,
+//! Which runtime the words name stands here, and by `specs/Orders` the order of each: one more runtime is one more of `AnyRuntime`,
 //! with its order. What the order of the words is, without the runtimes, says `Orders` of `flux_runs`.
 #![tactic(auto)]
 
-mod chosen;
+mod any_runtime;
 
-pub use chosen::Chosen;
+pub use any_runtime::AnyRuntime;

@@ -2,15 +2,17 @@
 
 ghost use Rattle.std.specs.Prelude.{◌≡◌};
 ghost use Rattle.flow_core.specs.Runs.{GoesOn};
-ghost use Rattle.rt_event.specs.Parts.{RunsIn};
+ghost use Rattle.flow_turns.specs.Workers.{RunsIn};
 
+use crate::bells::Bells;
 use crate::helpers::lowest_call;
-use crate::parts::{Next, call_of};
+use crate::parts::call_of;
 use crate::ready::Ready;
 use flow_core::Core;
-use flow_outings::{Outing, go_on};
+use flow_turns::{Next, TurnEnd, go_on};
 use flux_library::Library;
 use flux_values::Memory;
+use std::sync::Wait;
 
 /// In one turn at most so many flows go on.
 const FLOWS_A_TURN: u32 = 8;
@@ -22,6 +24,8 @@ const TURNS_WITHOUT_ENTRY: u32 = 1_000;
 #[derive(Drop)]
 pub struct Lead {
     ready: Ready,
+    /// How often its bell had been rung before its last turn.
+    rung: u32,
     /// The length of the journal when it was seen to grow last.
     length: usize,
     /// How many more turns without an entry the loop waits for the helpers.
@@ -32,17 +36,19 @@ impl Lead {
     pub fn new<L: Library>(core: &Core<L>) -> Result<Lead, Memory> {
         Ok(Lead {
             ready: Ready::all(core)?,
+            rung: 0,
             length: core.journal().entries.len(),
             patience: TURNS_WITHOUT_ENTRY,
         })
     }
 
     /// A turn: flows go on up to their calls. Where the journal doesn't grow any more, the lowest begun call, once more.
-    pub fn turn<L: Library>(&mut self, core: &mut Core<L>) -> Next<L>
+    pub fn turn<L: Library>(&mut self, bells: &Bells, core: &mut Core<L>) -> Next<L>
         ensures on { GoesOn core.old core.new }
         ensures runs { RunsIn core.new.setup result }
     {
-        if self.advance(core).is_err() {
+        self.rung = bells.lead.rung();
+        if self.advance(bells, core).is_err() {
             core.halt();
             return Next::Ends;
         }
@@ -58,8 +64,13 @@ impl Lead {
         }
     }
 
+    /// Sleeps until an answer was handed in, and for a millisecond at most: it counts its turns without an entry.
+    pub fn rest<R: Wait>(&self, rt: &R, bells: &Bells) {
+        bells.lead.sleep(rt, self.rung, 1);
+    }
+
     /// Lets flows that are ready go on.
-    fn advance<L: Library>(&mut self, core: &mut Core<L>) -> Result<(), Memory>
+    fn advance<L: Library>(&mut self, bells: &Bells, core: &mut Core<L>) -> Result<(), Memory>
         ensures { GoesOn core.old core.new }
     {
         for _flow in 0..FLOWS_A_TURN {
@@ -67,9 +78,10 @@ impl Lead {
                 return Ok(());
             };
             match go_on(core, flow) {
-                Outing::Went => self.ready.add(flow)?,
-                Outing::Halted => return Err(Memory),
-                Outing::Ended | Outing::Waits | Outing::Calls(_) => {}
+                TurnEnd::Went => self.ready.add(flow)?,
+                TurnEnd::Halted => return Err(Memory),
+                TurnEnd::Calls(_) => bells.ring_for(flow),
+                TurnEnd::Ended | TurnEnd::Waits(_) => {}
             }
         }
         Ok(())

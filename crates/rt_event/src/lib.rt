@@ -7,11 +7,11 @@
 //! helpers have the core in turn. Whatever the order of their turns, the core comes back with a whole and legal journal.
 #![tactic(auto)]
 
+mod bells;
 mod helpers;
 mod leads;
 mod loops;
 mod parts;
-mod posts;
 mod ready;
 mod shifts;
 

@@ -104,7 +104,7 @@ fn round<L: Library, G: Gate>(core: &mut Core<L>, gate: &G) -> Result<(), Memory
     while let Some(owner) = next_owner(core, &mut candidates, on_turn, from)? {
         let ends = own_turn(core, gate, owner)?;
         from = owner.0 + 1;
-        candidates.told(core, from)?;
+        candidates.update(core, from)?;
         on_turn = (!ends).then_some(owner);
     }
     Ok(())

@@ -2,14 +2,17 @@
 
 ghost use Rattle.std.specs.Prelude.{◌<◌, ◌≤◌, length};
 ghost use Rattle.flow_core.specs.Runs.{GoesOn};
-ghost use Rattle.rt_event.specs.Parts.{RunsIn};
+ghost use Rattle.flow_turns.specs.Workers.{RunsIn};
 
+use crate::bells::Bells;
 use crate::helpers::Helper;
 use crate::leads::Lead;
-use flow_core::{Core, Job};
+use flow_core::Core;
+use flow_turns::{Next, Worker};
 use flux_library::Library;
 use flux_model::FlowNo;
 use flux_values::Memory;
+use std::sync::Wait;
 
 /// The loop, or a helper.
 #[derive(Drop)]
@@ -18,31 +21,26 @@ pub enum Part {
     Helper(Helper),
 }
 
-/// What a part does behind its turn.
-#[derive(Drop)]
-pub enum Next<L: Library> {
-    /// It goes on at once.
-    Goes,
-    /// It has nothing to do.
-    Rests,
-    /// It runs a call.
-    Runs(Job<L>),
-    /// It ends: no flow is live, or the core is halted.
-    Ends,
-}
-
-impl Part {
-    /// A part's turn.
-    pub fn turn<L: Library>(&mut self, core: &mut Core<L>) -> Next<L>
+impl Worker<Bells> for Part {
+    /// It ends where no flow is live or the core is halted.
+    fn turn<L: Library, R: Wait>(&mut self, _rt: &R, bells: &Bells, core: &mut Core<L>) -> Next<L>
         ensures on { GoesOn core.old core.new }
         ensures runs { RunsIn core.new.setup result }
     {
         if core.is_halted() || core.live() == 0 {
+            bells.ring_all();
             return Next::Ends;
         }
         match self {
-            Part::Lead(lead) => lead.turn(core),
-            Part::Helper(helper) => helper.turn(core),
+            Part::Lead(lead) => lead.turn(bells, core),
+            Part::Helper(helper) => helper.turn(bells, core),
+        }
+    }
+
+    fn rest<R: Wait>(&self, rt: &R, bells: &Bells) {
+        match self {
+            Part::Lead(lead) => lead.rest(rt, bells),
+            Part::Helper(helper) => helper.rest(rt, bells),
         }
     }
 }

@@ -1,99 +1,149 @@
 //! Groups of flows, each flow with a leaf of its own.
 
-ghost use Rattle.std.specs.Prelude.{◌≡◌, ◌<◌, ◌≤◌, length};
-ghost use Rattle.rt_perflow.specs.Posts.{IsPost};
+ghost use Rattle.flow_core.specs.Runs.{GoesOn};
+ghost use Rattle.flow_turns.specs.Workers.{RunsIn};
 
-use crate::posts::{Post, posts};
-use flow_core::Gate;
-use flow_hall::{Hall, HallSeat};
-use flow_outings::Stage;
-use flow_workers::{stop, visit};
+use crate::groups::Group;
+use flow_core::{Core, Gate};
+use flow_turns::{Next, TurnEnd, Worker, freed_since, go_on, share};
 use flux_library::Library;
+use flux_model::FlowNo;
+use flux_values::Memory;
 use std::alloc::Global;
 use std::marker::{Send, Sync};
 use std::sync::Wait;
-use std::thread;
 use std::thread::Threads;
-use thread_pauses::Pause;
 
 /// So many flows run at once, at most.
 const GROUP: u32 = 64;
 
-/// Group after group, until each flow has ended or the core is halted.
-pub fn groups<L: Library + Send + Sync, G: Gate + Sync, R: Threads + Wait + Sync>(
+/// A leaf whose flow waits looks again after so many milliseconds, though its bell wasn't rung.
+const LONGEST_SLEEP: u64 = 100;
+
+/// All groups, again and again, until no flow is live or the core is halted. A second round is for flows that waited for one
+/// of a later group.
+pub fn rounds<L: Library + Send + Sync, G: Gate + Sync, R: Threads + Wait + Sync>(
     rt: &R,
-    alloc: Global,
-    hall: &Hall<L>,
-    seat: HallSeat<L>,
-    flows: u32,
+    core: Core<L>,
     gate: &G,
-) -> HallSeat<L>
-    requires hall { seat.hall ≡ hall.now }
-    requires flows { flows ≤ length hall.now.base.setup.items }
-    ensures { result.hall ≡ hall.now }
+) -> Core<L>
+    ensures { GoesOn core result }
 {
-    let mut seat = seat;
+    let mut core = core;
+    for _ in rt.forever() {
+        if core.is_halted() || core.live() == 0 {
+            return core;
+        }
+        core = groups(rt, core, gate);
+    }
+    core
+}
+
+/// Group after group.
+fn groups<L: Library + Send + Sync, G: Gate + Sync, R: Threads + Wait + Sync>(
+    rt: &R,
+    core: Core<L>,
+    gate: &G,
+) -> Core<L>
+    ensures { GoesOn core result }
+{
+    let flows = core.flows();
+    let mut core = core;
     let mut first = 0;
     while first < flows {
         let end = first + (flows - first).min(GROUP);
-        seat = group(rt, alloc, hall, seat, first, end, gate);
+        core = group(rt, core, first, end, gate);
         first = end;
     }
-    seat
+    core
+}
+
+/// A leaf for each flow from `first` up to `end`.
+fn leaves(alloc: Global, first: u32, end: u32) -> Result<Vec<Leaf>, Memory> {
+    let mut leaves = Vec::new(alloc);
+    for number in first..end {
+        leaves.push(Leaf {
+            flow: FlowNo(number),
+            rung: 0,
+        })?;
+    }
+    Ok(leaves)
 }
 
 /// One group: a leaf for each flow, in threads of their own.
 fn group<L: Library + Send + Sync, G: Gate + Sync, R: Threads + Wait + Sync>(
     rt: &R,
-    alloc: Global,
-    hall: &Hall<L>,
-    seat: HallSeat<L>,
+    core: Core<L>,
     first: u32,
     end: u32,
     gate: &G,
-) -> HallSeat<L>
-    requires hall { seat.hall ≡ hall.now }
-    requires flows { end ≤ length hall.now.base.setup.items }
-    requires some { first ≤ end }
-    ensures { result.hall ≡ hall.now }
+) -> Core<L>
+    ensures { GoesOn core result }
 {
-    let (seat, posts) = match posts(alloc, hall, seat, first, end) {
-        Ok(made) => made,
-        Err(seat) => return stop(rt, hall, seat),
-    };
-    let ended = thread::map_vec(
-        rt,
-        posts,
-        &|post: Post<L>|
-            requires { IsPost hall.now post }
-        { leaf(rt, alloc, hall, post, gate) },
-    );
-    match ended {
-        Ok(_) => seat,
-        Err(_) => stop(rt, hall, seat),
+    let alloc = core.alloc();
+    match (leaves(alloc, first, end), Group::new(alloc, first, end)) {
+        (Ok(leaves), Ok(group)) => share(rt, core, &group, leaves, gate),
+        _ => {
+            let mut core = core;
+            core.halt();
+            core
+        }
     }
 }
 
-/// Visits the hall for one flow, until it has ended or the core is halted.
-fn leaf<L: Library, G: Gate, R: Wait>(
-    rt: &R,
-    alloc: Global,
-    hall: &Hall<L>,
-    post: Post<L>,
-    gate: &G,
-)
-    requires { IsPost hall.now post }
-{
-    let Post { seat, flow } = post;
-    let mut seat = seat;
-    let mut pause = Pause::new();
-    for _ in rt.forever() {
-        let (back, stage) = visit(rt, alloc, hall, seat, flow, gate);
-        seat = back;
-        match stage {
-            Stage::Ended | Stage::Halted => return,
-            Stage::Waits => pause.rest(rt),
-            Stage::Went => pause = Pause::new(),
+/// Lets one flow go on.
+#[derive(Clone, Copy, Drop)]
+pub struct Leaf {
+    flow: FlowNo,
+    /// How often its bell had been rung before its last turn.
+    rung: u32,
+}
+
+impl Worker<Group> for Leaf {
+    /// It ends where its flow has ended or the core is halted. It ends too where its flow waits for one without a leaf in this
+    /// group: that one can't go on before the group is over.
+    fn turn<L: Library, R: Wait>(&mut self, _rt: &R, group: &Group, core: &mut Core<L>) -> Next<L>
+        ensures on { GoesOn core.old core.new }
+        ensures runs { RunsIn core.new.setup result }
+    {
+        let flow = self.flow;
+        let Some(place) = group.place(flow) else {
+            return Next::Ends;
+        };
+        if flow.0 >= core.flows() {
+            return Next::Ends;
+        }
+        self.rung = place.bell.rung();
+        let known = core.journal().entries.len();
+        let end = go_on(core, flow);
+        if wake_freed(group, core, known).is_err() {
+            core.halt();
+            group.leave(flow);
+            return Next::Ends;
+        }
+        match end {
+            TurnEnd::Waits(blocker) if group.has_leaf(blocker) => Next::Rests,
+            TurnEnd::Waits(_) | TurnEnd::Halted => {
+                group.leave(flow);
+                Next::Ends
+            }
+            TurnEnd::Ended => Next::Ends,
+            TurnEnd::Went => Next::Goes,
+            TurnEnd::Calls(job) => Next::Runs(job),
         }
     }
+
+    fn rest<R: Wait>(&self, rt: &R, group: &Group) {
+        if let Some(place) = group.place(self.flow) {
+            place.bell.sleep(rt, self.rung, LONGEST_SLEEP);
+        }
+    }
+}
+
+/// Wakes the leaves of the flows that the entries from a place on may free.
+fn wake_freed<L: Library>(group: &Group, core: &Core<L>, known: usize) -> Result<(), Memory> {
+    for flow in freed_since(core, known)? {
+        group.wake(flow);
+    }
+    Ok(())
 }

@@ -3,10 +3,9 @@
 ghost use Rattle.std.specs.Prelude.{◌≡◌, IfOk, IfErr};
 ghost use Rattle.flow_core.specs.Runs.{GoesOnLegally, GoesToEnd};
 
-use crate::leaves::groups;
+use crate::leaves::rounds;
 use flow_core::{Core, Gate, Stopped};
-use flow_hall::Hall;
-use flow_outings::settle;
+use flow_turns::settle;
 use flux_library::Library;
 use std::marker::{Send, Sync};
 use std::sync::Wait;
@@ -29,16 +28,8 @@ impl PerFlow {
         ensures same { self.new ≡ self.old }
     {
         let halted = core.is_halted();
-        let alloc = core.alloc();
-        let flows = core.flows();
         let mut core = core;
         core.resume();
-        match Hall::new(alloc, core) {
-            Ok((hall, seat)) => {
-                let seat = groups(rt, alloc, &hall, seat, flows, gate);
-                settle(hall.close(rt, seat), halted)
-            }
-            Err(stopped) => settle(stopped.core, halted),
-        }
+        settle(rounds(rt, core, gate), halted)
     }
 }

@@ -3,11 +3,10 @@
 ghost use Rattle.std.specs.Prelude.{◌≡◌, ◌≤◌, IfOk, IfErr};
 ghost use Rattle.flow_core.specs.Runs.{GoesOnLegally, GoesToEnd};
 
-use crate::workers::shift;
+use crate::desks::Desk;
+use crate::workers::{Office, workers};
 use flow_core::{Core, Gate, Stopped};
-use flow_hall::Hall;
-use flow_outings::settle;
-use flow_queue::FlowQueue;
+use flow_turns::{settle, share};
 use flux_library::Library;
 use std::marker::{Send, Sync};
 use std::sync::Wait;
@@ -41,15 +40,10 @@ impl Pool {
         if flows == 0 {
             return settle(core, halted);
         }
-        let Ok((queue, pass)) = FlowQueue::new(rt, alloc, flows) else {
+        let (Ok(desk), Ok(workers)) = (Desk::new(rt, alloc, flows), workers(alloc, self.workers))
+        else {
             return settle(core, halted);
         };
-        match Hall::new(alloc, core) {
-            Ok((hall, seat)) => {
-                let seat = shift(rt, alloc, &hall, &queue, seat, pass, self.workers, gate);
-                settle(hall.close(rt, seat), halted)
-            }
-            Err(stopped) => settle(stopped.core, halted),
-        }
+        settle(share(rt, core, &Office::new(desk), workers, gate), halted)
     }
 }

@@ -1,174 +1,159 @@
 //! Workers.
 
-ghost use Rattle.std.specs.Prelude.{◌≡◌, ◌<◌, length};
-ghost use Rattle.rt_pool.specs.Posts.{IsPost};
+ghost use Rattle.std.specs.Prelude.{◌<◌, IfSome};
+ghost use Rattle.flow_core.specs.Runs.{GoesOn};
+ghost use Rattle.flow_turns.specs.Workers.{RunsIn};
 
-use crate::posts::{Post, posts};
-use flow_core::Gate;
-use flow_hall::{Hall, HallSeat};
-use flow_outings::Stage;
-use flow_queue::{FlowQueue, QueuePass};
-use flow_workers::{stop, visit};
+use crate::desks::Desk;
+use flow_core::Core;
+use flow_turns::{Bell, Next, TurnEnd, Worker, freed_since, go_on};
 use flux_library::Library;
 use flux_model::FlowNo;
+use flux_values::Memory;
 use std::alloc::Global;
-use std::marker::{Send, Sync};
-use std::sync::Wait;
-use std::thread;
-use std::thread::Threads;
-use thread_pauses::Pause;
+use std::sync::{Mutex, Wait};
 
-/// A worker makes so many visits of the hall for one flow, at most, before it takes another number. Between visits of a
-/// flow that waits it lets others go first, and behind the last four it sleeps, for up to 64 microseconds.
-const VISITS_IN_A_ROW: u32 = 20;
+/// In one turn a worker lets at most so many flows go on.
+const FLOWS_A_TURN: u32 = 8;
 
-/// What a worker does next.
-#[derive(Clone, Copy)]
-enum Next {
-    /// It goes on at once.
-    Goes,
-    /// It goes on with another flow, since this one waits.
-    Turns,
-    /// It rests, since no number was there.
-    Rests,
-    /// It ends: no flow is live, or the core is halted.
-    Ends,
+/// A worker lets a flow go on in so many turns, at most, before it puts its number back.
+const TURNS_IN_A_ROW: u32 = 20;
+
+/// A worker with nothing to do looks again after so many milliseconds, though its bell wasn't rung.
+const LONGEST_SLEEP: u64 = 100;
+
+/// What workers share beside the core. The desk is used in the turn alone, so nobody waits for its lock.
+#[derive(Drop)]
+pub struct Office {
+    desk: Mutex<Desk>,
+    bell: Bell,
 }
 
-/// The work of all workers, in threads of their own.
-pub fn shift<L: Library + Send + Sync, G: Gate + Sync, R: Threads + Wait + Sync>(
-    rt: &R,
-    alloc: Global,
-    hall: &Hall<L>,
-    queue: &FlowQueue,
-    seat: HallSeat<L>,
-    pass: QueuePass,
-    workers: u8,
-    gate: &G,
-) -> HallSeat<L>
-    requires hall { seat.hall ≡ hall.now }
-    requires queue { pass.queue ≡ queue.now }
-    requires flows { queue.now.flows ≡ length hall.now.base.setup.items }
-    ensures { result.hall ≡ hall.now }
-{
-    let (seat, posts) = match posts(alloc, hall, queue, seat, pass, workers) {
-        Ok(made) => made,
-        Err(seat) => return stop(rt, hall, seat),
-    };
-    let ended = thread::map_vec(
-        rt,
-        posts,
-        &|post: Post<L>|
-            requires { IsPost hall.now queue.now post }
-        { work(rt, alloc, hall, queue, post, gate) },
-    );
-    match ended {
-        Ok(_) => seat,
-        Err(_) => stop(rt, hall, seat),
-    }
-}
-
-/// The work of one worker. It rests where no number was there, or where it met as many waits in a row as there are flows.
-fn work<L: Library, G: Gate, R: Wait>(
-    rt: &R,
-    alloc: Global,
-    hall: &Hall<L>,
-    queue: &FlowQueue,
-    post: Post<L>,
-    gate: &G,
-)
-    requires { IsPost hall.now queue.now post }
-{
-    let mut post = post;
-    let mut pause = Pause::new();
-    let mut waits = 0;
-    let flows = queue.flows();
-    for _ in rt.forever() {
-        // Where one flow waited, most may. So it looks at each of the others once, and soon comes to one that can go on.
-        let patient = waits == 0;
-        let (back, next) = serve_once(rt, alloc, hall, queue, post, patient, gate);
-        post = back;
-        match next {
-            Next::Goes => {
-                waits = 0;
-                pause = Pause::new();
-            }
-            Next::Turns if waits < flows => waits += 1,
-            Next::Turns | Next::Rests => pause.rest(rt),
-            Next::Ends => return,
+impl Office {
+    pub fn new(desk: Desk) -> Office {
+        Office {
+            desk: Mutex::new(desk),
+            bell: Bell::new(),
         }
     }
 }
 
-/// Takes a number, lets its flow go on, and puts the number back unless the flow has ended.
-fn serve_once<L: Library, G: Gate, R: Wait>(
-    rt: &R,
-    alloc: Global,
-    hall: &Hall<L>,
-    queue: &FlowQueue,
-    post: Post<L>,
-    patient: bool,
-    gate: &G,
-) -> (Post<L>, Next)
-    requires { IsPost hall.now queue.now post }
-    ensures { IsPost hall.now queue.now result.0 }
-{
-    let Post { seat, mut pass } = post;
-    let Some(flow) = queue.take(rt, &mut pass) else {
-        let (seat, over) = is_over(rt, hall, seat);
-        let next = if over { Next::Ends } else { Next::Rests };
-        return (Post { seat, pass }, next);
-    };
-    let (seat, stage) = stay(rt, alloc, hall, seat, flow, patient, gate);
-    let next = match stage {
-        Stage::Ended => return (Post { seat, pass }, Next::Goes),
-        Stage::Halted => return (Post { seat, pass }, Next::Ends),
-        Stage::Waits => Next::Turns,
-        Stage::Went => Next::Goes,
-    };
-    queue.put(rt, &mut pass);
-    (Post { seat, pass }, next)
-}
-
-/// Visits the hall for a flow again and again, within the limit, until it has ended or the core is halted; without patience,
-/// also until it waits. So flows that want one key get it one after the other, without a walk through the whole queue for
-/// each.
-fn stay<L: Library, G: Gate, R: Wait>(
-    rt: &R,
-    alloc: Global,
-    hall: &Hall<L>,
-    seat: HallSeat<L>,
+/// A flow that a worker lets go on.
+#[derive(Clone, Copy, Drop)]
+struct Current {
     flow: FlowNo,
-    patient: bool,
-    gate: &G,
-) -> (HallSeat<L>, Stage)
-    requires hall { seat.hall ≡ hall.now }
-    requires flow { flow.0 < length hall.now.base.setup.items }
-    ensures { result.0.hall ≡ hall.now }
-{
-    let mut seat = seat;
-    let mut last = Stage::Went;
-    let mut pause = Pause::new();
-    for _visit in 0..VISITS_IN_A_ROW {
-        let (back, stage) = visit(rt, alloc, hall, seat, flow, gate);
-        seat = back;
-        last = stage;
-        match stage {
-            Stage::Ended | Stage::Halted => break,
-            Stage::Waits if patient => pause.rest(rt),
-            Stage::Waits => break,
-            Stage::Went => pause = Pause::new(),
-        }
-    }
-    (seat, last)
+    /// In so many turns more.
+    turns: u32,
 }
 
-/// Whether no flow is live or the core is halted.
-fn is_over<L: Library, R: Wait>(rt: &R, hall: &Hall<L>, seat: HallSeat<L>) -> (HallSeat<L>, bool)
-    requires { seat.hall ≡ hall.now }
-    ensures { result.0.hall ≡ hall.now }
-{
-    let turn = hall.turn(rt, seat);
-    let over = turn.core.is_halted() || turn.core.live() == 0;
-    (hall.give(turn), over)
+/// A worker of the pool.
+#[derive(Clone, Copy, Drop)]
+pub struct PoolWorker {
+    current: Option<Current>,
+    /// How often the bell had been rung before the worker's last turn.
+    rung: u32,
+}
+
+/// So many workers.
+pub fn workers(alloc: Global, count: u8) -> Result<Vec<PoolWorker>, Memory> {
+    let mut workers = Vec::new(alloc);
+    for _worker in 0..count {
+        workers.push(PoolWorker {
+            current: None,
+            rung: 0,
+        })?;
+    }
+    Ok(workers)
+}
+
+impl Worker<Office> for PoolWorker {
+    /// It ends where no flow is live or the core is halted.
+    fn turn<L: Library, R: Wait>(&mut self, rt: &R, office: &Office, core: &mut Core<L>) -> Next<L>
+        ensures on { GoesOn core.old core.new }
+        ensures runs { RunsIn core.new.setup result }
+    {
+        self.rung = office.bell.rung();
+        let mut desk = office.desk.lock(rt);
+        let next = self.advance(rt, &mut desk, core);
+        if desk.has_queued() || matches!(next, Next::Ends) {
+            office.bell.ring();
+        }
+        next
+    }
+
+    fn rest<R: Wait>(&self, rt: &R, office: &Office) {
+        office.bell.sleep(rt, self.rung, LONGEST_SLEEP);
+    }
+}
+
+impl PoolWorker {
+    /// Lets flows go on, one after the other, until one has to give the turn away.
+    fn advance<L: Library, R: Wait>(
+        &mut self,
+        rt: &R,
+        desk: &mut Desk,
+        core: &mut Core<L>,
+    ) -> Next<L>
+        ensures on { GoesOn core.old core.new }
+        ensures runs { RunsIn core.new.setup result }
+    {
+        for _flow in 0..FLOWS_A_TURN {
+            let Some(flow) = self.next_flow(rt, desk, core.flows()) else {
+                let over = core.is_halted() || core.live() == 0;
+                return if over { Next::Ends } else { Next::Rests };
+            };
+            let known = core.journal().entries.len();
+            let end = go_on(core, flow);
+            if wake_freed(rt, desk, core, known).is_err() {
+                core.halt();
+                return Next::Ends;
+            }
+            match end {
+                TurnEnd::Ended => self.current = None,
+                TurnEnd::Waits(_) => {
+                    desk.park(flow);
+                    self.current = None;
+                }
+                TurnEnd::Calls(job) => return Next::Runs(job),
+                TurnEnd::Went => return Next::Goes,
+                TurnEnd::Halted => return Next::Ends,
+            }
+        }
+        Next::Goes
+    }
+
+    /// The flow that it lets go on: the same as before, for so many turns, or the next of the queue.
+    fn next_flow<R: Wait>(&mut self, rt: &R, desk: &mut Desk, flows: u32) -> Option<FlowNo>
+        ensures { IfSome result (λ flow. flow.0 < flows) }
+    {
+        if let Some(current) = self.current {
+            if current.turns > 0 {
+                self.current = Some(Current {
+                    flow: current.flow,
+                    turns: current.turns - 1,
+                });
+                return (current.flow.0 < flows).then_some(current.flow);
+            }
+            desk.put_back(rt, current.flow);
+        }
+        let flow = desk.take(rt)?;
+        self.current = Some(Current {
+            flow,
+            turns: TURNS_IN_A_ROW,
+        });
+        (flow.0 < flows).then_some(flow)
+    }
+}
+
+/// Puts back the numbers of the flows that the entries from a place on may free.
+fn wake_freed<L: Library, R: Wait>(
+    rt: &R,
+    desk: &mut Desk,
+    core: &Core<L>,
+    known: usize,
+) -> Result<(), Memory> {
+    for flow in freed_since(core, known)? {
+        desk.wake(rt, flow);
+    }
+    Ok(())
 }

@@ -11,6 +11,7 @@ ghost use Rattle.flux_runs.specs.Simulations.{costs_for, printed_simulation, IsS
 ghost use Rattle.simulated_items.specs.steps.Work.{work_of, HasRoom};
 
 use flow_orders::Run;
+use flux_cli::{Costs, Processors};
 use flux_hoist::Checked;
 use flux_library::Library;
 use flux_model::Item;
@@ -18,7 +19,6 @@ use flux_runs::open;
 use flux_simulate::simulate;
 use flux_spelling::append_number;
 use flux_values::{Bytes, List, Memory};
-use flux_words::{Costs, Processors};
 use std::alloc::Global;
 use std::sync::Arc;
 

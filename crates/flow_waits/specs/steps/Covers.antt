@@ -11,27 +11,27 @@ use Rattle.flow_model.specs.Events.{IsLive}
 use Rattle.flux_laws.specs.Going.{IsBlocked}
 use Rattle.flux_laws.specs.Hoisted.{is_writer}
 use Rattle.flux_table.specs.declared.locks.Waiter.{Waiter}
-use Rattle.flow_state.specs.declared.stops.Stop.{Stop}
+use Rattle.flow_state.specs.declared.readiness.BlockedTake.{BlockedTake}
 use Rattle.flow_orders.specs.Turns.{IsBefore, IsFirstFrom, IsInLine}
 use Rattle.flow_waits.specs.steps.Staying.{IsFresh}
-use Rattle.flow_waits.specs.steps.Waking.{has, IsMore, IsLess, IsEarliest, Rooms, room_at, IsMoreAt, IsLessAt}
+use Rattle.flow_waits.specs.steps.Waking.{has, IsMore, IsLess, IsEarliest, ParkedFlows, parked_at, IsMoreAt, IsLessAt}
 
 -- the flows that are looked at; and those that aren't, since they were found blocked at a key, by the mode in which
 -- they would take it. Flows that stand in a line are found there
 pub record Pools : Type 0 where
   pub ready : List ℕ
-  pub readers : Rooms
-  pub writers : Rooms
+  pub readers : ParkedFlows
+  pub writers : ParkedFlows
 
-abbrev pub rooms_for : Pools → Mode → Rooms
-rooms_for pools Reader = pools.readers
-rooms_for pools Writer = pools.writers
+abbrev pub parked_for : Pools → Mode → ParkedFlows
+parked_for pools Reader = pools.readers
+parked_for pools Writer = pools.writers
 
 abbrev pub IsReady : Pools → ℕ → Type 0
 IsReady pools flow = has pools.ready flow ≡ true
 
 abbrev pub IsParked : Pools → Key → Mode → ℕ → Type 0
-IsParked pools key mode flow = has (room_at (rooms_for pools mode) key) flow ≡ true
+IsParked pools key mode flow = has (parked_at (parked_for pools mode) key) flow ≡ true
 
 -- ---- why it is enough
 
@@ -43,8 +43,8 @@ pub record IsBehind (setup : Setup) (entries : List Entry) (pools : Pools) (from
   pub fresh : IsFresh setup entries other key mode
   pub before : IsBefore from other flow
 
--- a flow waits in a room: it is blocked, or such a flow comes first
-pub record IsInRoom (setup : Setup) (entries : List Entry) (pools : Pools) (from flow : ℕ) : Type 0 where
+-- a flow is parked: it is blocked, or such a flow comes first
+pub record IsRightlyParked (setup : Setup) (entries : List Entry) (pools : Pools) (from flow : ℕ) : Type 0 where
   pub key : Key
   pub mode : Mode
   pub parked : IsParked pools key mode flow
@@ -53,7 +53,7 @@ pub record IsInRoom (setup : Setup) (entries : List Entry) (pools : Pools) (from
 -- a flow needn't be looked at, or is
 abbrev pub IsCovered : Setup → List Entry → Pools → ℕ → ℕ → Type 0
 IsCovered setup entries pools from flow = IsReady pools flow
-    ⊎ (IsInLine setup entries flow ⊎ IsInRoom setup entries pools from flow)
+    ⊎ (IsInLine setup entries flow ⊎ IsRightlyParked setup entries pools from flow)
 
 -- so the first flow from a number on that can go on is among those that are looked at
 pub record Covers (setup : Setup) (entries : List Entry) (pools : Pools) (from : ℕ) : Type 0 where
@@ -97,33 +97,33 @@ pub record FallsAsleep (old new : Pools) (flow : ℕ) : Type 0 where
   pub readers_ : new.readers ≡ old.readers
   pub writers_ : new.writers ≡ old.writers
 
--- a flow has a place in a room now, unless it stands in a line, which the flag tells
-abbrev pub HasRoom : Pools → Pools → ℕ → Key → Mode → Bool → Type 0
-HasRoom old new flow key mode true = (new.readers ≡ old.readers) × (new.writers ≡ old.writers)
-HasRoom old new flow key mode false = IsMoreAt (rooms_for old mode) (rooms_for new mode) key flow
-    × ((other : Mode) → mode ≢ other → rooms_for new other ≡ rooms_for old other)
+-- a flow is parked now, unless it stands in a line, which the flag tells
+abbrev pub BecomesParked : Pools → Pools → ℕ → Key → Mode → Bool → Type 0
+BecomesParked old new flow key mode true = (new.readers ≡ old.readers) × (new.writers ≡ old.writers)
+BecomesParked old new flow key mode false = IsMoreAt (parked_for old mode) (parked_for new mode) key flow
+    × ((other : Mode) → mode ≢ other → parked_for new other ≡ parked_for old other)
 
 -- a blocked flow is no longer looked at, and has such a place
-pub record Parks (old new : Pools) (flow : ℕ) (stop : Stop) : Type 0 where
+pub record Parks (old new : Pools) (flow : ℕ) (stop : BlockedTake) : Type 0 where
   pub less : IsLess old.ready new.ready flow
   pub fewer : IsReady old flow → length new.ready < length old.ready
-  pub room : HasRoom old new flow stop.key stop.mode stop.stands
+  pub parking : BecomesParked old new flow stop.key stop.mode stop.stands
 
--- the first flow of a room is looked at, and has left the room
-pub record MovesFirst (ready more : List ℕ) (rooms fewer : Rooms) (key : Key) (from flow : ℕ) : Type 0 where
-  pub earliest : IsEarliest (room_at rooms key) from flow
+-- the first of the parked flows is looked at, and is parked no longer
+pub record MovesFirst (ready more : List ℕ) (parks fewer : ParkedFlows) (key : Key) (from flow : ℕ) : Type 0 where
+  pub earliest : IsEarliest (parked_at parks key) from flow
   pub added : IsMore ready more flow
-  pub left : IsLessAt rooms fewer key flow
+  pub left : IsLessAt parks fewer key flow
 
--- so is the first flow of the room of a key, if there is one
-abbrev pub WakesFirst : List ℕ → List ℕ → Rooms → Rooms → Key → ℕ → Type 0
-WakesFirst ready more rooms fewer key from = ((room_at rooms key ≡ []) × (more ≡ ready) × (fewer ≡ rooms))
-    ⊎ ((flow : ℕ) × MovesFirst ready more rooms fewer key from flow)
+-- so is the first flow that is parked at a key, if there is one
+abbrev pub WakesFirst : List ℕ → List ℕ → ParkedFlows → ParkedFlows → Key → ℕ → Type 0
+WakesFirst ready more parks fewer key from = ((parked_at parks key ≡ []) × (more ≡ ready) × (fewer ≡ parks))
+    ⊎ ((flow : ℕ) × MovesFirst ready more parks fewer key from flow)
 
--- and the rooms of the other mode stay
+-- and the parked flows of the other mode stay
 pub record Wakes (old new : Pools) (key : Key) (mode : Mode) (from : ℕ) : Type 0 where
-  pub first : WakesFirst old.ready new.ready (rooms_for old mode) (rooms_for new mode) key from
-  pub others : (other : Mode) → mode ≢ other → rooms_for new other ≡ rooms_for old other
+  pub first : WakesFirst old.ready new.ready (parked_for old mode) (parked_for new mode) key from
+  pub others : (other : Mode) → mode ≢ other → parked_for new other ≡ parked_for old other
 
 -- the flows of a line that may go on, as long as no other flow takes the key: the first ones, to the first writer
 abbrev pub served_of : List Waiter → List ℕ

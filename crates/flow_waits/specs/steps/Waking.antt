@@ -1,6 +1,6 @@
--- Sets of flows' numbers, and rooms of flows by the keys that they would take.
-use Rattle.std.specs.Prelude.{◌≡◌, ◌≢◌, ℕ, ◌==◌, ◌||◌, ◌&&◌, not, Bool, true, false, List, [], Option, Some, None}
-use Rattle.std.specs.List.{list_any}
+-- Sets of flows' numbers, and parked flows by the keys that they would take.
+use Rattle.std.specs.Prelude.{◌≡◌, ◌≢◌, ℕ, ◌<◌, ◌==◌, ◌||◌, ◌&&◌, not, Bool, true, false, List, [], ◌∷◌, Option, Some, None}
+use Rattle.std.specs.List.{list_any, AllByRecursion}
 use Rattle.std.specs.Map.{lookup}
 use Rattle.flow_model.specs.declared.journals.Key.{Key}
 use Rattle.flow_model.specs.Keys.{same_key}
@@ -23,26 +23,31 @@ pub record IsEarliest (numbers : List ℕ) (from flow : ℕ) : Type 0 where
   pub is : has numbers flow ≡ true
   pub first : (other : ℕ) → has numbers other ≡ true → flow ≢ other → IsBefore from flow other
 
--- ---- rooms
+-- the lowest one is taken out
+pub record TakesLowest (old new : List ℕ) (flow : ℕ) : Type 0 where
+  pub was : old ≡ flow ∷ new
+  pub lowest : AllByRecursion (λ other. flow < other) new
 
-abbrev pub Rooms : Type 0
-Rooms = List (Key × List ℕ)
+-- ---- parked flows
 
-abbrev pub in_room : Option (List ℕ) → List ℕ
-in_room None = []
-in_room (Some flows) = flows
+abbrev pub ParkedFlows : Type 0
+ParkedFlows = List (Key × List ℕ)
 
-abbrev pub room_at : Rooms → Key → List ℕ
-room_at rooms key = in_room (lookup (same_key key) rooms)
+abbrev pub flows_or_none : Option (List ℕ) → List ℕ
+flows_or_none None = []
+flows_or_none (Some flows) = flows
 
--- one room's numbers are changed
-abbrev pub OthersStay : Rooms → Rooms → Key → Type 0
-OthersStay old new key = (other : Key) → same_key key other ≡ false → room_at new other ≡ room_at old other
+abbrev pub parked_at : ParkedFlows → Key → List ℕ
+parked_at parks key = flows_or_none (lookup (same_key key) parks)
 
-pub record IsMoreAt (old new : Rooms) (key : Key) (flow : ℕ) : Type 0 where
-  pub at : IsMore (room_at old key) (room_at new key) flow
+-- the numbers at one key are changed
+abbrev pub OthersStay : ParkedFlows → ParkedFlows → Key → Type 0
+OthersStay old new key = (other : Key) → same_key key other ≡ false → parked_at new other ≡ parked_at old other
+
+pub record IsMoreAt (old new : ParkedFlows) (key : Key) (flow : ℕ) : Type 0 where
+  pub at : IsMore (parked_at old key) (parked_at new key) flow
   pub others : OthersStay old new key
 
-pub record IsLessAt (old new : Rooms) (key : Key) (flow : ℕ) : Type 0 where
-  pub at : IsLess (room_at old key) (room_at new key) flow
+pub record IsLessAt (old new : ParkedFlows) (key : Key) (flow : ℕ) : Type 0 where
+  pub at : IsLess (parked_at old key) (parked_at new key) flow
   pub others : OthersStay old new key

@@ -57,8 +57,8 @@ impl Idlers {
         self.candidates.first_beside(core, from, &mut self.aside)
     }
 
-    /// Is told of the last entry, of a flow that is looked at.
-    pub fn told<L: Library>(&mut self, core: &Core<L>, from: u32) -> Result<(), Memory>
+    /// Takes in the last entry, which is of a flow that is looked at.
+    pub fn update<L: Library>(&mut self, core: &Core<L>, from: u32) -> Result<(), Memory>
         requires { Lags (setup_in L.meaning core.now) core.now.entries (beside self.old.pools self.old.aside) from }
         ensures covers { OnOk result (Covers (setup_in L.meaning core.now) core.now.entries
             (beside self.new.pools self.new.aside) from) }
@@ -104,7 +104,7 @@ impl Candidates {
                 self.ready.remove(number);
                 continue;
             }
-            match core.stop_at(flow) {
+            match core.blocked_take(flow) {
                 Some(stop) => self.park(number, stop)?,
                 None => return Ok(Some(flow)),
             }

@@ -6,9 +6,9 @@ use Rattle.flux_items.specs.Rules.{AreRules}
 use Rattle.flux_syntax.specs.declared.declarations.Decl.{Decl}
 use Rattle.flux_syntax.specs.ProgramOfText.{program_of}
 use Rattle.flux_load.specs.Loads.{program_text}
-use Rattle.flux_words.specs.declared.values.Runtime.{Runtime}
-use Rattle.flux_words.specs.declared.values.JournalFormat.{JournalFormat}
-use Rattle.flux_words.specs.Commands.{Command, run, audit, load, simulate, swarm}
+use Rattle.flux_cli.specs.declared.values.Runtime.{Runtime}
+use Rattle.flux_cli.specs.declared.values.JournalFormat.{JournalFormat}
+use Rattle.flux_cli.specs.Commands.{Command, run, audit, load, simulate, swarm}
 use Rattle.flux_commands.specs.declared.refusals.Refusal.{Refusal}
 use Rattle.flux_commands.specs.declared.refusals.Refusal.TheVariants.{Memory}
 use Rattle.flux_commands.specs.declared.statuses.Status.{Status}
@@ -71,7 +71,7 @@ StandsOnItems statuses.Missing = ⊤
 StandsOnItems other = ⊥
 
 abbrev pub ReadsItems : LibraryMeaning → Command → Files → Type 0
-ReadsItems meaning (run file items manner) told = AreRead meaning told (named file)
+ReadsItems meaning (run file items options) told = AreRead meaning told (named file)
 ReadsItems meaning (audit file items journal docs) told = AreRead meaning told (named file)
 ReadsItems meaning (load count first runtime) told = AreRead meaning told (made program_text)
 ReadsItems meaning (simulate file items simulating) told = AreRead meaning told (named file)

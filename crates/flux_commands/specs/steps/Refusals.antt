@@ -5,7 +5,7 @@ use Rattle.flux_outside.specs.Causes.{Rose}
 use Rattle.flux_faults.specs.declared.faults.StaticFault.{StaticFault}
 use Rattle.flux_syntax.specs.Unexpected.{IsFaulty}
 use Rattle.flux_check.specs.Judgement.{IsTextFault}
-use Rattle.flux_words.specs.Commands.{Command}
+use Rattle.flux_cli.specs.Commands.{Command}
 use Rattle.flux_commands.specs.declared.statuses.Status.{Status}
 use Rattle.flux_commands.specs.declared.statuses.Status.TheVariants as statuses
 use Rattle.flux_commands.specs.declared.refusals.Refusal.{Refusal}

@@ -6,7 +6,8 @@ use Rattle.flux_lexer.specs.declared.kinds.TokenKind.{TokenKind}
 use Rattle.flux_lexer.specs.declared.kinds.TokenKind.TheVariants as kinds
 use Rattle.flux_lexer.specs.declared.fronts.Front.{Front}
 use Rattle.flux_lexer.specs.declared.fronts.Front.TheVariants.{Skip, Token, Unclosed, Bad}
-use Rattle.flux_lexer.specs.Kinds.{is_digit, is_word_start, is_word_byte, word_kind, single}
+use Rattle.flux_values.specs.Identifiers.{is_digit, is_word_start, is_word_byte}
+use Rattle.flux_lexer.specs.Kinds.{word_kind, single}
 use Rattle.flux_lexer.specs.Pieces.{is_blank, close_of, line_length}
 
 -- a token of so many bytes, unless they are too many

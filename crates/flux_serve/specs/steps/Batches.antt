@@ -4,9 +4,9 @@ use Rattle.std.specs.Arc.{arc_value}
 use Rattle.flux_values.specs.Meanings.{LibraryMeaning}
 use Rattle.flux_cells.specs.Kept.{cells_of}
 use Rattle.flux_outside.specs.Streams.{Stream, Wrote, Broke}
-use Rattle.flux_batches.specs.declared.framing.Framing.{Framing}
-use Rattle.flux_batches.specs.declared.reading.Held.{Held}
-use Rattle.flux_batches.specs.Links.{Seen, AreHeld}
+use Rattle.flux_doors.specs.declared.framing.Framing.{Framing}
+use Rattle.flux_batches.specs.declared.reading.ReadLink.{ReadLink}
+use Rattle.flux_batches.specs.Links.{Seen, WereRead}
 use Rattle.flux_batches.specs.Gathered.{AreGathered}
 use Rattle.flux_outside.specs.Causes.{Rose}
 use Rattle.flux_doors.specs.Doors.{waiting, first_link}
@@ -61,11 +61,11 @@ MayServe meaning served =
 
 -- links came and were read
 pub record IsTaken {L : Type 0} (see : L → Seen) (framing : Framing)
-    (before after : Option (List (List L))) (late late' : ℕ) (held : List (Held L)) : Type 0 where
+    (before after : Option (List (List L))) (late late' : ℕ) (requests : List (ReadLink L)) : Type 0 where
   pub came : List L
   pub formed : AreGathered before after late late' came
   pub size : (0 < length came) × (length came ≤ 64)
-  pub read : AreHeld see framing came held []
+  pub read : WereRead see framing came requests []
 
 -- no batch was driven
 abbrev pub IsNone : {L : Type 0} → (L → Seen) → Sight L → Sight L → ServeEnd → Type 0

@@ -3,7 +3,7 @@ use Rattle.std.specs.Prelude.{◌≡◌, true, ⊤}
 use Rattle.flux_model.specs.declared.items.FlowNo.{FlowNo}
 use Rattle.flux_laws.specs.Growth.{has_ended}
 use Rattle.flow_core.specs.States.{CoreState}
-use Rattle.flow_outings.specs.Outings.{IsOwnCall}
+use Rattle.flow_turns.specs.Turns.{IsOwnCall}
 use Rattle.flux_batches.specs.Replies.{reply_of}
 use Rattle.flux_serve.specs.declared.turns.Next.{Next}
 use Rattle.flux_serve.specs.declared.turns.Next.TheVariants.{Runs, Replies, Stands}

@@ -38,8 +38,3 @@ pub record TakesNext (old new : List Run) (run : Run) : Type 0 where
 abbrev pub TakesDue : List Run → List Run → ℕ → Option Run → Type 0
 TakesDue old new tick None = AllByRecursion (λ run. tick < run.stop) old × (new ≡ old)
 TakesDue old new tick (Some run) = TakesNext old new run × (run.stop ≤ tick)
-
--- the lowest flow is taken out
-pub record TakesLowest (old new : List ℕ) (flow : ℕ) : Type 0 where
-  pub was : old ≡ flow ∷ new
-  pub lowest : AllByRecursion (λ other. flow < other) new

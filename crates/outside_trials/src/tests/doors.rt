@@ -2,7 +2,7 @@
 
 ghost use Rattle.std.specs.Prelude.{◌≡◌, ◌<◌};
 
-use flux_doors::{Door, Link, MemoryDoor, MemoryLink, OUT_LIMIT, RealDoor};
+use flux_doors::{Door, Framing, Link, MemoryDoor, MemoryLink, OUT_LIMIT, RealDoor};
 use flux_outside::MemorySink;
 use flux_values::{Bytes, List, Memory};
 use std::alloc::Global;
@@ -100,5 +100,74 @@ fn over_a_socket(rt: HostRuntime) -> Result<(), Fail> {
     let mut back = [0u8; 16];
     assert_eq!(rt; client.read(&mut back)?, 6);
     assert_eq!(rt; client.read(&mut back)?, 0);
+    Ok(())
+}
+
+/// A client that says nothing is passed over, one that has sent a part is given when the rest is there, and one that goes away
+/// with its text.
+#[test]
+fn only_whole_texts(rt: HostRuntime) -> Result<(), Fail> {
+    let alloc = rt.alloc();
+    let mut door = RealDoor::new(alloc, &rt);
+    door.expect(Framing::Line);
+    let port = open_somewhere(&mut door).ok_or("no port")?;
+    let there = SocketAddr::from((Ipv4Addr::LOCALHOST, port));
+    let silent = rt.connect(there)?;
+    let mut parts = rt.connect(there)?;
+    parts.write_all(b"ab")?;
+    let mut whole = rt.connect(there)?;
+    whole.write_all(b"abc\n")?;
+    assert_eq!(rt; visit(&mut door, true), 4);
+    assert_eq!(rt; visit(&mut door, false), 0);
+    parts.write_all(b"cde\n")?;
+    assert_eq!(rt; visit(&mut door, true), 6);
+    silent.shutdown(Shutdown::Write)?;
+    assert_eq!(rt; visit(&mut door, true), 0);
+    let mut back = [0u8; 4];
+    assert_eq!(rt; parts.read(&mut back)?, 3);
+    assert_eq!(rt; whole.read(&mut back)?, 3);
+    Ok(())
+}
+
+/// How many bytes a client gets, and none of them is waited for: the door sends on between its reads.
+fn get_all<D: Door, S: Read>(door: &mut D, client: &mut S, block: &mut [u8], wanted: usize) -> usize
+    requires { D.out door.old < OUT_LIMIT }
+    ensures { D.out door.new ≡ D.out door.old }
+{
+    let mut got = 0usize;
+    'reads: for _ in 0..1_000_000 {
+        if got >= wanted {
+            return got;
+        }
+        match client.read(block) {
+            Ok(count) => got = got.saturating_add(count),
+            Err(_) => {
+                let _ = visit(door, false);
+            }
+        }
+    }
+    got
+}
+
+/// More bytes than a socket takes are kept, and sent when the client takes them.
+#[test]
+fn a_long_reply(rt: HostRuntime) -> Result<(), Fail> {
+    let alloc = rt.alloc();
+    let mut door = RealDoor::new(alloc, &rt);
+    let port = open_somewhere(&mut door).ok_or("no port")?;
+    let mut client = rt.connect(SocketAddr::from((Ipv4Addr::LOCALHOST, port)))?;
+    client.write_all(b"\n\n")?;
+    let mut link = match door.accept(true) {
+        Ok(Some(link)) => link,
+        _ => return Err(Fail::from("no link")),
+    };
+    let reply = Vec::from_elem(alloc, 7u8, 33_554_432)?;
+    assert_eq!(rt; link.write(reply.as_slice()), Ok(33_554_432));
+    assert_eq!(rt; link.write(b"more"), Ok(4));
+    door.done(link);
+    client.set_nonblocking(true)?;
+    let mut block = Vec::from_elem(alloc, 0u8, 65_536)?;
+    let got = get_all(&mut door, &mut client, block.as_mut_slice(), 33_554_436);
+    assert_eq!(rt; got, 33_554_436);
     Ok(())
 }

@@ -40,11 +40,11 @@ loop-candidates-preserved g c =
           c.in-Some.flow c.in_ok-take_turn.field-0
           c.loop-candidates.invariant.0 c.loop-candidates.invariant.1 chosen c.take_turn.ensures.others.setting
           c.in_ok-take_turn.ensures.ok,
-      c.in_ok-told.ensures.covers,
+      c.in_ok-update.ensures.covers,
     )
 
-pub returns-in_err-told-clause-legal : goal.returns-in_err-told-clause-legal
-returns-in_err-told-clause-legal g c =
+pub returns-in_err-update-clause-legal : goal.returns-in_err-update-clause-legal
+returns-in_err-update-clause-legal g c =
     let chosen = rw c.in-Some.is at c.in_ok-flow.ensures.first in
     turn-legal g.L.Meaning.meaning c.args.core.now c.loop-candidates.core c.take_turn.new.core c.first.new.self
     c.in-Some.flow c.in_ok-take_turn.field-0

@@ -1,6 +1,6 @@
 use Rattle.std.proofs.Common.{◌≡◌, ◌≤◌, true, [], length, take, sym, ◌∙◌, arith}
 use Rattle.std.proofs.lemmas.List.{length-take-le}
-use Rattle.flux_batches.specs.Texts.{ends, has_front, limit_of}
+use Rattle.flux_doors.specs.Texts.{ends, has_front, limit_of}
 use Rattle.flux_batches.proofs.Filled.{filled-more, filled-fits, read-found}
 use Rattle.flux_batches.proofs.reading.fill.Goals as goal
 

@@ -7,8 +7,8 @@ use Rattle.flux_batches.proofs.reading.unread.Given as goal
 -- those that are in the list, and those that are left; there is room for all
 abbrev pub invariant-links : goal.invariant-links
 invariant-links g l =
-    (map to_read l.fn.links.items ≡ l.held.items ++ map to_read l.links.items)
-    × (deque_len l.held + deque_len l.links ≤ deque_capacity l.held) × (deque_len l.held + deque_len l.links ≡ deque_len l.fn.links)
+    (map to_read l.fn.links.items ≡ l.request.items ++ map to_read l.links.items)
+    × (deque_len l.request + deque_len l.links ≤ deque_capacity l.request) × (deque_len l.request + deque_len l.links ≡ deque_len l.fn.links)
 
 abbrev pub decreases-links : goal.decreases-links
 decreases-links g l = deque_len l.links

@@ -9,6 +9,6 @@ returns-clause-answered g c =
     let there = c.make_contiguous-all.ensures in
     let long = c.answer_each.auto.links in
     answered-all see c.args.entries.now c.flows_of-flows.result c.args.links.items c.make_contiguous-all.result.now
-    c.answer_each.new.links _ (g.D.Door.taken_back c.args.door.now) (g.D.Door.taken_back c.give_back_held.new.door)
+    c.answer_each.new.links _ (g.D.Door.taken_back c.args.door.now) (g.D.Door.taken_back c.give_back_read.new.door)
     there.value (there.writes_back c.answer_each.new.links (long ∙ there.len)) long c.flows_of-flows.ensures.flows
-    c.answer_each.ensures c.give_back_held.ensures.back
+    c.answer_each.ensures c.give_back_read.ensures.back

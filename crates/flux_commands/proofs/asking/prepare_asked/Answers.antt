@@ -1,6 +1,6 @@
 use Rattle.std.specs.Arc.{arc_value}
 use Rattle.std.proofs.Common.{sym, subst}
-use Rattle.flux_words.specs.Asking.{asked}
+use Rattle.flux_cli.specs.Asking.{asked}
 use Rattle.flux_commands.specs.declared.refusals.Refusal.TheVariants as refusals
 use Rattle.flux_commands.specs.BuiltIn.{built_in}
 use Rattle.flux_commands.specs.Told.{Told}

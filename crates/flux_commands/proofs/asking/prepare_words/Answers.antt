@@ -1,4 +1,4 @@
-use Rattle.flux_words.specs.Asking.{asked}
+use Rattle.flux_cli.specs.Asking.{asked}
 use Rattle.std.proofs.Common.{◌≡◌, inl, inr, refl}
 use Rattle.flux_commands.specs.declared.refusals.Refusal.TheVariants as refusals
 use Rattle.flux_commands.specs.declared.statuses.Status.{Status}

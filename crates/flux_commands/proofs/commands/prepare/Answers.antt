@@ -2,7 +2,7 @@ use Rattle.std.specs.Arc.{arc_value}
 use Rattle.std.specs.Prelude.{option_copied, IfOk, IfErr}
 use Rattle.std.proofs.Common.{subst}
 use Rattle.nodes_all.specs.declared.all.All.{All}
-use Rattle.flux_words.specs.Commands.{check, plan, format}
+use Rattle.flux_cli.specs.Commands.{check, plan}
 use Rattle.flux_commands.specs.BuiltIn.{meaning_in}
 use Rattle.flux_commands.specs.steps.Refusals.{IsRefused}
 use Rattle.flux_commands.specs.steps.Preparing.{IsPrepared}
@@ -25,9 +25,17 @@ pub returns-in-Plan-clause-refused : goal.returns-in-Plan-clause-refused
 returns-in-Plan-clause-refused g c = rw c.in-Plan.is (subst (λ (l : All). IfErr c.prepare_plan.result (IsRefused (meaning_in l) (plan c.in-Plan.file.now) (g.S.Store.files c.args.store.now)))
     c.deref-in-Plan.ensures c.prepare_plan.ensures.refused)
 
+pub returns-in-Format-clause-asked : goal.returns-in-Format-clause-asked
+returns-in-Format-clause-asked g c = rw c.in-Format.is (c.prepare_format.ensures.asked (meaning_in (arc_value c.args.library)))
+
+pub returns-in-Format-clause-done : goal.returns-in-Format-clause-done
+returns-in-Format-clause-done g c = rw c.in-Format.is (c.prepare_format.ensures.done (meaning_in (arc_value c.args.library)))
+
 pub returns-in-Format-clause-refused : goal.returns-in-Format-clause-refused
-returns-in-Format-clause-refused g c = rw c.in-Format.is (subst (λ (l : All). IfErr c.prepare_format.result (IsRefused (meaning_in l) (format c.in-Format.file.now) (g.S.Store.files c.args.store.now)))
-    c.deref-in-Format.ensures c.prepare_format.ensures.refused)
+returns-in-Format-clause-refused g c = rw c.in-Format.is (c.prepare_format.ensures.refused (meaning_in (arc_value c.args.library)))
+
+pub returns-in-Format-clause-firm : goal.returns-in-Format-clause-firm
+returns-in-Format-clause-firm g c = rw c.in-Format.is (c.prepare_format.ensures.firm (meaning_in (arc_value c.args.library)))
 
 pub returns-in-Run-clause-asked : goal.returns-in-Run-clause-asked
 returns-in-Run-clause-asked g c = rw c.in-Run.is (c.prepare_run.ensures.asked (option_copied c.in-Run.docs))

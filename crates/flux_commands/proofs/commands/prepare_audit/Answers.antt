@@ -1,5 +1,5 @@
 use Rattle.std.specs.Arc.{arc_value}
-use Rattle.flux_words.specs.Commands.{audit}
+use Rattle.flux_cli.specs.Commands.{audit}
 use Rattle.flux_commands.specs.declared.statuses.Status.{Status}
 use Rattle.flux_commands.specs.Origins.{named}
 use Rattle.flux_commands.specs.steps.Refusals.{IsRefused}

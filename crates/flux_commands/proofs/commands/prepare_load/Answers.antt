@@ -1,6 +1,6 @@
 use Rattle.std.specs.Arc.{arc_value}
 use Rattle.flux_load.specs.Loads.{program_text, items_text}
-use Rattle.flux_words.specs.Commands.{load}
+use Rattle.flux_cli.specs.Commands.{load}
 use Rattle.std.specs.Prelude.{None}
 use Rattle.flux_commands.specs.BuiltIn.{meaning_in}
 use Rattle.flux_commands.specs.declared.statuses.Status.{Status}

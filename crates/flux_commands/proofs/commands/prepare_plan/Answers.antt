@@ -1,5 +1,5 @@
 use Rattle.std.proofs.Common.{refl}
-use Rattle.flux_words.specs.Commands.{plan}
+use Rattle.flux_cli.specs.Commands.{plan}
 use Rattle.flux_commands.specs.steps.Refusals.{IsRefused}
 use Rattle.flux_commands.proofs.Passed.{passed}
 use Rattle.flux_commands.proofs.Loading.{file_refused, is_planned}

@@ -1,5 +1,5 @@
 use Rattle.std.proofs.Common.{◌≡◌, Some, ◌∙◌}
-use Rattle.flux_words.specs.Asking.{asked}
+use Rattle.flux_cli.specs.Asking.{asked}
 use Rattle.flux_commands.proofs.services.read_service.Goals as goal
 
 pub unreachable-requires : goal.unreachable-requires

@@ -1,4 +1,4 @@
-use Rattle.flux_words.specs.Commands.{serve}
+use Rattle.flux_cli.specs.Commands.{serve}
 use Rattle.flux_commands.specs.BuiltIn.{built_in}
 use Rattle.flux_driver.proofs.Steps.{told_same}
 use Rattle.flux_driver.proofs.Answered.{put_done, told_done}

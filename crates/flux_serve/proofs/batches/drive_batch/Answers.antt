@@ -14,9 +14,9 @@ returns-in-Ok-run_links-clause-ran g c log =
     let see : g.row.D-Link.Denot → Seen = seen_by g.D.Link.Link.had g.D.Link.Link.left g.D.Link.Link.written g.D.Link.Link.faults in
     let sight : g.row.D.Denot → Stream → Sight g.row.D-Link.Denot = sight_in g.D.Door.to_come g.D.Door.taken_back g.D.Door.faults g.D.Door.late in
     let run' = c.in-Ok-run_links.run' in
-    let helds = c.in-Ok.links.items in
-    let A : List Entry → Type 0 = λ e. AreAllAnswered see e helds (g.D.Door.taken_back c.take.new.door) (g.D.Door.taken_back c.answer_links.new.door) in
-    ran_of see (service_in g.L.Meaning.meaning c.args.served.now) (cells_of c.args.opening) c.args.number (sight c.args.door.now log) (sight c.answer_links.new.door log) helds run' (record {
+    let requests = c.in-Ok.links.items in
+    let A : List Entry → Type 0 = λ e. AreAllAnswered see e requests (g.D.Door.taken_back c.take.new.door) (g.D.Door.taken_back c.answer_links.new.door) in
+    ran_of see (service_in g.L.Meaning.meaning c.args.served.now) (cells_of c.args.opening) c.args.number (sight c.args.door.now log) (sight c.answer_links.new.door log) requests run' (record {
       to_come = g.D.Door.to_come c.take.new.door;
       taken_back = g.D.Door.taken_back c.take.new.door;
       late = g.D.Door.late c.take.new.door;
@@ -39,10 +39,10 @@ pub returns-in-Err-run_links-clause-none : goal.returns-in-Err-run_links-clause-
 returns-in-Err-run_links-clause-none g c log =
     let see : g.row.D-Link.Denot → Seen = seen_by g.D.Link.Link.had g.D.Link.Link.left g.D.Link.Link.written g.D.Link.Link.faults in
     let sight : g.row.D.Denot → Stream → Sight g.row.D-Link.Denot = sight_in g.D.Door.to_come g.D.Door.taken_back g.D.Door.faults g.D.Door.late in
-    undriven_of see c.args.served.now.framing (sight c.args.door.now log) (sight c.give_back_held.new.door log)
+    undriven_of see c.args.served.now.framing (sight c.args.door.now log) (sight c.give_back_read.new.door log)
     (g.D.Door.to_come c.take.new.door) (g.D.Door.taken_back c.take.new.door) (g.D.Door.late c.take.new.door) c.in-Ok.links.items
-    c.in-Ok.ensures.taken c.in-Ok.ensures.back c.give_back_held.ensures.back c.give_back_held.ensures.kept c.give_back_held.ensures.counts.1
-    (c.give_back_held.ensures.counts.0 ∙ c.in-Ok.ensures.steady) refl
+    c.in-Ok.ensures.taken c.in-Ok.ensures.back c.give_back_read.ensures.back c.give_back_read.ensures.kept c.give_back_read.ensures.counts.1
+    (c.give_back_read.ensures.counts.0 ∙ c.in-Ok.ensures.steady) refl
 
 pub returns-in-Ok-run_links-clause-open : goal.returns-in-Ok-run_links-clause-open
 returns-in-Ok-run_links-clause-open g c = c.answer_links.ensures.open ∙ c.take.ensures.open
@@ -54,13 +54,13 @@ returns-in-Ok-run_links-clause-later g c =
     (subst F (sym c.answer_links.ensures.counts.0) c.take.ensures.later.0, subst N (sym c.answer_links.ensures.counts.1) c.take.ensures.later.1)
 
 pub returns-in-Err-run_links-clause-open : goal.returns-in-Err-run_links-clause-open
-returns-in-Err-run_links-clause-open g c = c.give_back_held.ensures.open ∙ c.take.ensures.open
+returns-in-Err-run_links-clause-open g c = c.give_back_read.ensures.open ∙ c.take.ensures.open
 
 pub returns-in-Err-run_links-clause-later : goal.returns-in-Err-run_links-clause-later
 returns-in-Err-run_links-clause-later g c =
     let F : ℕ → Type 0 = λ n. g.D.Door.faults c.args.door.now ≤ n in
     let N : ℕ → Type 0 = λ n. g.D.Door.late c.args.door.now ≤ n in
-    (subst F (sym c.give_back_held.ensures.counts.0) c.take.ensures.later.0, subst N (sym c.give_back_held.ensures.counts.1) c.take.ensures.later.1)
+    (subst F (sym c.give_back_read.ensures.counts.0) c.take.ensures.later.0, subst N (sym c.give_back_read.ensures.counts.1) c.take.ensures.later.1)
 
 pub returns-in-Ok-run_links-clause-bound : goal.returns-in-Ok-run_links-clause-bound
 returns-in-Ok-run_links-clause-bound g c = omega (arith, c.in-Ok-run_links.ensures.next, c.in-Ok.ensures.out.1)

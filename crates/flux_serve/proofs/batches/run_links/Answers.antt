@@ -3,8 +3,8 @@ use Rattle.flux_batches.specs.Links.{items_from}
 use Rattle.flux_serve.proofs.Unwritten.{few_items}
 use Rattle.flux_serve.proofs.batches.run_links.Goals as goal
 
-pub run-requires-clause-few : goal.run-requires-clause-few
-run-requires-clause-few g c =
-    let held = c.args.links.now in
-    let same : length c.in_ok-items.items ≡ length (items_from c.args.number held.items) = ap length c.in_ok-items.ensures.items in
-    omega (arith, same, few_items c.args.number held.items, held.ok.0, c.requires.few)
+pub run_items-requires-clause-few : goal.run_items-requires-clause-few
+run_items-requires-clause-few g c =
+    let links = c.args.links.now in
+    let same : length c.in_ok-items.items ≡ length (items_from c.args.number links.items) = ap length c.in_ok-items.ensures.items in
+    omega (arith, same, few_items c.args.number links.items, links.ok.0, c.requires.few)

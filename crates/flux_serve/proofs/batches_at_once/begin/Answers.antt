@@ -5,6 +5,6 @@ use Rattle.flux_serve.proofs.batches_at_once.begin.Goals as goal
 
 pub open-requires-clause-few : goal.open-requires-clause-few
 open-requires-clause-few g c =
-    let held = c.args.links.now in
-    let same : length c.in_ok-items.items ≡ length (items_from c.args.number held.items) = ap length c.in_ok-items.ensures.items in
-    omega (arith, same, few_items c.args.number held.items, held.ok.0, c.requires.few)
+    let links = c.args.links.now in
+    let same : length c.in_ok-items.items ≡ length (items_from c.args.number links.items) = ap length c.in_ok-items.ensures.items in
+    omega (arith, same, few_items c.args.number links.items, links.ok.0, c.requires.few)

@@ -20,10 +20,10 @@ pub returns-in-Err-prepare-clause-none : goal.returns-in-Err-prepare-clause-none
 returns-in-Err-prepare-clause-none g c log =
     let see : g.row.D-Link.Denot → Seen = seen_by g.D.Link.Link.had g.D.Link.Link.left g.D.Link.Link.written g.D.Link.Link.faults in
     let sight : g.row.D.Denot → Stream → Sight g.row.D-Link.Denot = sight_in g.D.Door.to_come g.D.Door.taken_back g.D.Door.faults g.D.Door.late in
-    inl (undriven_of see c.args.served.now.framing (sight c.args.door.now log) (sight c.give_back_held.new.door log)
+    inl (undriven_of see c.args.served.now.framing (sight c.args.door.now log) (sight c.give_back_read.new.door log)
     (g.D.Door.to_come c.take.new.door) (g.D.Door.taken_back c.take.new.door) (g.D.Door.late c.take.new.door) c.in-Ok.links.items
-    c.in-Ok.ensures.taken c.in-Ok.ensures.back c.give_back_held.ensures.back c.give_back_held.ensures.kept c.give_back_held.ensures.counts.1
-    (c.give_back_held.ensures.counts.0 ∙ c.in-Ok.ensures.steady) refl)
+    c.in-Ok.ensures.taken c.in-Ok.ensures.back c.give_back_read.ensures.back c.give_back_read.ensures.kept c.give_back_read.ensures.counts.1
+    (c.give_back_read.ensures.counts.0 ∙ c.in-Ok.ensures.steady) refl)
 
 pub returns-then-whole-clause-ran : goal.returns-then-whole-clause-ran
 returns-then-whole-clause-ran g c log =
@@ -31,15 +31,15 @@ returns-then-whole-clause-ran g c log =
     let sight : g.row.D.Denot → Stream → Sight g.row.D-Link.Denot = sight_in g.D.Door.to_come g.D.Door.taken_back g.D.Door.faults g.D.Door.late in
     let service = service_in g.L.Meaning.meaning c.args.served.now in
     let items = c.in-Ok-prepare.prepared.1 in
-    let helds = c.in-Ok.links.items in
-    let ran = c.run_lanes-journal.result in
+    let requests = c.in-Ok.links.items in
+    let ran = c.run_queues-journal.result in
     let journal = ran.0 in
     let L : CoreState g.row.L.Denot → Type 0 = λ k. IsLegal (setup_in g.L.Meaning.meaning k) journal.entries in
     let W : CoreState g.row.L.Denot → Type 0 = λ k. IsWhole (setup_in g.L.Meaning.meaning k) journal.entries in
     let K : CoreState g.row.L.Denot → Type 0 = λ k. cells_of ran.1 ≡ cells_after (setup_in g.L.Meaning.meaning k) journal.entries in
-    let legal : IsLegal (batch_setup service (cells_of c.args.opening) items) journal.entries = subst L c.in-Ok-prepare.ensures.core c.run_lanes-journal.ensures.legal in
-    let run' : Run = record { items = items; journal = journal; cells = ran.1; next = c.args.number + c.len.result } in
-    ran_of see service (cells_of c.args.opening) c.args.number (sight c.args.door.now log) (sight c.run_lanes-journal.new.door log) helds run' (record {
+    let legal : IsLegal (batch_setup service (cells_of c.args.opening) items) journal.entries = subst L c.in-Ok-prepare.ensures.core c.run_queues-journal.ensures.legal in
+    let run' : Run = record { items = items; journal = journal; cells = ran.1; next = c.args.number + c.len-2.result } in
+    ran_of see service (cells_of c.args.opening) c.args.number (sight c.args.door.now log) (sight c.run_queues-journal.new.door log) requests run' (record {
       to_come = g.D.Door.to_come c.take.new.door;
       taken_back = g.D.Door.taken_back c.take.new.door;
       late = g.D.Door.late c.take.new.door;
@@ -48,14 +48,14 @@ returns-then-whole-clause-ran g c log =
       each = c.in-Ok-prepare.ensures.read;
       is = c.in-Ok-prepare.ensures.items;
       legal = legal;
-      whole = subst W c.in-Ok-prepare.ensures.core (c.run_lanes-journal.ensures.whole c.if-whole.true);
-      cells_ = subst K c.in-Ok-prepare.ensures.core c.run_lanes-journal.ensures.cells;
-      next_ = ap (λ n. c.args.number + n) (c.len.ensures ∙ c.in-Ok.links.ok.0);
-      answered = all-answered see (batch_setup service (cells_of c.args.opening) items) journal.entries legal helds
-          (g.D.Door.taken_back c.take.new.door) (g.D.Door.taken_back c.run_lanes-journal.new.door) ran.2 c.if-whole.true c.run_lanes-journal.ensures.back;
-      come = c.run_lanes-journal.ensures.kept;
-      late_ = c.run_lanes-journal.ensures.counts.1;
-      steady = c.run_lanes-journal.ensures.counts.0 ∙ c.in-Ok.ensures.steady;
+      whole = subst W c.in-Ok-prepare.ensures.core (c.run_queues-journal.ensures.whole c.if-whole.true);
+      cells_ = subst K c.in-Ok-prepare.ensures.core c.run_queues-journal.ensures.cells;
+      next_ = ap (λ n. c.args.number + n) (c.len-2.ensures ∙ c.in-Ok.links.ok.0);
+      answered = all-answered see (batch_setup service (cells_of c.args.opening) items) journal.entries legal requests
+          (g.D.Door.taken_back c.take.new.door) (g.D.Door.taken_back c.run_queues-journal.new.door) ran.2 c.if-whole.true c.run_queues-journal.ensures.back;
+      come = c.run_queues-journal.ensures.kept;
+      late_ = c.run_queues-journal.ensures.counts.1;
+      steady = c.run_queues-journal.ensures.counts.0 ∙ c.in-Ok.ensures.steady;
       log_ = refl;
     })
 
@@ -65,15 +65,15 @@ returns-clause-none g c log =
     let sight : g.row.D.Denot → Stream → Sight g.row.D-Link.Denot = sight_in g.D.Door.to_come g.D.Door.taken_back g.D.Door.faults g.D.Door.late in
     let service = service_in g.L.Meaning.meaning c.args.served.now in
     let items = c.in-Ok-prepare.prepared.1 in
-    let helds = c.in-Ok.links.items in
-    let ran = c.run_lanes-journal.result in
+    let requests = c.in-Ok.links.items in
+    let ran = c.run_queues-journal.result in
     let journal = ran.0 in
     let L : CoreState g.row.L.Denot → Type 0 = λ k. IsLegal (setup_in g.L.Meaning.meaning k) journal.entries in
     let U : CoreState g.row.L.Denot → Type 0 = λ k. IsWhole (setup_in g.L.Meaning.meaning k) journal.entries → ⊥ in
-    let B : Bool → Type 0 = λ b. TakenBack see b journal.entries helds (g.D.Door.taken_back c.take.new.door) (g.D.Door.taken_back c.run_lanes-journal.new.door) in
+    let B : Bool → Type 0 = λ b. TakenBack see b journal.entries requests (g.D.Door.taken_back c.take.new.door) (g.D.Door.taken_back c.run_queues-journal.new.door) in
     inr (
       refl,
-      begun-of see service (cells_of c.args.opening) c.args.number (sight c.args.door.now log) (sight c.run_lanes-journal.new.door log) helds items journal (record {
+      begun-of see service (cells_of c.args.opening) c.args.number (sight c.args.door.now log) (sight c.run_queues-journal.new.door log) requests items journal (record {
         to_come = g.D.Door.to_come c.take.new.door;
         taken_back = g.D.Door.taken_back c.take.new.door;
         late = g.D.Door.late c.take.new.door;
@@ -81,42 +81,42 @@ returns-clause-none g c log =
         back = c.in-Ok.ensures.back;
         each = c.in-Ok-prepare.ensures.read;
         is = c.in-Ok-prepare.ensures.items;
-        legal = subst L c.in-Ok-prepare.ensures.core c.run_lanes-journal.ensures.legal;
-        unfinished = subst U c.in-Ok-prepare.ensures.core (c.run_lanes-journal.ensures.broken c.if-whole.false);
-        returned = subst B c.if-whole.false c.run_lanes-journal.ensures.back;
-        come = c.run_lanes-journal.ensures.kept;
-        late_ = c.run_lanes-journal.ensures.counts.1;
-        steady = c.run_lanes-journal.ensures.counts.0 ∙ c.in-Ok.ensures.steady;
+        legal = subst L c.in-Ok-prepare.ensures.core c.run_queues-journal.ensures.legal;
+        unfinished = subst U c.in-Ok-prepare.ensures.core (c.run_queues-journal.ensures.broken c.if-whole.false);
+        returned = subst B c.if-whole.false c.run_queues-journal.ensures.back;
+        come = c.run_queues-journal.ensures.kept;
+        late_ = c.run_queues-journal.ensures.counts.1;
+        steady = c.run_queues-journal.ensures.counts.0 ∙ c.in-Ok.ensures.steady;
         log_ = refl;
       }),
     )
 
 pub returns-in-Err-prepare-clause-open : goal.returns-in-Err-prepare-clause-open
-returns-in-Err-prepare-clause-open g c = c.give_back_held.ensures.open ∙ c.take.ensures.open
+returns-in-Err-prepare-clause-open g c = c.give_back_read.ensures.open ∙ c.take.ensures.open
 
 pub returns-in-Err-prepare-clause-later : goal.returns-in-Err-prepare-clause-later
 returns-in-Err-prepare-clause-later g c =
     let F : ℕ → Type 0 = λ n. g.D.Door.faults c.args.door.now ≤ n in
     let N : ℕ → Type 0 = λ n. g.D.Door.late c.args.door.now ≤ n in
-    (subst F (sym c.give_back_held.ensures.counts.0) c.take.ensures.later.0, subst N (sym c.give_back_held.ensures.counts.1) c.take.ensures.later.1)
+    (subst F (sym c.give_back_read.ensures.counts.0) c.take.ensures.later.0, subst N (sym c.give_back_read.ensures.counts.1) c.take.ensures.later.1)
 
 pub returns-then-whole-clause-open : goal.returns-then-whole-clause-open
-returns-then-whole-clause-open g c = c.run_lanes-journal.ensures.open ∙ c.take.ensures.open
+returns-then-whole-clause-open g c = c.run_queues-journal.ensures.open ∙ c.take.ensures.open
 
 pub returns-then-whole-clause-later : goal.returns-then-whole-clause-later
 returns-then-whole-clause-later g c =
     let F : ℕ → Type 0 = λ n. g.D.Door.faults c.args.door.now ≤ n in
     let N : ℕ → Type 0 = λ n. g.D.Door.late c.args.door.now ≤ n in
-    (subst F (sym c.run_lanes-journal.ensures.counts.0) c.take.ensures.later.0, subst N (sym c.run_lanes-journal.ensures.counts.1) c.take.ensures.later.1)
+    (subst F (sym c.run_queues-journal.ensures.counts.0) c.take.ensures.later.0, subst N (sym c.run_queues-journal.ensures.counts.1) c.take.ensures.later.1)
 
 pub returns-clause-open : goal.returns-clause-open
-returns-clause-open g c = c.run_lanes-journal.ensures.open ∙ c.take.ensures.open
+returns-clause-open g c = c.run_queues-journal.ensures.open ∙ c.take.ensures.open
 
 pub returns-clause-later : goal.returns-clause-later
 returns-clause-later g c =
     let F : ℕ → Type 0 = λ n. g.D.Door.faults c.args.door.now ≤ n in
     let N : ℕ → Type 0 = λ n. g.D.Door.late c.args.door.now ≤ n in
-    (subst F (sym c.run_lanes-journal.ensures.counts.0) c.take.ensures.later.0, subst N (sym c.run_lanes-journal.ensures.counts.1) c.take.ensures.later.1)
+    (subst F (sym c.run_queues-journal.ensures.counts.0) c.take.ensures.later.0, subst N (sym c.run_queues-journal.ensures.counts.1) c.take.ensures.later.1)
 
 pub returns-then-whole-clause-bound : goal.returns-then-whole-clause-bound
-returns-then-whole-clause-bound g c = omega (arith, c.len.ensures, c.in-Ok.links.ok.0, c.in-Ok.ensures.out.1)
+returns-then-whole-clause-bound g c = omega (arith, c.len-2.ensures, c.in-Ok.links.ok.0, c.in-Ok.ensures.out.1)

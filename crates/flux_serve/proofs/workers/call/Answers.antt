@@ -10,13 +10,13 @@ give-requires-clause-shared g c = c.turn-turn.ensures.shared ∙ c.requires.shar
 pub give-requires-clause-on : goal.give-requires-clause-on
 give-requires-clause-on g c =
     let F : CoreState g.row.L.Denot → Type 0 = λ found. GoesOn found c.take_answer-goes.new.core in
-    subst F c.turn-turn.ensures.core (adds-on _ _ _ c.take_answer-goes.ensures)
+    subst F c.turn-turn.ensures.core (adds-on _ _ _ c.take_answer-goes.ensures.own)
 
 pub returns-clause-shared : goal.returns-clause-shared
 returns-clause-shared g c =
-    given-shared c.args.seat c.turn-turn.result c.turn-turn.ensures c.take_answer-goes.new.core (adds-on _ _ _ c.take_answer-goes.ensures) c.give.result c.give.ensures.seat
+    given-shared c.args.seat c.turn-turn.result c.turn-turn.ensures c.take_answer-goes.new.core (adds-on _ _ _ c.take_answer-goes.ensures.own) c.give.result c.give.ensures.seat
     ∙ c.requires.shared
 
 pub returns-clause-seen : goal.returns-clause-seen
 returns-clause-seen g c =
-    given-seen c.args.seat c.turn-turn.result c.turn-turn.ensures c.take_answer-goes.new.core (adds-on _ _ _ c.take_answer-goes.ensures) c.give.result c.give.ensures.seat
+    given-seen c.args.seat c.turn-turn.result c.turn-turn.ensures c.take_answer-goes.new.core (adds-on _ _ _ c.take_answer-goes.ensures.own) c.give.result c.give.ensures.seat

@@ -9,14 +9,14 @@ loop-place-preserved g c =
     let see : g.row.K.Denot → Seen = seen_by g.K.Link.had g.K.Link.left g.K.Link.written g.K.Link.faults in
     let before = c.loop-place.invariant in
     let at = c.loop-place.place in
-    let dues = c.loop-place.dues in
+    let replies = c.loop-place.replies in
     let one = c.args.seat in
     let two = c.loop-place.seat in
     let three = c.visit_open-back.result.0 in
     let visited = c.visit_open-back.ensures in (
       visited.shared,
       begins-more one.seen two.seen three.seen before.1 visited.seen,
-      keeps-at see one.seen two.seen three.seen c.args.dues.now dues at c.visit_open-back.new.due (omega (arith, c.loop-place-test.true, before.3)) before.3 visited.seen before.2
-          c.index-dues-place.result visited.due,
-      length-set dues at c.visit_open-back.new.due ∙ before.3,
+      keeps-at see one.seen two.seen three.seen c.args.replies.now replies at c.visit_open-back.new.reply (omega (arith, c.loop-place-test.true, before.3)) before.3 visited.seen before.2
+          c.index-replies-place.result visited.reply,
+      length-set replies at c.visit_open-back.new.reply ∙ before.3,
     )

@@ -1,12 +1,12 @@
 use Rattle.std.proofs.Common.{◌≡◌, length}
 use Rattle.flux_batches.specs.Links.{seen_by}
 use Rattle.flow_shared.specs.Journals.{BeginsWith}
-use Rattle.flux_serve.specs.steps.Workers.{KeepDues}
+use Rattle.flux_serve.specs.steps.Workers.{KeepReplies}
 use Rattle.flux_serve.proofs.workers.round.Given as goal
 
 -- the links so far were visited
 abbrev pub invariant-loop-place : goal.invariant-loop-place
 invariant-loop-place g l =
     (l.seat.shared ≡ l.shared) × BeginsWith l.seat.seen l.fn.seat.seen
-    × KeepDues (seen_by g.K.Link.had g.K.Link.left g.K.Link.written g.K.Link.faults) l.fn.seat.seen l.seat.seen l.fn.dues l.dues
-    × (length l.dues ≡ length l.fn.dues)
+    × KeepReplies (seen_by g.K.Link.had g.K.Link.left g.K.Link.written g.K.Link.faults) l.fn.seat.seen l.seat.seen l.fn.replies l.replies
+    × (length l.replies ≡ length l.fn.replies)

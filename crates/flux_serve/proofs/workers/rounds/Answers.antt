@@ -7,7 +7,7 @@ pub loop-init : goal.loop-init
 loop-init g c =
     let see : g.row.K.Denot → Seen = seen_by g.K.Link.had g.K.Link.left g.K.Link.written g.K.Link.faults in
     let first = c.args.seat in
-    (c.requires, keep-all-none see first.seen first.seen c.args.dues.now (begins-same first.seen), refl)
+    (c.requires, keep-all-none see first.seen first.seen c.args.replies.now (begins-same first.seen), refl)
 
 pub loop-preserved-in-Went : goal.loop-preserved-in-Went
 loop-preserved-in-Went g c =
@@ -17,8 +17,8 @@ loop-preserved-in-Went g c =
     let two = c.loop.seat in
     let three = c.round-back.result.0 in (
       c.round-back.ensures.shared,
-      keeps-then see one.seen two.seen three.seen c.args.dues.now c.loop.dues c.round-back.new.dues before.2 before.1 c.round-back.ensures.dues,
-      c.round-back.auto.dues ∙ before.2,
+      keeps-then see one.seen two.seen three.seen c.args.replies.now c.loop.replies c.round-back.new.replies before.2 before.1 c.round-back.ensures.replies,
+      c.round-back.auto.replies ∙ before.2,
     )
 
 pub loop-preserved : goal.loop-preserved
@@ -29,15 +29,15 @@ loop-preserved g c =
     let two = c.loop.seat in
     let three = c.round-back.result.0 in (
       c.round-back.ensures.shared,
-      keeps-then see one.seen two.seen three.seen c.args.dues.now c.loop.dues c.round-back.new.dues before.2 before.1 c.round-back.ensures.dues,
-      c.round-back.auto.dues ∙ before.2,
+      keeps-then see one.seen two.seen three.seen c.args.replies.now c.loop.replies c.round-back.new.replies before.2 before.1 c.round-back.ensures.replies,
+      c.round-back.auto.replies ∙ before.2,
     )
 
-pub returns-in-Ended-clause-dues : goal.returns-in-Ended-clause-dues
-returns-in-Ended-clause-dues g c =
+pub returns-in-Ended-clause-replies : goal.returns-in-Ended-clause-replies
+returns-in-Ended-clause-replies g c =
     let see : g.row.K.Denot → Seen = seen_by g.K.Link.had g.K.Link.left g.K.Link.written g.K.Link.faults in
     let before = c.loop.invariant in
     let one = c.args.seat in
     let two = c.loop.seat in
     let three = c.round-back.result.0 in
-    keeps-then see one.seen two.seen three.seen c.args.dues.now c.loop.dues c.round-back.new.dues before.2 before.1 c.round-back.ensures.dues
+    keeps-then see one.seen two.seen three.seen c.args.replies.now c.loop.replies c.round-back.new.replies before.2 before.1 c.round-back.ensures.replies

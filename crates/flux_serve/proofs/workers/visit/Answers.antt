@@ -29,8 +29,8 @@ returns-in-Runs-clause-seen g c =
     begins-more first.seen given.seen last.seen
     (given-seen c.args.seat c.turn-turn.result c.turn-turn.ensures c.go-next.new.core c.go-next.ensures.on c.give-seat.result c.give-seat.ensures.seat) c.call.ensures.seen
 
-pub returns-in-Runs-clause-due : goal.returns-in-Runs-clause-due
-returns-in-Runs-clause-due g c = inl refl
+pub returns-in-Runs-clause-reply : goal.returns-in-Runs-clause-reply
+returns-in-Runs-clause-reply g c = inl refl
 
 pub returns-in-Replies-clause-shared : goal.returns-in-Replies-clause-shared
 returns-in-Replies-clause-shared g c =
@@ -50,22 +50,22 @@ pub returns-in-Stands-clause-seen : goal.returns-in-Stands-clause-seen
 returns-in-Stands-clause-seen g c =
     given-seen c.args.seat c.turn-turn.result c.turn-turn.ensures c.go-next.new.core c.go-next.ensures.on c.give-seat.result c.give-seat.ensures.seat
 
-pub returns-in-Stands-clause-due : goal.returns-in-Stands-clause-due
-returns-in-Stands-clause-due g c = inl refl
+pub returns-in-Stands-clause-reply : goal.returns-in-Stands-clause-reply
+returns-in-Stands-clause-reply g c = inl refl
 
-pub returns-in-Replies-clause-due : goal.returns-in-Replies-clause-due
-returns-in-Replies-clause-due g c =
+pub returns-in-Replies-clause-reply : goal.returns-in-Replies-clause-reply
+returns-in-Replies-clause-reply g c =
     let see : g.row.K.Denot → Seen = seen_by g.K.Link.had g.K.Link.left g.K.Link.written g.K.Link.faults in
-    let old = c.args.due.now in
+    let old = c.args.reply.now in
     let new = c.write.new.self in
-    let held = old.held in
-    let held' = new.held in
+    let request = old.request in
+    let request' = new.request in
     let flow = old.flow in
     let seat = c.give-seat.result in
     let is = ap (λ (s : SeatState g.row.L.Denot). s.seen) c.give-seat.ensures.seat in
     let told = c.in-Replies.ensures.next in
     let E : List Entry → Type 0 = λ e. has_ended e flow.0 ≡ true in
-    let W : List ℕ → Type 0 = WroteOrBroke (stream_of (see held.link)) (stream_of (see held'.link)) in
+    let W : List ℕ → Type 0 = WroteOrBroke (stream_of (see request.link)) (stream_of (see request'.link)) in
     replied-so see seat.seen old new c.requires.text c.write.ensures.same c.write.ensures.sent c.write.ensures.written
     (subst E (sym is) told.0)
     (subst W (c.as_slice.ensures.value ∙ told.1 ∙ ap (reply_of flow.0) (sym is)) c.write.ensures.wrote)

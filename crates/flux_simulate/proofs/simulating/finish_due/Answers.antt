@@ -11,10 +11,11 @@ finish_run-requires-clause-flow g c =
     let finishes = c.loop-run.invariant.finishes in
     let ticks = finishes.ticks in
     flow-within g.L.Meaning.meaning c.loop-run.core c.loop-run.clock.running c.loop-run.clock.waiting c.in-Some.run'
-    c.take_due.new.self c.journal-journal.ensures.kept ticks.calls c.in-Some.ensures.0
+    c.take_due.new.self c.loop-run.invariant.kept ticks.calls c.in-Some.ensures.0
 
 pub loop-run-preserved : goal.loop-run-preserved
 loop-run-preserved g c = record {
+  kept = c.finish_run.ensures.kept;
   further = further-then c.args.core.now c.loop-run.core c.finish_run.new.core c.loop-run.invariant.further
       c.finish_run.ensures.further;
   finishes = subst (λ (clock : Clock). Finishes g.L.Meaning.meaning c.finish_run.new.core clock)

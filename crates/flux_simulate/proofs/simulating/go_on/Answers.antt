@@ -5,6 +5,7 @@ use Rattle.flux_simulate.proofs.simulating.go_on.Goals as goal
 
 pub loop-flow-init : goal.loop-flow-init
 loop-flow-init g c = record {
+  kept = c.requires.kept;
   further = further-same c.args.core.now;
   goes = c.requires.goes;
   watched = c.requires.watched;
@@ -28,10 +29,11 @@ pub loop-flow-smaller : goal.loop-flow-smaller
 loop-flow-smaller g c =
     started-lessens g.L.Meaning.meaning c.args.core.now c.loop-flow.core c.go_one.new.core
     (further-then c.args.core.now c.loop-flow.core c.go_one.new.core c.loop-flow.invariant.further
-    c.go_one.ensures.further) c.journal-journal.ensures.kept c.in_ok-go_one.ensures.less
+    c.go_one.ensures.further) c.go_one.ensures.kept c.in_ok-go_one.ensures.less
 
 pub loop-flow-preserved : goal.loop-flow-preserved
 loop-flow-preserved g c = record {
+  kept = c.go_one.ensures.kept;
   further = further-then c.args.core.now c.loop-flow.core c.go_one.new.core c.loop-flow.invariant.further
       c.go_one.ensures.further;
   goes = c.in_ok-go_one.ensures.goes;

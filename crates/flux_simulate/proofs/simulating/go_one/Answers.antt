@@ -8,12 +8,12 @@ pub returns-clause-goes : goal.returns-clause-goes
 returns-clause-goes g c = elim c.match-branch-2.branch [
   | in-Job w ↦
       job-noted g.L.Meaning.meaning c.args.core.now c.step.new.self c.args.flow c.requires.first
-      c.in_ok-step.field-0 c.in_ok-step.ensures.ok c.args.clock.now c.journal-journal.ensures.kept c.requires.goes
+      c.in_ok-step.field-0 c.in_ok-step.ensures.ok c.args.clock.now c.requires.kept c.requires.goes
       w.add.new.self c.match-branch-2.clock w.add.result c.match-branch-2.result _ w.in-Job.is w.result-is w.clock-is
       w.add.ensures.ok
   | in-Went w ↦
       went-noted g.L.Meaning.meaning c.args.core.now c.step.new.self c.args.flow c.requires.first
-      c.in_ok-step.field-0 c.in_ok-step.ensures.ok c.args.clock.now c.journal-journal.ensures.kept c.requires.goes
+      c.in_ok-step.field-0 c.in_ok-step.ensures.ok c.args.clock.now c.requires.kept c.requires.goes
       w.note_event.new.clock c.match-branch-2.clock w.note_event.result c.match-branch-2.result w.in-Went.is w.result-is w.clock-is
       w.note_event.ensures.noted
   | in-Ended w ↦ absurd
@@ -31,10 +31,10 @@ pub returns-clause-less : goal.returns-clause-less
 returns-clause-less g c = elim c.match-branch-2.branch [
   | in-Job w ↦ always c.match-branch-2.result (HasStarted c.args.core.now c.step.new.self)
       (job-started g.L.Meaning.meaning c.args.core.now c.step.new.self c.args.flow c.requires.first
-      c.in_ok-step.field-0 c.in_ok-step.ensures.ok c.args.clock.now c.journal-journal.ensures.kept c.requires.goes _ w.in-Job.is)
+      c.in_ok-step.field-0 c.in_ok-step.ensures.ok c.args.clock.now c.requires.kept c.requires.goes _ w.in-Job.is)
   | in-Went w ↦ always c.match-branch-2.result (HasStarted c.args.core.now c.step.new.self)
       (went-started g.L.Meaning.meaning c.args.core.now c.step.new.self c.args.flow c.requires.first
-      c.in_ok-step.field-0 c.in_ok-step.ensures.ok c.args.clock.now c.journal-journal.ensures.kept c.requires.goes w.in-Went.is)
+      c.in_ok-step.field-0 c.in_ok-step.ensures.ok c.args.clock.now c.requires.kept c.requires.goes w.in-Went.is)
   | in-Ended w ↦ absurd
       (never-ended g.L.Meaning.meaning c.args.core.now c.step.new.self c.args.flow c.requires.first
       c.in_ok-step.field-0 c.in_ok-step.ensures.ok w.in-Ended.is)

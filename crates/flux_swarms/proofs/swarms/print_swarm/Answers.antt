@@ -3,8 +3,8 @@ use Rattle.std.proofs.lemmas.Result.{IfOk-weaker}
 use Rattle.flow_model.specs.declared.journals.Journal.{Journal}
 use Rattle.flux_journal.proofs.Journaled.{journal_once}
 use Rattle.nodes_tracker.specs.declared.peers.Peer.{Peer}
-use Rattle.tracker_peers.specs.Peers.{ArePeersOf}
-use Rattle.tracker_peers.specs.Tracked.{AreInTheCell}
+use Rattle.flux_swarms.specs.Peers.{ArePeersOf}
+use Rattle.flux_swarms.specs.Tracked.{AreInTheCell}
 use Rattle.flux_swarms.specs.Printed.{printed_swarm}
 use Rattle.flux_swarms.specs.Swarms.{IsSwarmText}
 use Rattle.flux_swarms.proofs.swarms.print_swarm.Goals as goal

@@ -14,15 +14,15 @@ loop-candidates-init g c = (
   record { covers = c.in_ok-candidates.ensures 0; on = tt },
 )
 
-pub told-requires : goal.told-requires
-told-requires g c =
+pub update-requires : goal.update-requires
+update-requires g c =
     core-lags g.L.Meaning.meaning c.args.core.now c.loop-candidates.core c.own_turn.new.core c.next_owner.new.candidates
     c.loop-candidates.from c.loop-candidates.on_turn c.in-Some.owner c.in_ok-ends.ends
     c.loop-candidates.invariant.0 c.loop-candidates.invariant.1 (rw c.in-Some.is at c.in_ok-owner.ensures)
     c.own_turn.ensures.others.setting c.in_ok-ends.ensures.ok
 
-pub returns-in_err-told-clause-legal : goal.returns-in_err-told-clause-legal
-returns-in_err-told-clause-legal g c =
+pub returns-in_err-update-clause-legal : goal.returns-in_err-update-clause-legal
+returns-in_err-update-clause-legal g c =
     core-legal g.L.Meaning.meaning c.args.core.now c.loop-candidates.core c.own_turn.new.core
     c.next_owner.new.candidates c.loop-candidates.from c.loop-candidates.on_turn c.in-Some.owner c.in_ok-ends.ends
     c.loop-candidates.invariant.0 c.loop-candidates.invariant.1 (rw c.in-Some.is at c.in_ok-owner.ensures)
@@ -54,14 +54,14 @@ loop-candidates-preserved g c =
           c.in_ok-ends.ends
           c.loop-candidates.invariant.0 c.loop-candidates.invariant.1 (rw c.in-Some.is at c.in_ok-owner.ensures)
           c.own_turn.ensures.others.setting c.in_ok-ends.ensures.ok),
-      subst (Stays (setup_in g.L.Meaning.meaning c.own_turn.new.core) c.own_turn.new.core.entries c.told.new.self
+      subst (Stays (setup_in g.L.Meaning.meaning c.own_turn.new.core) c.own_turn.new.core.entries c.update.new.self
           (c.in-Some.owner.0 + 1)) (sym turn)
           (core-stays g.L.Meaning.meaning c.args.core.now c.loop-candidates.core c.own_turn.new.core
           c.next_owner.new.candidates c.loop-candidates.from c.loop-candidates.on_turn c.in-Some.owner
           c.in_ok-ends.ends
           c.loop-candidates.invariant.0 c.loop-candidates.invariant.1 (rw c.in-Some.is at c.in_ok-owner.ensures)
           c.own_turn.ensures.others.setting c.in_ok-ends.ensures.ok
-          c.told.new.self c.in_ok-told.ensures.ready c.in_ok-told.ensures.covers),
+          c.update.new.self c.in_ok-update.ensures.ready c.in_ok-update.ensures.covers),
     )
 
 pub returns-clause-ok : goal.returns-clause-ok

@@ -1,10 +1,15 @@
 use denote.Param.Send.{sendable}
-use Rattle.std.proofs.Crossing.{sync as heap_sync}
-use Rattle.flow_workers.proofs.Crossing.{seat_send, hall_sync}
+use Rattle.std.proofs.Common.{true, sym, subst}
+use Rattle.std.proofs.Crossing.{sync as heap_sync, crosses}
+use Rattle.flow_core.specs.Runs.{GoesOn}
+use Rattle.flow_turns.proofs.Settled.{goes-flag}
 use Rattle.rt_perflow.proofs.leaves.group.Goals as goal
 
-pub map_vec-ended-requires-send-J : goal.map_vec-ended-requires-send-J
-map_vec-ended-requires-send-J g c κs within = search (seat_send, sendable) depth 40
+pub share-requires-send-W : goal.share-requires-send-W
+share-requires-send-W g c κs within = search (crosses, sendable) depth 40
 
-pub map_vec-ended-requires-sync-F : goal.map_vec-ended-requires-sync-F
-map_vec-ended-requires-sync-F g c κs within = search (hall_sync, heap_sync, sendable) depth 60
+pub share-requires-sync-S : goal.share-requires-sync-S
+share-requires-sync-S g c κs within = search (heap_sync, crosses, sendable) depth 60
+
+pub returns-in_default : goal.returns-in_default
+returns-in_default g c = subst (GoesOn c.args.core) (sym c.halt.ensures) (goes-flag c.args.core true)

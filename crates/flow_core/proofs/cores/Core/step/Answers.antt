@@ -24,3 +24,6 @@ returns-clause-others g c =
     rw (← c.self.view_is)
     (step-leaves g.L.Meaning.meaning (core_of c.self.inside.fields) (core_of c.step.new.self) c.args.flow c.step.result
     c.step.ensures.ok c.step.ensures.err)
+
+pub returns-clause-kept : goal.returns-clause-kept
+returns-clause-kept g c = let fields = c.step.ensures.fields in fields.kept

@@ -18,7 +18,8 @@ pub exchange-requires : goal.exchange-requires
 exchange-requires g c =
     let same = ap (λ s. s.hall) c.seat.view_is ∙ c.requires ∙ sym c.self.view_is in
     let new = c.compare_exchange.new.seat in
-    let won = subst (λ n. WinsOrLoses c.seat.inside.seat.me n new.me) c.if-compare_exchange-ne0.false c.compare_exchange.ensures.2 in
+    let won = subst (λ n. WinsOrLoses c.seat.inside.seat.me n new.me) c.if-compare_exchange-ne0.false
+    (let tries = c.compare_exchange.ensures.2 in tries.comes) in
     let held = ap (λ m. m.1) won.after_ ∙ ap (λ slots. (0, Some won.core) ∷ slots) (ap (λ m. m.1) c.seat.invariant.me_) in (
       c.compare_exchange.ensures.0 ∙ c.seat.invariant.table ∙ ap (λ h. h.id) same,
       (Some won.core, held ∙ ap (λ slots. (0, Some won.core) ∷ rest slots) (sym held)),

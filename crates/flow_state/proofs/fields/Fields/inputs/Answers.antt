@@ -6,7 +6,7 @@ use Rattle.flow_state.proofs.fields.Fields.inputs.Goals as goal
 pub cells_for-requires-clause-known : goal.cells_for-requires-clause-known
 cells_for-requires-clause-known g c =
     let (args, call) = c.requires.at in
-    let (next, there) = c.rests.ensures in
+    let (next, there) = c.has_next.ensures in
     known-next g.L.Meaning.meaning c.args.self.now c.requires.fields c.args.flow c.args.node
     (call-there g.L.Meaning.meaning c.args.self.now c.requires.fields c.args.flow c.args.node args call next there)
     c.index-place.result.now
@@ -19,7 +19,7 @@ cells_for-requires-clause-reads g c = c.requires.fields.reads_
 pub returns-clause-next : goal.returns-clause-next
 returns-clause-next g c =
     let (args, call) = c.requires.at in
-    let (next, there) = c.rests.ensures in
+    let (next, there) = c.has_next.ensures in
     begins-right g.L.Meaning.meaning c.args.self.now c.requires.fields c.args.flow c.args.node
     (call-there g.L.Meaning.meaning c.args.self.now c.requires.fields c.args.flow c.args.node args call next there)
     c.index-place.result.now

@@ -6,8 +6,8 @@ use Rattle.flow_waits.proofs.Ending.{live-is}
 use Rattle.flow_waits.proofs.Turning.{ended-over}
 use Rattle.flow_waits.proofs.candidates.Candidates.first.Goals as goal
 
-pub way-requires : goal.way-requires
-way-requires g c = c.loop-number.invariant.exist c.in-Some.number
+pub readiness-requires : goal.readiness-requires
+readiness-requires g c = c.loop-number.invariant.exist c.in-Some.number
     (let e = subst (λ pools. IsEarliest pools.ready c.args.from c.in-Some.number) c.self.view_is c.in-Some.ensures
     in e.is)
 

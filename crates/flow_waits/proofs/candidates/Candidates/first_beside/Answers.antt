@@ -59,8 +59,8 @@ loop-number-preserved-then-is_calling g c =
     (ap (λ pools. pools.readers) c.self.view_is) (ap (λ pools. pools.writers) c.self.view_is)
     c.in_ok-add.ensures.ok (c.is_calling.ensures.0 c.if-is_calling.true)
 
-pub stop_at-requires : goal.stop_at-requires
-stop_at-requires g c =
+pub blocked_take-requires : goal.blocked_take-requires
+blocked_take-requires g c =
     aside-exist g.L.Meaning.meaning c.args.core.now c.journal-journal.ensures.kept c.args.from c.loop-number.self
     c.loop-number.aside
     c.loop-number.invariant c.in-Some.number
@@ -72,11 +72,11 @@ loop-number-preserved g c =
     let setup = setup_in g.L.Meaning.meaning c.args.core.now in
     aside-parked g.L.Meaning.meaning c.args.core.now c.journal-journal.ensures.kept c.args.from c.loop-number.self
     c.loop-number.aside
-    c.loop-number.invariant c.park.new.self c.in-Some.number c.in-Some-stop_at.stop
-    (let is_stop = c.in-Some-stop_at.ensures in is_stop.blocked)
-    c.in_ok-park-in-Some-stop_at.ensures.ok
+    c.loop-number.invariant c.park.new.self c.in-Some.number c.in-Some-blocked_take.stop
+    (let is_stop = c.in-Some-blocked_take.ensures in is_stop.blocked)
+    c.in_ok-park-in-Some-blocked_take.ensures.ok
     (λ covers parks. parked setup c.args.core.now.entries (beside c.loop-number.self c.loop-number.aside)
-    (beside c.park.new.self c.loop-number.aside) c.args.from c.in-Some.number c.in-Some-stop_at.stop
+    (beside c.park.new.self c.loop-number.aside) c.args.from c.in-Some.number c.in-Some-blocked_take.stop
     (let kept = c.journal-journal.ensures.kept in kept.legal) covers parks
     (live-is setup c.args.core.now.entries c.in-Some.number
     (aside-exist g.L.Meaning.meaning c.args.core.now c.journal-journal.ensures.kept c.args.from c.loop-number.self
@@ -84,7 +84,7 @@ loop-number-preserved g c =
     c.loop-number.invariant c.in-Some.number
     (let e = subst (λ pools. IsEarliest pools.ready c.args.from c.in-Some.number) c.self.view_is c.in-Some.ensures
     in e.is))
-    (sym c.is_ended.ensures ∙ c.if-is_ended.false)) c.in-Some-stop_at.ensures)
+    (sym c.is_ended.ensures ∙ c.if-is_ended.false)) c.in-Some-blocked_take.ensures)
 
 pub returns-in-None-clause-first : goal.returns-in-None-clause-first
 returns-in-None-clause-first g c =

@@ -1,2 +1,0 @@
-mod Owns
-pub mod Settled

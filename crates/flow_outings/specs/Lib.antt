@@ -1,2 +1,0 @@
-pub mod Outings
-pub mod Settling

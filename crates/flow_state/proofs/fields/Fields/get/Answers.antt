@@ -1,9 +1,0 @@
-use Rattle.std.proofs.Common.{◌∙◌, ap, sym}
-use Rattle.std.proofs.lemmas.Option.{get_or_from_slice_get}
-use Rattle.flow_state.specs.declared.places.Place.{Place}
-use Rattle.flow_state.proofs.fields.Fields.get.Goals as goal
-
-pub get_first-requires-clause-idle : goal.get_first-requires-clause-idle
-get_first-requires-clause-idle g c place at =
-    ap (λ (p : Place). p.stands) (sym (c.index.ensures ∙ get_or_from_slice_get c.args.self.now.places.items
-    c.args.flow.0 place c.index.result.now at)) ∙ c.if-index.false

@@ -1,0 +1,5 @@
+mod Owns
+mod Ends
+mod Ran
+pub mod Settled
+pub mod Crossing

@@ -1,0 +1,89 @@
+-- Which words spell which command.
+use Rattle.std.specs.Prelude.{◌≡◌, ℕ, List, [], ◌∷◌, Option, ⊤}
+use Rattle.flux_cli.specs.declared.names.CommandName.{CommandName}
+use Rattle.flux_cli.specs.declared.names.CommandName.TheVariants as names
+use Rattle.flux_cli.specs.declared.values.Runtime.{Runtime}
+use Rattle.flux_cli.specs.Values.{StartsThreads}
+use Rattle.flux_cli.specs.Names.{IsNamed}
+use Rattle.flux_cli.specs.Behind.{RunOptions, Serving, Simulating, IsFile, HasParts, FitsRun, FitsAudit, FitsLoad, FitsServe, FitsSimulate, FitsSwarm}
+
+-- `check FILE`, `plan FILE`, `format FILE`, `run FILE ITEMS` with options, `audit FILE ITEMS JOURNAL` with documents,
+-- `load N K` with a runtime, `serve FILE` with a port and options, `help` or `--help`, `simulate FILE ITEMS` with
+-- processors and options, and `swarm FILE ITEMS JOURNAL HASH` with documents
+pub data Command : Type 0 where
+  check : List ℕ → Command
+  plan : List ℕ → Command
+  format : List ℕ → Command
+  run : List ℕ → List ℕ → RunOptions → Command
+  audit : List ℕ → List ℕ → List ℕ → Option (List ℕ) → Command
+  load : ℕ → ℕ → Runtime → Command
+  serve : List ℕ → Serving → Command
+  help : Command
+  simulate : List ℕ → List ℕ → Simulating → Command
+  swarm : List ℕ → List ℕ → List ℕ → List ℕ → Option (List ℕ) → Command
+
+-- a command's name
+abbrev pub name_of : Command → CommandName
+name_of (check file) = names.Check
+name_of (plan file) = names.Plan
+name_of (format file) = names.Format
+name_of (run file items options) = names.Run
+name_of (audit file items journal docs) = names.Audit
+name_of (load count first runtime) = names.Load
+name_of (serve file serving) = names.Serve
+name_of help = names.Help
+name_of (simulate file items simulating) = names.Simulate
+name_of (swarm file items journal hash docs) = names.Swarm
+
+-- these words stand behind its name
+abbrev pub StandsBehind : Command → List (List ℕ) → Type 0
+StandsBehind (check file) words = IsFile file words
+StandsBehind (plan file) words = IsFile file words
+StandsBehind (format file) words = IsFile file words
+StandsBehind (run file items options) words = HasParts words (FitsRun file items options)
+StandsBehind (audit file items journal docs) words =
+    HasParts words (FitsAudit file items journal docs)
+StandsBehind (load count first runtime) words = HasParts words (FitsLoad count first runtime)
+StandsBehind (serve file serving) words = HasParts words (FitsServe file serving)
+StandsBehind help words = words ≡ []
+StandsBehind (simulate file items simulating) words = HasParts words (FitsSimulate file items simulating)
+StandsBehind (swarm file items journal hash docs) words =
+    HasParts words (FitsSwarm file items journal hash docs)
+
+-- the words spell this command: the first is its name
+pub record Spells (words : List (List ℕ)) (command : Command) : Type 0 where
+  pub first : List ℕ
+  pub rest : List (List ℕ)
+  pub are : words ≡ first ∷ rest
+  pub named : IsNamed (name_of command) first
+  pub behind : StandsBehind command rest
+
+-- the words spell no command
+abbrev pub SpellsNone : List (List ℕ) → Type 0
+SpellsNone words = (command : Command) → Spells words command → ⊥
+
+-- `serve`
+abbrev pub IsServe : Command → Type 0
+IsServe (check file) = ⊥
+IsServe (plan file) = ⊥
+IsServe (format file) = ⊥
+IsServe (run file items options) = ⊥
+IsServe (audit file items journal docs) = ⊥
+IsServe (load count first runtime) = ⊥
+IsServe (serve file serving) = ⊤
+IsServe help = ⊥
+IsServe (simulate file items simulating) = ⊥
+IsServe (swarm file items journal hash docs) = ⊥
+
+-- a command that needs threads: a runtime that starts some, or `serve`, which may wait for clients
+abbrev pub NeedsThreads : Command → Type 0
+NeedsThreads (check file) = ⊥
+NeedsThreads (plan file) = ⊥
+NeedsThreads (format file) = ⊥
+NeedsThreads (run file items options) = StartsThreads options.runtime
+NeedsThreads (audit file items journal docs) = ⊥
+NeedsThreads (load count first runtime) = StartsThreads runtime
+NeedsThreads (serve file serving) = ⊤
+NeedsThreads help = ⊥
+NeedsThreads (simulate file items simulating) = ⊥
+NeedsThreads (swarm file items journal hash docs) = ⊥

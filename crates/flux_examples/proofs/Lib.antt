@@ -1,0 +1,14 @@
+mod Ends
+mod Held
+mod Waiting
+mod Legality
+mod Orders
+mod Rounds
+mod Idle
+mod AtOnce
+mod Audits
+mod Doors
+mod Links
+mod Replies
+mod RepliesAtOnce
+mod Serving

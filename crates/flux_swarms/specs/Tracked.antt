@@ -1,0 +1,121 @@
+-- Where the peers of a hash are the swarm in the cell.
+use Rattle.std.specs.Prelude.{◌≡◌, ℕ, false, List, codes, Option, Some, None, IfSome, IsSome, ⊤}
+use Rattle.std.specs.List.{slice_get, Contains, AllByRecursion}
+use Rattle.flux_values.specs.declared.meanings.Sig.{Sig}
+use Rattle.flux_values.specs.declared.meanings.CellUse.{CellUse}
+use Rattle.flux_values.specs.Meanings.{LibraryMeaning}
+use Rattle.flux_values.specs.Cells.{no_cell}
+use Rattle.flux_library.specs.Libraries.{IsLawful}
+use Rattle.flux_model.specs.declared.programs.Program.{Program}
+use Rattle.flux_model.specs.declared.programs.ClassNo.{ClassNo}
+use Rattle.flux_model.specs.declared.programs.Node.{Node}
+use Rattle.flux_model.specs.declared.programs.Body.{Body}
+use Rattle.flux_model.specs.declared.programs.Body.TheVariants.{Concrete, Abstract}
+use Rattle.flux_model.specs.declared.items.FlowNo.{FlowNo}
+use Rattle.flux_model.specs.declared.items.Item.{Item}
+use Rattle.flux_model.specs.Kinds.{NodeKinds}
+use Rattle.flux_model.specs.Items.{IsItemFor}
+use Rattle.flux_model.specs.Soundness.{IsSound}
+use Rattle.flow_model.specs.declared.journals.CallMade.{CallMade}
+use Rattle.flow_model.specs.declared.journals.Event.TheVariants.{Call}
+use Rattle.flow_model.specs.declared.journals.Entry.{Entry}
+use Rattle.flow_model.specs.declared.journals.Key.{Key}
+use Rattle.flow_model.specs.Setup.{Setup, item_of}
+use Rattle.flow_model.specs.CellsAfter.{class_named, cells_after}
+use Rattle.flow_model.specs.Answers.{AreAnswersRight}
+use Rattle.flow_model.specs.Events.{Stands}
+use Rattle.flow_model.specs.Legal.{IsLegal}
+use Rattle.flux_laws.specs.Calls.{FitsNode}
+use Rattle.nodes_tracker.specs.declared.peers.Peer.{Peer}
+use Rattle.nodes_tracker.specs.Nodes.{node_named}
+use Rattle.nodes_tracker.specs.Calls.{swarm_in}
+use Rattle.nodes_tracker.specs.Trackers.{tracker_meaning}
+use Rattle.flux_swarms.specs.Peers.{ArePeersOf}
+
+-- ---- the library
+
+-- a library has the nodes of `Tracker`, and means the same by them
+abbrev pub HasTrackersNodes : LibraryMeaning → Type 0
+HasTrackersNodes meaning = (name : List ℕ) → IfSome (tracker_meaning.node name)
+    (λ sig. (meaning.node name ≡ Some sig) × (meaning.call name ≡ tracker_meaning.call name))
+
+-- ---- the program
+
+-- a library node uses the cells `swarms`
+abbrev pub UsesSwarms : Option Sig → Type 0
+UsesSwarms None = ⊥
+UsesSwarms (Some sig) = (cell : CellUse) × Contains sig.cells cell × (cell.name ≡ codes "swarms")
+
+-- where a concrete node's library node uses them, it is one of Tracker's
+abbrev pub IsTrackersAlone : LibraryMeaning → Body → Type 0
+IsTrackersAlone meaning (Concrete name) = UsesSwarms (meaning.node name) → IsSome (node_named name)
+IsTrackersAlone meaning (Abstract cases) = ⊤
+
+-- a `Swarm` node has this class under their name
+abbrev pub HasClass : Program → ClassNo → ℕ → Body → Type 0
+HasClass p class number (Concrete name) =
+    name ≡ codes "Swarm" → class_named p number (codes "swarms") ≡ Some class
+HasClass p class number (Abstract cases) = ⊤
+
+-- In a program, `swarms` is Tracker's:
+--   wide    the class has this name, program-wide;
+--   alone   only Tracker's nodes use cells of the name;
+--   swarm   and each `Swarm` node has the class.
+pub record IsTrackers (meaning : LibraryMeaning) (p : Program) (class : ClassNo) : Type 0 where
+  pub wide : slice_get p.classes class.0 ≡ Some (record { name = codes "swarms"; session = false })
+  pub alone : (number : ℕ) (node : Node) → slice_get p.nodes number ≡ Some node
+      → IsTrackersAlone meaning node.body
+  pub swarm : (number : ℕ) (node : Node) → slice_get p.nodes number ≡ Some node
+      → HasClass p class number node.body
+
+-- ---- the journal
+
+-- a flow has an item, of a source line
+abbrev pub HasLine : Program → Option Item → Type 0
+HasLine p None = ⊥
+HasLine p (Some item) = IsSome (slice_get p.sources item.source.0)
+
+-- each call is of a flow with an item, on values that its node takes
+abbrev pub AreCallsFit : Setup → List Entry → Type 0
+AreCallsFit setup entries = (before after : List Entry) (flow : FlowNo) (made : CallMade)
+    → Stands entries before flow (Call made) after → HasLine setup.program (item_of setup flow.0)
+    × FitsNode setup.meaning (slice_get setup.program.nodes made.node.0) made.args
+
+-- from empty cells each call fits, and has its node's answer
+pub record AreCallsRight (setup : Setup) (entries : List Entry) : Type 0 where
+  pub empty : setup.opening ≡ (λ key. no_cell)
+  pub fit : AreCallsFit setup entries
+  pub answers : AreAnswersRight setup entries
+
+-- ---- the swarm in the cell
+
+-- the key of the cell
+abbrev pub key_of_class : ClassNo → Key
+key_of_class class = record { class = class; id = None }
+
+-- the swarm of a hash after a journal
+abbrev pub swarm_after : Setup → List Entry → ClassNo → List ℕ → List Peer
+swarm_after setup entries class hash = swarm_in (cells_after setup entries (key_of_class class)) hash
+
+-- in every setup of a program and a library, where `swarms` is Tracker's and calls are right, these are the swarm in
+-- the cell
+abbrev pub AreInTheCell : LibraryMeaning → Program → List Entry → List ℕ → List Peer → Type 0
+AreInTheCell meaning p entries hash peers = (setup : Setup) (class : ClassNo) → setup.program ≡ p
+    → setup.meaning ≡ meaning → HasTrackersNodes meaning → IsTrackers meaning p class
+    → AreCallsRight setup entries → peers ≡ swarm_after setup entries class hash
+
+-- ---- laws
+
+-- the peers of a hash are the swarm in the cell
+abbrev pub PeersAreInTheCell : Type 0
+PeersAreInTheCell = (setup : Setup) (class : ClassNo) (entries : List Entry) (hash : List ℕ)
+    (peers : List Peer) → IsLawful setup.meaning → HasTrackersNodes setup.meaning
+    → IsTrackers setup.meaning setup.program class → AreCallsRight setup entries
+    → ArePeersOf setup.program entries hash peers → peers ≡ swarm_after setup entries class hash
+
+-- in a legal journal of a sound program, from empty cells, each call is right
+abbrev pub LegalCallsAreRight : Type 0
+LegalCallsAreRight = (setup : Setup) (kinds : ℕ → NodeKinds) (entries : List Entry)
+    → IsSound setup.meaning setup.program kinds → IsLawful setup.meaning
+    → AllByRecursion (IsItemFor setup.program kinds) setup.items
+    → setup.opening ≡ (λ key. no_cell) → IsLegal setup entries → AreCallsRight setup entries

@@ -1,6 +1,0 @@
-mod Lexed
-mod Declared
-mod Sound
-mod Lines
-mod ItemsGiven
-mod Loads

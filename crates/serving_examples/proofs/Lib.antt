@@ -1,5 +1,0 @@
-pub mod Doors
-pub mod Links
-pub mod Replies
-pub mod AtOnce
-pub mod Serving

@@ -1,6 +1,0 @@
-pub mod Small
-pub mod Doors
-pub mod Links
-pub mod Replies
-pub mod AtOnce
-pub mod Serving

@@ -1,4 +1,0 @@
-pub mod Asked
-pub mod Peers
-pub mod Tracked
-pub mod steps
