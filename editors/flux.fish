@@ -11,6 +11,7 @@ complete -c flux -f -n __fish_use_subcommand -a simulate
 complete -c flux -f -n __fish_use_subcommand -a swarm
 complete -c flux -f -n __fish_use_subcommand -a version
 complete -c flux -f -n __fish_use_subcommand -a nodes
+complete -c flux -f -n __fish_use_subcommand -a lsp
 complete -c flux -n '__fish_seen_subcommand_from run load serve' -l runtime -x -a 'event event= perflow pool= script='
 complete -c flux -n '__fish_seen_subcommand_from run audit serve simulate swarm' -l docs -x -a '(__fish_complete_directories)'
 complete -c flux -n '__fish_seen_subcommand_from run' -l journal -x -a '1 2'

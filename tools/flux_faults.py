@@ -311,6 +311,13 @@ PROGRAM = {1: too_long, 2: bad_byte, 3: unclosed_comment, 4: unexpected, 5: twic
            26: no_session, 27: plan_too_large, 28: bad_code}
 
 
+def sentence(it, at, number, path=""):
+    """A sentence on the fault of a text; `path` is the way of a cycle, as the program prints it."""
+    if number in (2, 4) and looks_like_items(it.data):
+        return "This looks like items, and not like a program: the words are `flux run FILE ITEMS`."
+    return cycle(it, at, path) if number == 15 else PROGRAM[number](it, at)
+
+
 def word_at(it, at):
     return re.match(rb"\w*", it.data[at:], re.A)[0].decode()
 

@@ -1,8 +1,8 @@
 //! The program `thread_trials`: what only calls show of the hall, the queue and the runtimes with threads.
 //!
 //! It prints what came of each trial, which is the same whatever the order of the threads' turns. Each journal of flows that were driven
-//! to their ends is audited. With the words `heavy RUNTIME FLOWS ROUNDS` it drives flows of heavy calls, for the benches, and audits
-//! nothing.
+//! to their ends is audited. With the words `heavy RUNTIME SHAPE FLOWS ROUNDS` it drives flows of heavy calls, for the benches, and
+//! audits nothing.
 #![tactic(auto)]
 
 mod burdens;
@@ -14,12 +14,13 @@ mod lates;
 mod queues;
 mod refusals;
 mod runs;
+mod stopwatches;
 mod threads;
 mod words;
 
 use flow_core::OpenGate;
 use halls::two_tries;
-use heavy::heavy_ended;
+use heavy::drive_load;
 use lates::late_of;
 use queues::takes;
 use refusals::driven_twice;
@@ -31,6 +32,7 @@ use std::process::ExitCode;
 use std::rt::Files;
 use std::sync::Wait;
 use std::thread::Threads;
+use std::time::Clock;
 use threads::{none_left, thread_count};
 use trial_ends::Trouble;
 use trial_programs::{COUNTING, READING, SESSIONS};
@@ -232,20 +234,17 @@ fn words_of(rt: &HostRuntime) -> Result<Words, Trouble> {
     read_words(words.as_slice())
 }
 
-fn answer<R: Threads + Wait + Sync + Print + Files + Alloc>(
+fn answer<R: Threads + Wait + Sync + Print + Files + Alloc + Clock>(
     rt: &R,
     alloc: Global,
     words: Result<Words, Trouble>,
 ) -> Result<(), Trouble> {
     match words? {
         Words::Trials => answer_all(rt, alloc),
-        Words::Heavy {
-            driver,
-            flows,
-            rounds,
-        } => {
-            let ended = heavy_ended(rt, alloc, driver, flows, rounds)?;
-            println!(rt; "{ended} flows have ended")?;
+        Words::Heavy { driver, load } => {
+            let heavy = drive_load(rt, alloc, driver, load)?;
+            let [half, most] = heavy.pauses;
+            println!(rt; "flows {} half {half} most {most}", heavy.ended)?;
             Ok(())
         }
     }

@@ -1,5 +1,6 @@
 //! What the words behind the program's own name ask for.
 
+use crate::heavy::{Load, Shape};
 use crate::runs::Driver;
 use trial_ends::Trouble;
 
@@ -19,11 +20,7 @@ pub const DRIVERS: &[(Driver, &str)] = &[
 #[derive(Clone, Copy)]
 pub enum Words {
     Trials,
-    Heavy {
-        driver: Driver,
-        flows: u32,
-        rounds: u64,
-    },
+    Heavy { driver: Driver, load: Load },
 }
 
 fn driver_of(word: &str) -> Result<Driver, Trouble> {
@@ -42,20 +39,36 @@ fn number_of(word: &str) -> Result<u32, Trouble> {
     }
 }
 
-fn heavy_of(driver: &str, flows: &str, rounds: &str) -> Result<Words, Trouble> {
+fn shape_of(word: &str) -> Result<Shape, Trouble> {
+    match word {
+        "free" => Ok(Shape::Free),
+        "one-key" => Ok(Shape::OneKey),
+        "halves" => Ok(Shape::Halves),
+        "nested" => Ok(Shape::Nested),
+        _ => Err(Trouble::Words),
+    }
+}
+
+fn heavy_of(driver: &str, shape: &str, flows: &str, rounds: &str) -> Result<Words, Trouble> {
     Ok(Words::Heavy {
         driver: driver_of(driver)?,
-        flows: number_of(flows)?,
-        rounds: u64::from(number_of(rounds)?),
+        load: Load {
+            shape: shape_of(shape)?,
+            flows: number_of(flows)?,
+            rounds: u64::from(number_of(rounds)?),
+        },
     })
 }
 
 pub fn read_words(words: &[String]) -> Result<Words, Trouble> {
     match words {
         [_] => Ok(Words::Trials),
-        [_, heavy, driver, flows, rounds] if heavy.as_str() == "heavy" => {
-            heavy_of(driver.as_str(), flows.as_str(), rounds.as_str())
-        }
+        [_, heavy, driver, shape, flows, rounds] if heavy.as_str() == "heavy" => heavy_of(
+            driver.as_str(),
+            shape.as_str(),
+            flows.as_str(),
+            rounds.as_str(),
+        ),
         _ => Err(Trouble::Words),
     }
 }
