@@ -2,7 +2,7 @@
 //!
 //! It prints what came of each trial, which is the same whatever the order of the threads' turns. Each journal of flows that were driven
 //! to their ends is audited. With the words `heavy RUNTIME SHAPE FLOWS ROUNDS` it drives flows of heavy calls, for the benches, and
-//! audits nothing.
+//! audits nothing. With `seeds RUNTIME N` it drives N random programs once each.
 #![tactic(auto)]
 
 mod burdens;
@@ -245,6 +245,11 @@ fn answer<R: Threads + Wait + Sync + Print + Files + Alloc + Clock>(
             let heavy = drive_load(rt, alloc, driver, load)?;
             let [half, most] = heavy.pauses;
             println!(rt; "flows {} half {half} most {most}", heavy.ended)?;
+            Ok(())
+        }
+        Words::Seeds { driver, seeds } => {
+            let kept = kept(rt, alloc, driver, seeds, 1)?;
+            println!(rt; "{seeds} programs: {kept} journals keep each rule and are upheld")?;
             Ok(())
         }
     }

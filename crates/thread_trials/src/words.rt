@@ -21,6 +21,7 @@ pub const DRIVERS: &[(Driver, &str)] = &[
 pub enum Words {
     Trials,
     Heavy { driver: Driver, load: Load },
+    Seeds { driver: Driver, seeds: u32 },
 }
 
 fn driver_of(word: &str) -> Result<Driver, Trouble> {
@@ -60,6 +61,13 @@ fn heavy_of(driver: &str, shape: &str, flows: &str, rounds: &str) -> Result<Word
     })
 }
 
+fn seeds_of(driver: &str, seeds: &str) -> Result<Words, Trouble> {
+    Ok(Words::Seeds {
+        driver: driver_of(driver)?,
+        seeds: number_of(seeds)?,
+    })
+}
+
 pub fn read_words(words: &[String]) -> Result<Words, Trouble> {
     match words {
         [_] => Ok(Words::Trials),
@@ -69,6 +77,9 @@ pub fn read_words(words: &[String]) -> Result<Words, Trouble> {
             flows.as_str(),
             rounds.as_str(),
         ),
+        [_, many, driver, seeds] if many.as_str() == "seeds" => {
+            seeds_of(driver.as_str(), seeds.as_str())
+        }
         _ => Err(Trouble::Words),
     }
 }
