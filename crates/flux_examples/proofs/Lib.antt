@@ -6,9 +6,9 @@ mod Orders
 mod Rounds
 mod Idle
 mod AtOnce
-mod Audits
+mod Rules
 mod Doors
 mod Links
 mod Replies
 mod RepliesAtOnce
-mod Serving
+mod Served

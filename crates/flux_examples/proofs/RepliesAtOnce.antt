@@ -1,9 +1,7 @@
 -- Why these links fit, or don't.
-use Rattle.std.proofs.Common.{◌≡◌, ℕ, true, false, List, [], ◌∷◌, codes, length, ap, refl, inl, inr, arith}
-use Rattle.flux_outside.specs.Streams.{Stream, WroteOrBroke}
+use Rattle.std.proofs.Common.{◌≡◌, ℕ, true, false, [], ◌∷◌, codes, length, ap, refl, inl, inr, arith}
+use Rattle.flux_outside.specs.Streams.{Stream}
 use Rattle.flux_batches.specs.declared.reading.Sent.TheVariants.{Text}
-use Rattle.flux_batches.specs.Links.{stream_of}
-use Rattle.flux_batches.specs.Replies.{reply_of}
 use Rattle.flux_serve.specs.AtOnce.{IsAnsweredSoFar}
 use Rattle.flux_examples.specs.SmallServing.{link}
 use Rattle.flux_examples.specs.RepliesAtOnce.{so_far, AtOnceFits, AtOnceMisfits}

@@ -4,7 +4,6 @@ use Rattle.flow_model.specs.declared.journals.Entry.{Entry}
 use Rattle.flow_model.specs.declared.journals.Event.TheVariants.{End}
 use Rattle.flow_model.specs.declared.journals.Outcome.TheVariants.{Good}
 use Rattle.flux_batches.specs.declared.reading.Sent.TheVariants.{Text, Failed}
-use Rattle.flux_batches.specs.Links.{Seen}
 use Rattle.flux_serve.specs.AtOnce.{IsAnsweredSoFar, AreAnsweredSoFar}
 use Rattle.flux_examples.specs.SmallServing.{link, told, itself, says}
 use Rattle.flux_examples.specs.Replies.{both}

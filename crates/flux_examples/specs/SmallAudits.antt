@@ -1,6 +1,5 @@
 -- Small programs, flows and entries, which the examples are about.
-use Rattle.std.specs.Prelude.{ℕ, pos, zero, suc, false, List, [], ◌∷◌, None, Some, codes}
-use Rattle.flux_values.specs.declared.values.Kind.TheVariants as kinds
+use Rattle.std.specs.Prelude.{ℕ, pos, zero, suc, false, List, [], ◌∷◌, None, codes}
 use Rattle.flux_values.specs.declared.values.Value.{Value}
 use Rattle.flux_values.specs.declared.values.Value.TheVariants as values
 use Rattle.flux_values.specs.declared.answers.Mode.TheVariants.{Writer}

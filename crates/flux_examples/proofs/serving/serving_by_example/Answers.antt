@@ -1,4 +1,4 @@
-use Rattle.flux_examples.proofs.Serving.{fit, misfit}
+use Rattle.flux_examples.proofs.Served.{fit, misfit}
 use Rattle.flux_examples.proofs.serving.serving_by_example.Goals as goal
 
 pub returns : goal.returns

@@ -9,10 +9,9 @@ use Rattle.flux_values.specs.declared.answers.Mode.TheVariants.{Writer}
 use Rattle.flux_model.specs.declared.items.FlowNo.{FlowNo}
 use Rattle.flow_model.specs.declared.journals.Entry.{Entry}
 use Rattle.flow_model.specs.declared.journals.Event.{Event}
-use Rattle.flow_model.specs.declared.journals.Key.{Key}
 use Rattle.flow_model.specs.declared.journals.Event.TheVariants.{Take, Wait}
 use Rattle.flow_model.specs.Exclusion.{holds_against}
-use Rattle.flow_model.specs.Waits.{IsNoWaitLast, StandsAt, StandsBefore, Blocks}
+use Rattle.flow_model.specs.Waits.{IsNoWaitLast, StandsAt, StandsBefore}
 use Rattle.flux_audit.specs.Rules.{IsHeld, IsOutOfTurn, HasCause}
 use Rattle.flux_examples.specs.SmallAudits.{flow, by, a}
 use Rattle.flux_examples.specs.Audits.{taken, awaited, Kept, Broken}
