@@ -94,7 +94,11 @@ impl<'a, C: Clock> Gate for Stopwatch<'a, C> {
         if ended != 0 {
             self.count(self.now().saturating_sub(ended));
         }
-        self.compute(self.load.rounds.saturating_mul(self.load.shape.weight(node)));
+        self.compute(
+            self.load
+                .rounds
+                .saturating_mul(self.load.shape.weight(node)),
+        );
     }
 
     fn after(&self, _flow: FlowNo, _node: NodeNo) {

@@ -22,12 +22,16 @@ pub returns-in-Err-clause-opened : goal.returns-in-Err-clause-opened
 returns-in-Err-clause-opened g c = inr (tt, refl, record { to_come = refl; taken_back = refl; late = refl; log_ = refl })
 
 pub returns-in-Err-open-clause-opened : goal.returns-in-Err-open-clause-opened
-returns-in-Err-open-clause-opened g c = inr (tt, c.in-Err-open.ensures.opened ∙ c.expect.ensures.stays, record {
-      to_come = c.open.ensures.kept.0 ∙ c.expect.ensures.kept.0;
-      taken_back = c.open.ensures.kept.1 ∙ c.expect.ensures.kept.1;
-      late = c.open.ensures.late ∙ c.expect.ensures.counts.1;
-      log_ = refl;
-    })
+returns-in-Err-open-clause-opened g c = inr (
+  tt,
+  c.in-Err-open.ensures.opened ∙ c.expect.ensures.stays,
+  record {
+    to_come = c.open.ensures.kept.0 ∙ c.expect.ensures.kept.0;
+    taken_back = c.open.ensures.kept.1 ∙ c.expect.ensures.kept.1;
+    late = c.open.ensures.late ∙ c.expect.ensures.counts.1;
+    log_ = refl;
+  },
+)
 
 pub returns-clause-opened : goal.returns-clause-opened
 returns-clause-opened g c = inl (c.serve_batches.ensures.open ∙ c.in-Ok-open.ensures.opened)
