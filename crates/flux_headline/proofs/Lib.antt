@@ -1,7 +1,7 @@
 pub mod Answering
 mod Headline
 mod Audits
-mod Loads
+mod Loading
 mod Simulations
 mod Swarms
 mod Prints

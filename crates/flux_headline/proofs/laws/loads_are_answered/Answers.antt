@@ -1,4 +1,4 @@
-use Rattle.flux_headline.proofs.Loads.{loads_answered}
+use Rattle.flux_headline.proofs.Loading.{loads_answered}
 use Rattle.flux_headline.proofs.laws.loads_are_answered.Goals as goal
 
 pub returns : goal.returns
