@@ -214,7 +214,7 @@ typedef struct { int node, done, of_case, member; enum Stage stage; int64_t inpu
 typedef struct {
     Frame *frames;
     Held *held;
-    int depth, room, held_count, held_room, ended, stands, failed;
+    int depth, room, held_count, held_room, ended, waits, failed;
     int64_t value;
     uint64_t session;
 } Flow;
@@ -251,7 +251,7 @@ static int is_blocked(Key *key, int number, enum Mode mode) {
     Flow *flow = &flows[number];
     if (held_by(flow, key)) return 0;
     if (key->holders[WRITER] || (mode && key->holders[READER])) return 1;
-    if (!flow->stands) return mode ? key->first < key->waiter_count : key->waiting_writers > 0;
+    if (!flow->waits) return mode ? key->first < key->waiter_count : key->waiting_writers > 0;
     for (int i = key->first; key->waiters[i].flow != number; i++)
         if (mode || key->waiters[i].mode) return 1;
     return 0;
@@ -267,7 +267,7 @@ static void leave_line(Key *key, int number) {
 
 static void take(Key *key, int number, enum Mode mode) {
     Flow *flow = &flows[number];
-    if (flow->stands) leave_line(key, number);
+    if (flow->waits) leave_line(key, number);
     Held *own = held_by(flow, key);
     if (own) {
         own->count++;
@@ -281,7 +281,7 @@ static void take(Key *key, int number, enum Mode mode) {
     key->holders[mode]++;
 }
 
-static void stand(Key *key, int number, enum Mode mode) {
+static void join_line(Key *key, int number, enum Mode mode) {
     if (key->waiter_count == key->waiter_room) {
         key->waiter_room = key->waiter_room ? 2 * key->waiter_room : 4;
         key->waiters = more(key->waiters, key->waiter_room * sizeof(Waiter));
@@ -290,10 +290,10 @@ static void stand(Key *key, int number, enum Mode mode) {
     key->waiting_writers += mode;
 }
 
-/* Looks away from a blocked flow. One that stands in the key's line is found there again. */
+/* Looks away from a blocked flow. One that is in the key's line is found there again. */
 static void park(Key *key, int number) {
     look_away(number);
-    if (flows[number].stands) return;
+    if (flows[number].waits) return;
     if (key->idle_count == key->idle_room) {
         key->idle_room = key->idle_room ? 2 * key->idle_room : 4;
         key->idle = more(key->idle, key->idle_room * sizeof(int));
@@ -360,7 +360,7 @@ static void call(int number, Flow *flow, Node *own) {
         printf("ok (%lld) put visits \"n\" %lld\n", arg, (long long)++*cell(flow, own));
 }
 
-/* Goes over what makes no event; the frame on top stands at an event then, if there is one. */
+/* Goes over what makes no event; the frame on top is at an event then, if there is one. */
 static void settle(Flow *flow) {
     while (flow->depth) {
         Frame *top = &flow->frames[flow->depth - 1];
@@ -391,12 +391,12 @@ static int step(int number) {
         Hold hold = own->hold[top->done];
         Key *key = key_at(hold.class, flow->session);
         if (is_blocked(key, number, hold.mode)) {
-            stand(key, number, hold.mode);
+            join_line(key, number, hold.mode);
             print_hold(number, "wait", key, hold.mode);
-            return flow->stands = 1;
+            return flow->waits = 1;
         }
         take(key, number, hold.mode);
-        if (flow->stands) flow->stands = 0, wake(key);
+        if (flow->waits) flow->waits = 0, wake(key);
         print_hold(number, "take", key, hold.mode);
         top->done++;
     } else if (top->stage == ENTERING) {

@@ -1,4 +1,4 @@
-// A BitTorrent tracker: clients announce themselves in a swarm and are told its peers, or ask how large it is.
+// A BitTorrent tracker: clients announce themselves in a swarm and get its peers, or ask how large it is.
 Listen () => (int conn, text line);
 ReadAsk (int conn, text line) => (text action, text hash, text peer, int left);
 Swarm (text action, text hash, text peer, int left) => (text reply);

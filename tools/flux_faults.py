@@ -69,7 +69,7 @@ def unclosed_comment(it, at):
 
 
 def may_stand(found, at):
-    """What may stand at a place in the tokens of a text, in which no fault stands before it."""
+    """What may be at a place in the tokens of a text that has no fault before it."""
     index = next(place for place, it in enumerate(found) if it.at == at)
     begin = max([place + 1 for place in range(index) if found[place].text == ";"], default=0)
     tries = [("name", "x", "a name"), ("number", "1", "a number")]
@@ -143,7 +143,7 @@ def unknown_type(it, at):
 def not_in_library(it, at):
     name = word_at(it, at)
     asked = text.library_name(name)
-    shown = f"`{name}`" if asked == name else f"`{asked}`, which `{name}` stands for,"
+    shown = f"`{name}`" if asked == name else f"`{asked}`, which `{name}` means,"
     known = [row.name for row in it.library.values() if row.kind in ("node", "source")]
     return f"{shown} is no node of the library{nearest(asked, known)} `./flux nodes` lists them."
 

@@ -1,4 +1,4 @@
-"""What a Flux text says, as far as it can be told where the text has faults: its nodes, their types, and what leads where."""
+"""What a Flux text says, as far as that is known where the text has faults: its nodes, their types, and what leads where."""
 import flux_text as text
 from flux_text import Atomic, Flow, Handler, Session, Signature, Source, Typedef
 
@@ -42,7 +42,7 @@ class Program:
         return next((it.function.text for it in self.of(Typedef) if it.name == pattern), None)
 
     def types(self, name, seen=()):
-        """What a node takes and gives, each a list of types as they are spelled; nothing where that can't be told."""
+        """What a node takes and gives, each a list of types as they are spelled; nothing where that isn't known."""
         if name in self.signatures:
             it = self.signatures[name]
             return [*map(spelled, it.ins)], [*map(spelled, it.outs)]
@@ -55,11 +55,11 @@ class Program:
 
     def takes(self, name):
         found = self.types(name)
-        return listed(found[0]) if found else "what can't be told here"
+        return listed(found[0]) if found else "what isn't known here"
 
     def gives(self, name):
         found = self.types(name)
-        return listed(found[1]) if found else "what can't be told here"
+        return listed(found[1]) if found else "what isn't known here"
 
     def leads_to(self, name):
         """The members of a node's cases, and its handlers."""

@@ -198,5 +198,5 @@ def library():
 
 
 def library_name(name):
-    """The name of the library node that a signature's name stands for."""
+    """The name of the library node that a signature's name means."""
     return name.partition("_")[0] or name

@@ -1,7 +1,7 @@
 """Which modules of the toolkit's crates a program needs, and copies of these crates without the others.
 
 A module at the top of a crate is left out where nothing that is needed names it, and nothing of what the crate's `lib.rt` hands on
-from it. One that is private and of which nothing is handed on stays, as it adds to what others have. Names are looked for behind
+from it. One that is private and of which nothing is handed on stays, as it adds to what others have. Names are looked for after
 `::` alone. So more than is needed may stay; where something is missing, the compiler says so.
 """
 import re

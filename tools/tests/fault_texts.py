@@ -1,6 +1,6 @@
 """A text for each fault: its number, the text, the line that the program answers, and words that the explanation has.
 
-For items the program's text stands before the items.
+For items the program's text comes before the items.
 """
 
 TICK = b"Tick () => (int n);\nShow (int n) => ();\n"
