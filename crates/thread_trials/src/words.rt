@@ -17,6 +17,9 @@ pub const DRIVERS: &[(Driver, &str)] = &[
     (Driver::Pool(16), "pool=16"),
 ];
 
+/// Those that only the benches drive.
+const BENCHED: &[(Driver, &str)] = &[(Driver::Helpers(4), "event=4")];
+
 #[derive(Clone, Copy)]
 pub enum Words {
     Trials,
@@ -25,7 +28,7 @@ pub enum Words {
 }
 
 fn driver_of(word: &str) -> Result<Driver, Trouble> {
-    for (driver, name) in DRIVERS {
+    for (driver, name) in DRIVERS.iter().chain(BENCHED.iter()) {
         if *name == word {
             return Ok(*driver);
         }
