@@ -1,5 +1,6 @@
 pub mod Doors
 pub mod Arrivals
+pub mod Entrances
 pub mod Memory
 pub mod Texts
 pub mod steps

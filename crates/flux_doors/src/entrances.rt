@@ -1,7 +1,9 @@
 //! The socket that clients come in by.
 
+ghost use Rattle.flux_doors.specs.Entrances.{IsOfThisMachine};
+
 use crate::arrivals::{Arrival, arrival_of};
-use std::net::{Ipv4Addr, Net, OpenListener, OpenStream, SocketAddr};
+use std::net::{Ipv4Addr, Net, OpenListener, OpenStream, SocketAddr, SocketAddrV4};
 use std::time::Duration;
 
 /// So many milliseconds after the system had no descriptor or no memory for a client, it is asked again.
@@ -19,10 +21,16 @@ pub struct Entrance<R: Net> {
 #[derive(Clone, Copy)]
 pub struct Refused;
 
+/// The address of a port that clients of this machine alone reach.
+fn address_of(port: u16) -> SocketAddr
+    ensures { IsOfThisMachine result port }
+{
+    SocketAddr::V4(SocketAddrV4::new(Ipv4Addr::new(127, 0, 0, 1), port))
+}
+
 impl<R: Net> Entrance<R> {
     pub fn open(net: &R, port: u16) -> Result<Entrance<R>, Refused> {
-        let there = SocketAddr::from((Ipv4Addr::LOCALHOST, port));
-        let listener = net.bind(there).map_err(|_| Refused)?;
+        let listener = net.bind(address_of(port)).map_err(|_| Refused)?;
         match listener.set_nonblocking(true) {
             Ok(()) => Ok(Entrance {
                 listener,
