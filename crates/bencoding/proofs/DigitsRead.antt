@@ -22,7 +22,7 @@ digit_code c h = let r = digit_from_value c h in grind (arith, nat_tests)
 pub no_digit : (c : ℕ) → digit_value c < 10 → is_ascii_digit c ≡ false → ⊥
 no_digit c h none = let e : true ≡ false = sym (digit_code c h) ∙ none in absurd cc
 
--- a digit's value is what it stands above `0`
+-- a digit's value is what it is above `0`
 pub digit_of : (c : ℕ) → is_ascii_digit c ≡ true → (digit_value c < 10) × (c - 48 ≡ digit_value c)
 digit_of c e =
     let low : 48 ≤ c = grind (arith, nat_tests) in
@@ -42,7 +42,7 @@ at_end [] (suc at) le = tt
 at_end (b ∷ bytes) zero le = absurd (omega arith)
 at_end (b ∷ bytes) (suc at) le = at_end bytes at (omega arith)
 
--- what follows a place is what stands there
+-- what follows a place is what is there
 pub follows_first : (bytes : List ℕ) (n : ℕ) (y : List ℕ) → Follows (drop n bytes) y → 0 < length y
     → (n < length bytes) × (get_or bytes n 0 ≡ get_or y 0 0)
 follows_first [] zero y follows some = absurd (omega (arith, ap length follows))
@@ -153,7 +153,7 @@ first_of [] at lt y follows = absurd (omega arith)
 first_of (b ∷ bytes) zero lt y follows = follows
 first_of (b ∷ bytes) (suc at) lt y follows = first_of bytes at (omega arith) y follows
 
--- a digit behind a leading zero
+-- a digit after a leading zero
 leading : (bytes : List ℕ) (low high at number end : ℕ) (y z s : List ℕ) → high < 2 ^ 64
     → AreSoFar bytes low high at number → at < length bytes → digit_value (get_or bytes at 0) < 10 → 0 < at
     → number ≡ 0 → is_ascii_digit end ≡ false

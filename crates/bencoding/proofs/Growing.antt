@@ -121,7 +121,7 @@ all_behind : (xs ys : List ℕ) → AllDigits 10 (xs ++ ys) → AllDigits 10 ys
 all_behind [] ys all = all
 all_behind (x ∷ xs) ys all = all_behind xs ys all.1
 
--- digits behind a number are cut off by dividing
+-- digits after a number are cut off by dividing
 cut : (n : ℕ) (ys : List ℕ) → AllDigits 10 ys → digits_value_after 10 n ys / 10 ^ length ys ≡ n
 cut n [] all = ap (λ m. n / m) (pow-zero 10) ∙ div-one n
 cut n (y ∷ ys) all =

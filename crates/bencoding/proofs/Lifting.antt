@@ -2,7 +2,7 @@
 use Rattle.std.proofs.Common.{◌≡◌, ℕ, zero, suc, ◌+◌, ◌<◌, ◌≤◌, List, [], ◌∷◌, ◌++◌, length, take, drop, refl, sym, ap, ◌∙◌, arith, subst, append_assoc, take-add, length-drop, eq-zero-or-pos, inl, inr}
 use Rattle.bencoding.specs.steps.Places.{CanGrow, Follows, IsStuck}
 
--- a part of the set stands at the front
+-- a part of the set is at the front
 pub record Cut (L : List ℕ → Type 0) (y : List ℕ) : Type 0 where
   pub part : List ℕ
   pub left : List ℕ

@@ -1,4 +1,4 @@
--- Which keys stand above another, by their first bytes and their length.
+-- Which keys are above another, by their first bytes and their length.
 use Rattle.std.proofs.Common.{◌≡◌, ◌⊎◌, inl, inr, ℕ, zero, suc, ◌+◌, ◌-◌, ◌<◌, ◌≤◌, Bool, true, false, eqb, List, [], ◌∷◌, ◌++◌, length, take, drop, get_or, replicate, All, Some, None, refl, sym, ap, ◌∙◌, arith, subst, length-take-le}
 use Rattle.std.specs.List.{AllByRecursion}
 use Rattle.std.proofs.lemmas.Bool.{cond_both, eqb-true}
@@ -82,7 +82,7 @@ run_rises (a ∷ before) (suc n) all lt =
 
 -- ---- keys that begin alike
 
--- behind the same front the rests are compared
+-- after the same front the rests are compared
 pub above_less : (at : ℕ) (before key : List ℕ) → at ≤ length before → at ≤ length key → take at before ≡ take at key
     → IsAbove before key → IsAbove (drop at before) (drop at key)
 above_less zero before key le more same above = above
@@ -323,7 +323,7 @@ whole_rises before front long old new limit level =
     all [] = refl
     all (x ∷ xs) = ap (λ l. x ∷ l) (all xs)
 
--- behind no key any front rises
+-- after no key any front rises
 pub free_rises : (front : List ℕ) (long : ℕ) → AreBytes front → long ≤ 65536 → length front ≤ long
     → Rises None front long
 free_rises front long new limit fits =

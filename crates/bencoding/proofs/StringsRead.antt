@@ -64,7 +64,7 @@ length_stuck before bytes at old stuck =
       laid = laid ∙ ap (λ l. l ++ z) k.spelled ∙ append_assoc (decimal (length k.key) ++ 58 ∷ []) k.key z;
     }
 
--- behind a length
+-- after a length
 behind_length : (before : Option (List ℕ)) (bytes : List ℕ) (n at more : ℕ) → AreKeyBytes before
     → AreEnded (least before) 65536 58 bytes n at → IsStuck (IsLongKey before n) (drop at bytes) more
     → IsStuck (IsSpelledKey before) bytes (at + more)

@@ -271,7 +271,7 @@ items_seen : (xs : List Ben) (x : Ben) → items_view (xs ++ x ∷ []) ≡ add_i
 items_seen [] x = refl
 items_seen (y ∷ ys) x = ap (item (tree_of y)) (items_seen ys x)
 
--- before this place stand `l` and the spellings of items
+-- before this place are `l` and the spellings of items
 pub record ItemsSoFar (depth : ℕ) (bytes : List ℕ) (at : ℕ) (ts : Trees) : Type 0 where
   pub within : at ≤ length bytes
   pub some : 0 < at
@@ -431,7 +431,7 @@ fields_seen : (xs : List (Field Ben)) (x : Field Ben)
 fields_seen [] x = refl
 fields_seen (y ∷ ys) x = ap (field y.key (tree_of y.value)) (fields_seen ys x)
 
--- before this place stand `d` and the spellings of keys with values
+-- before this place are `d` and the spellings of keys with values
 pub record FieldsSoFar (depth : ℕ) (bytes : List ℕ) (at : ℕ) (fs : Fields) (before : Option (List ℕ)) : Type 0 where
   pub within : at ≤ length bytes
   pub some : 0 < at

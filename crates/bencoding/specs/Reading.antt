@@ -1,4 +1,4 @@
--- Which value stands at the front of bytes, and where none does.
+-- Which value is at the front of bytes, and where there is none.
 use Rattle.std.specs.Prelude.{◌≡◌, ℕ, ◌+◌, ◌<◌, ◌≤◌, List, ◌++◌, length, take, Result, Ok, Err, ⊤}
 use Rattle.bencoding.specs.Trees.{Tree, spelling, IsTree}
 use Rattle.bencoding.specs.Views.{tree_of}

@@ -48,7 +48,7 @@ abbrev mutual
 abbrev pub IsString : List ℕ → Type 0
 IsString bytes = All (λ byte. byte < 256) bytes × (length bytes ≤ STRING_LIMIT)
 
--- the second of two keys stands above the first, bytewise: it goes on from it, or has a greater
+-- the second of two keys is above the first, bytewise: it goes on from it, or has a greater
 -- byte at the first place where they differ
 abbrev pub IsAbove : List ℕ → List ℕ → Type 0
 IsAbove [] [] = ⊥
@@ -56,7 +56,7 @@ IsAbove [] (b ∷ key) = ⊤
 IsAbove (a ∷ before) [] = ⊥
 IsAbove (a ∷ before) (b ∷ key) = (a < b) ⊎ ((a ≡ b) × IsAbove before key)
 
--- a key that may stand behind another, or be the first
+-- a key that may come after another, or be the first
 abbrev pub IsKey : Option (List ℕ) → List ℕ → Type 0
 IsKey None key = IsString key
 IsKey (Some before) key = IsString key × IsAbove before key

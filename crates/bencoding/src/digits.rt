@@ -19,7 +19,7 @@ fn grown(number: u64, digit: u8, low: u64, high: u64) -> Option<u64>
 }
 
 /// The number within the bounds that the digits at the front spell, without a leading zero, and how
-/// many they are; or the first place at which none goes on. No digit stands behind them.
+/// many they are; or the first place at which none goes on. No digit comes after them.
 fn read_digits(bytes: &[u8], low: u64, high: u64) -> Result<(u64, usize), usize>
     ensures { AreDigitsRead low high bytes.now result }
 {

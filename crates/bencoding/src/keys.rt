@@ -1,10 +1,10 @@
-//! Which bytes a key may have behind another.
+//! Which bytes a key may have after another.
 
 ghost use Rattle.std.specs.Prelude.{◌≡◌, ◌≤◌, ◌<◌, length, Some, option_map};
 ghost use Rattle.bencoding.specs.declared.values.TheConstants.{STRING_LIMIT};
 ghost use Rattle.bencoding.specs.steps.Keys.{run, least, IsStopFound};
 
-/// How many bytes 255 stand at the front.
+/// How many bytes of 255 are at the front.
 fn run_length(bytes: &[u8]) -> usize
     ensures same { result ≡ run bytes.now }
     ensures within { result ≤ length bytes.now }
@@ -16,7 +16,7 @@ fn run_length(bytes: &[u8]) -> usize
     at
 }
 
-/// The length of the shortest key behind another, or behind none.
+/// The length of the shortest key after another, or after none.
 pub fn least_length(before: Option<&[u8]>) -> u64
     ensures { result ≡ least (option_map (λ key. key.now) before.entry) }
 {
@@ -26,7 +26,7 @@ pub fn least_length(before: Option<&[u8]>) -> u64
     }
 }
 
-/// The first place at which the front of a key of some length stops being that of one behind another.
+/// The first place at which the front of a key of some length stops being that of a key after another.
 fn first_stop(key: &[u8], front: &[u8], long: usize) -> Option<usize>
     requires fits { length front.now ≤ long }
     requires least { run key.now < long }
@@ -50,7 +50,7 @@ fn first_stop(key: &[u8], front: &[u8], long: usize) -> Option<usize>
     None
 }
 
-/// The same, also behind none.
+/// The same, also after none.
 pub fn stop_of(before: Option<&[u8]>, front: &[u8], long: usize) -> Option<usize>
     requires fits { length front.now ≤ long }
     requires least { least (option_map (λ key. key.now) before) ≤ long }

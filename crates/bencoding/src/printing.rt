@@ -20,7 +20,7 @@ pub fn print_ben(alloc: Global, value: &Ben) -> Result<Bytes, Memory>
     Ok(printed)
 }
 
-/// Adds a value's spelling at the end. After an `Err` a part of it may stand there.
+/// Adds a value's spelling at the end. After an `Err` a part of it may be there.
 #[cycle(printing)]
 fn append_ben(alloc: Global, out: &mut Bytes, value: &Ben) -> Result<(), Memory>
     ensures { OnOk result (out.new ≡ out.old ++ spelling (tree_of value.now)) }

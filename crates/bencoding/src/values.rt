@@ -9,7 +9,7 @@ use std::alloc::AllocFailed;
 /// The greatest length of a string or a key, in bytes.
 pub const STRING_LIMIT: usize = 65_536;
 
-/// How many lists and dictionaries may stand in one another.
+/// How many lists and dictionaries may be nested in one another.
 pub const DEPTH_LIMIT: u8 = 8;
 
 /// A bencoded value.

@@ -54,7 +54,7 @@ fn text_of(alloc: Global, length: usize, number: usize) -> Result<Vec<u8>, Troub
     Ok(text)
 }
 
-/// How many texts of a length are told otherwise than by the plain reader.
+/// For how many texts of a length the answer differs from the plain reader's.
 fn others(alloc: Global, length: usize) -> Result<usize, Trouble> {
     let mut count: usize = 0;
     for number in 0..count_of(length) {

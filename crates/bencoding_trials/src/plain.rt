@@ -92,7 +92,7 @@ fn number(inside: &mut Vec<Open>, inner: Open, byte: u8) -> Result<Step, Trouble
     }
 }
 
-/// One byte of a length: none stands behind a zero.
+/// One byte of a length: none comes after a zero.
 fn length(inside: &mut Vec<Open>, so_far: usize, byte: u8) -> Result<Step, Trouble> {
     match byte {
         b':' if so_far == 0 => Ok(end(inside)),

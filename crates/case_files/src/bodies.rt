@@ -8,7 +8,7 @@ use flux_values::{Bytes, List, Memory};
 use std::alloc::Global;
 use trial_ends::Trouble;
 
-/// Documents of one body. `{n}` in the name stands for each number in turn.
+/// Documents of one body. `{n}` in the name means each number in turn.
 #[derive(Drop)]
 pub struct Documents {
     pub first: usize,
@@ -47,7 +47,7 @@ fn append_numbered(
     Ok(())
 }
 
-/// The number that stands in place of the words behind a brace, and what stands behind them.
+/// The number that is in place of the words after a brace, and what follows them.
 fn numbered(part: &[u8], number: usize) -> Option<(usize, &[u8])> {
     if let Some(rest) = part.strip_prefix(b"n}") {
         Some((number, rest))
@@ -60,7 +60,7 @@ fn numbered(part: &[u8], number: usize) -> Option<(usize, &[u8])> {
     }
 }
 
-/// Adds the part of a template behind a brace.
+/// Adds the part of a template after a brace.
 fn append_part(alloc: Global, out: &mut Bytes, part: &[u8], number: usize) -> Result<(), Memory> {
     let Some((value, rest)) = numbered(part, number) else {
         out.append(b"{")?;
@@ -78,7 +78,7 @@ pub fn is_piece(line: &str) -> bool {
     }
 }
 
-/// The line that a piece stands for, if it stands for one: what is behind `| `, or an empty one.
+/// The line that a piece means, if it means one: what comes after `| `, or an empty one.
 fn line_of(piece: &str) -> Option<&str> {
     match piece.strip_prefix('|')? {
         "" => Some(""),
@@ -91,7 +91,7 @@ fn append_line(out: &mut Bytes, line: &str) -> Result<(), Memory> {
     out.append(b"\n")
 }
 
-/// Adds what a piece stands for. The lines are those before it, with the texts that it may name.
+/// Adds what a piece means. The lines are those before it, with the texts that it may name.
 pub fn append_piece(
     alloc: Global,
     out: &mut Bytes,
@@ -145,7 +145,7 @@ fn append_range(alloc: Global, out: &mut Bytes, rest: &str) -> Result<(), Troubl
     Ok(())
 }
 
-/// The first and the last number of a range, and what stands behind it.
+/// The first and the last number of a range, and what follows it.
 fn range_of(text: &str) -> Result<(usize, usize, &str), Trouble> {
     let Some((first, behind)) = text.split_once(" to ") else {
         return Err(Trouble::Words);
@@ -175,7 +175,7 @@ fn append_named(
     Err(Trouble::Words)
 }
 
-/// A name, with the piece that stands behind it or nothing.
+/// A name, with the piece that comes after it or nothing.
 pub fn named(alloc: Global, rest: &str, lines: &[Line]) -> Result<FileBytes, Trouble> {
     let (name, piece) = rest.split_once(' ').unwrap_or((rest, ""));
     Ok(FileBytes {

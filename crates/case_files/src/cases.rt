@@ -33,7 +33,7 @@ pub struct Case<'a> {
     pub opened: Option<&'a [Bytes]>,
     /// The name of the folder that is there.
     pub folder: Option<&'a [u8]>,
-    /// How many calls of nodes the gate has to be told of.
+    /// How many calls of nodes the gate has to see.
     pub calls: Option<usize>,
     /// How often the gate looks, at most, for a call of another flow while it holds the first call. One has to come.
     pub hold: Option<usize>,

@@ -27,7 +27,7 @@ impl Differences {
         self.lines.as_slice()
     }
 
-    /// Adds a line as it stands.
+    /// Adds a line as it is.
     pub fn tell(&mut self, line: &[u8]) -> Result<(), Memory> {
         self.lines.add(Bytes::copy(self.alloc, line)?)
     }
@@ -84,7 +84,7 @@ impl Differences {
         self.compare_gain(name.as_bytes(), Stream::Link, written, lines)
     }
 
-    /// Compares the number of calls that a gate was told of with those that were printed.
+    /// Compares the number of calls that a gate saw with those that were printed.
     pub fn compare_calls(&mut self, told: Option<u64>, printed: u64) -> Result<(), Memory> {
         if told == Some(printed) {
             return Ok(());
@@ -149,7 +149,7 @@ fn parting(first: &[u8], second: &[u8]) -> usize {
     differs.unwrap_or(first.len().min(second.len()))
 }
 
-/// What stands in a text from a place on, as far as it is shown.
+/// What a text has from a place on, as far as it is shown.
 fn shown(text: &[u8], place: usize) -> &[u8] {
     let behind = text.get(place..).unwrap_or(b"");
     behind.get(..SHOWN).unwrap_or(behind)

@@ -72,7 +72,7 @@ pub enum Entry {
     Piece(Stream, usize),
     Gain(Stream, Gain),
     Status(usize),
-    /// How many calls of nodes the gate is told of.
+    /// How many calls of nodes the gate sees.
     Calls(usize),
     /// How often the gate looks, at most, for a call of another flow while it holds the first call.
     Hold(usize),
@@ -80,7 +80,7 @@ pub enum Entry {
     Asked(List<Bytes>),
     /// The folders that are asked for, in order.
     Opened(List<Bytes>),
-    /// The next links stand ready at the door together.
+    /// The next links are ready at the door together.
     Batch,
     /// So many links, each of which gives this.
     Links(usize, Bytes),

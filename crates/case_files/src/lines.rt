@@ -21,7 +21,7 @@ pub fn read_lines(alloc: Global, text: &str) -> Result<Vec<Line>, Memory> {
     Ok(lines)
 }
 
-/// Reads one line behind those before it.
+/// Reads one line after those before it.
 fn read_line(
     alloc: Global,
     lines: &mut Vec<Line>,

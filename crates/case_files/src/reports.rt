@@ -1,4 +1,4 @@
-//! What is told of cases.
+//! What is reported of cases.
 
 use flux_spelling::append_number;
 use flux_values::{Bytes, Memory};

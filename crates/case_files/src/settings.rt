@@ -86,7 +86,7 @@ fn piece(rest: &str) -> Result<Entry, Trouble> {
     }
 }
 
-/// How much of a text has to be gained, and where the text begins: behind `front of` a front of it, with `some journal` or
+/// How much of a text has to be gained, and where the text begins: after `front of` a front of it, with `some journal` or
 /// `any` any text, else all of it.
 fn measured(rest: &str) -> (Measure, &str) {
     match rest.strip_prefix("front of") {

@@ -13,7 +13,7 @@ const JOURNAL: &[u8] = b"the journal that was printed";
 /// How many bytes a verdict has at most.
 const ROOM: usize = 4_096;
 
-/// Whether a word names a run's runtime or its format, which the word behind it tells.
+/// Whether a word names a run's runtime or its format, which the word after it gives.
 fn is_option(word: &[u8]) -> bool {
     word == b"--runtime".as_slice() || word == b"--journal".as_slice()
 }
@@ -63,7 +63,7 @@ fn verdict_sink(alloc: Global) -> Result<MemorySink, Memory> {
     MemorySink::new(alloc, ROOM, ROOM, List::new(alloc))
 }
 
-/// A door that nobody comes to.
+/// A door that nobody comes in by.
 fn nobody(alloc: Global) -> Entrance {
     Entrance {
         batches: List::new(alloc),

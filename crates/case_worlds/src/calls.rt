@@ -1,4 +1,4 @@
-//! The calls of nodes, as a gate is told of them and as a printed journal has them.
+//! The calls of nodes, as a gate sees them and as a printed journal has them.
 
 use flow_core::Gate;
 use flux_model::{FlowNo, NodeNo};
@@ -19,7 +19,7 @@ const ALONE: u64 = u64::MAX - 1;
 /// How long the first call sleeps between two looks, in milliseconds.
 const SLEEP: u64 = 1;
 
-/// A gate that counts calls, and keeps whether the begin of one was told before the end of another. It may hold the first call
+/// A gate that counts calls, and keeps whether one began before another ended. It may hold the first call
 /// until one of another flow begins.
 #[derive(Drop)]
 pub struct CountingGate<'a, R> {
@@ -89,7 +89,7 @@ impl<'a, R: Wait> CountingGate<'a, R> {
         let _ = self.swap(own, ALONE);
     }
 
-    /// How many calls were told of; none where not each had its end. Where calls don't run beside each other, each end was told
+    /// How many calls it saw; none where not each had its end. Where calls don't run beside each other, each end was reported
     /// right after its own begin, of the same flow and node.
     pub fn calls(&self, beside: bool) -> Option<u64> {
         let begun = self.begun.load(Ordering::SeqCst);

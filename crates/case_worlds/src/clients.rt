@@ -39,7 +39,7 @@ pub fn clients_of<'a>(alloc: Global, case: &Case<'a>) -> Result<Vec<Client<'a>>,
     Ok(clients)
 }
 
-/// Adds the links of an entry, if it is one of links behind a batch's line, and answers the number of its batch.
+/// Adds the links of an entry, if it is one of links after a batch's line, and answers the number of its batch.
 fn add_clients<'a>(
     clients: &mut Vec<Client<'a>>,
     entry: &'a Entry,

@@ -13,7 +13,7 @@ use std::alloc::Global;
 #[derive(Drop)]
 pub struct Outcome {
     pub status: u8,
-    /// How many calls of nodes the gate was told of; none where it was told of them mixed up.
+    /// How many calls of nodes the gate saw; none where it saw them mixed up.
     pub told: Option<u64>,
     /// Whether a call of another flow began while the first one was held.
     pub was_met: bool,
@@ -80,7 +80,7 @@ fn compare_held(differences: &mut Differences, case: &Case, was_met: bool) -> Re
     Ok(())
 }
 
-/// Compares the calls that the gate was told of with those that are wanted, and with those that were printed.
+/// Compares the calls that the gate saw with those that are wanted, and with those that were printed.
 fn compare_told(
     differences: &mut Differences,
     case: &Case,

@@ -1,4 +1,4 @@
--- Every run of moves leaves a legal journal, and begun calls that are next; and a core's calls are such moves.
+-- Every run of moves gives a legal journal, and begun calls that are next; and a core's calls are such moves.
 use Rattle.std.proofs.Common.{◌≡◌, ◌⊎◌, inl, inr, ◌↔◌, ℕ, zero, suc, List, [], ◌∷◌, ◌++◌, length, map, Option, Some, None, refl, sym, ap, subst, ◌∙◌, arith}
 use Rattle.std.specs.List.{slice_get, slice_set}
 use Rattle.std.specs.Option.{option_flatten}

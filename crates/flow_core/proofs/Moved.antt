@@ -85,7 +85,7 @@ module _ {L : Type 0} (meaning : L → LibraryMeaning) (r : Fields L) (is : AreF
       (slice_get_read r.begun.items (length r.begun.items) flow found refl (begun-place flow within) read)
 
   module _ (flow : FlowNo) where
-    -- the fields behind an entry
+    -- the fields after an entry
     abbrev Written : FlowState L → Journal → Fields L
     Written new journal = record { state = new; journal = journal; begun = r.begun; halted = r.halted }
 
@@ -149,7 +149,7 @@ module _ {L : Type 0} (meaning : L → LibraryMeaning) (r : Fields L) (is : AreF
         once = once;
       }
 
-      -- the flow stands there already
+      -- the flow waits there already
       pub stood : IsStanding state.entries flow.0 → HasWaited meaning (core_of r) (core_of r) flow key holder
       stood standing =
           let kept = is.kept in
@@ -171,7 +171,7 @@ module _ {L : Type 0} (meaning : L → LibraryMeaning) (r : Fields L) (is : AreF
             );
           }
 
-      -- or it stands there now
+      -- or it waits there now
       module _ (new : FlowState L) (adds : states.AddsWait meaning state new flow key mode) (journal : Journal) where
         wait-adds : AddsWait meaning (core_of r) (core_of (Written new journal)) flow key mode
         wait-adds = record { may = adds.may; new_ = core-written (Wait key mode) new adds.new_ journal }

@@ -24,7 +24,7 @@ equal-is q name is = fin.slice_cmp-IsAntisymmetric fin.nat_cmp-IsAntisymmetric q
     told Equal e = refl
     told Greater e = absurd (false≢true e)
 
--- a name among keys stands at a place
+-- a name among keys is at a place
 found-at : (names : List (List ℕ)) (q : List ℕ) → list_any (eq_by_cmp by_name q) names ≡ true
     → (k : ℕ) × (slice_get names k ≡ Some q)
 found-at [] q is = absurd cc
@@ -42,7 +42,7 @@ none-past (y ∷ xs) k zero x none at = absurd cc
 none-past (y ∷ xs) zero (suc n) x none at = omega arith
 none-past (y ∷ xs) (suc k) (suc n) x none at = let lt = none-past xs k n x none at in omega (arith, lt)
 
--- a value under a name stands with it
+-- a value under a name is with it
 key-at : (m : CellMap) (q : List ℕ) (value : Value) → fin.get m q ≡ Some value
     → (k : ℕ) × (slice_get (fin.keys m) k ≡ Some q)
 key-at m q value is = found-at (fin.keys m) q (sym (fin.contains_key-keys m q) ∙ ap (λ (o : Option Value). is_some o)

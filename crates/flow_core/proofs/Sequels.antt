@@ -118,7 +118,7 @@ module _ {L : Type 0} (meaning : L → LibraryMeaning) (old new : CoreState L) (
   leaves-moves (inl same) = subst (λ core. LeavesOthers old core flow) (sym same) (leaves-same old flow)
   leaves-moves (inr move) = leaves-move move
 
-  -- behind a step, and where there was no memory for one
+  -- after a step, and where there was no memory for one
   pub step-on : {E : Type 0} (r : Result (Step L) E) → IfOk r (HasStepped meaning old new flow)
       → OnErr r (new ≡ old) → GoesOn old new
   step-on (Ok step) ok err = on-moves (steps_are_moves meaning old new flow step ok)
@@ -129,7 +129,7 @@ module _ {L : Type 0} (meaning : L → LibraryMeaning) (old new : CoreState L) (
   step-leaves (Ok step) ok err = leaves-moves (steps_are_moves meaning old new flow step ok)
   step-leaves (Err e) ok err = leaves-moves (inl err)
 
-  -- behind a step at once
+  -- after a step at once
   pub at_once-on : {E : Type 0} (r : Result AtOnce E) → IfOk r (HasSteppedAtOnce meaning old new flow)
       → OnErr r (new ≡ old) → GoesOn old new
   at_once-on (Ok step) ok err = on-moves (steps_at_once_are_moves meaning old new flow step ok)
@@ -140,7 +140,7 @@ module _ {L : Type 0} (meaning : L → LibraryMeaning) (old new : CoreState L) (
   at_once-leaves (Ok step) ok err = leaves-moves (steps_at_once_are_moves meaning old new flow step ok)
   at_once-leaves (Err e) ok err = leaves-moves (inl err)
 
-  -- behind a finished call
+  -- after a finished call
   module _ (inputs : Inputs) (answer : Answer) where
     pub finish-on : {E : Type 0} (r : Result Unit E) → OnOk r (FinishesCall meaning old new flow inputs answer)
         → OnErr r (new ≡ old) → GoesOn old new

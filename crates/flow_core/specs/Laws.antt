@@ -34,7 +34,7 @@ module _ {L : Type 0} (meaning : L → LibraryMeaning) (core : CoreState L) wher
   abbrev pub IsAnswerAtBegin : Inputs → Answer → Type 0
   IsAnswerAtBegin inputs answer = IsAnswerOf (meaning core.setup.library) core.setup.program inputs answer
 
-  -- the answer is the library's on the cells that the journal leaves
+  -- the answer is the library's on the cells after the journal
   abbrev pub IsAnswerNow : FlowNo → Inputs → Answer → Type 0
   IsAnswerNow flow inputs answer = let setup = setup_in meaning core in
       IsNodeAnswer setup flow.0 (cells_after setup core.entries)

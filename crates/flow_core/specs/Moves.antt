@@ -78,7 +78,7 @@ module _ {L : Type 0} (meaning : L → LibraryMeaning) (old new : CoreState L) (
       record { flow = flow; inputs = inputs; program = setup.program; library = setup.library }
 
   -- the flow's next event is a take that other flows block: its key and the lowest of them are named, and its wait is
-  -- added, unless the flow stands there already
+  -- added, unless the flow waits there already
   pub record HasWaited (key : Key) (holder : FlowNo) : Type 0 where
     pub mode : Mode
     pub next : IsNext (setup_in meaning old) old.entries flow.0 (events.Take key mode)

@@ -105,7 +105,7 @@ opened program plans items opening library = record {
 -- ---- what a core keeps
 
 -- at every moment: the program is sound for its lawful library and has these plans, the items have their sources'
--- kinds, the journal is legal, and each begun call is its flow's next, on the cells that the journal leaves
+-- kinds, the journal is legal, and each begun call is its flow's next, on the cells after the journal
 pub record IsKept {L : Type 0} (meaning : L → LibraryMeaning) (core : CoreState L) : Type 0 where
   pub lawful : IsLawful (meaning core.setup.library)
   pub kinds : ℕ → NodeKinds

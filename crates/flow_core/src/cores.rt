@@ -65,7 +65,7 @@ pub enum Finish {
     Late,
 }
 
-/// Flows over a setup, and the journal of what they did. What it keeps at every moment is told by `journal`.
+/// Flows over a setup, and the journal of what they did. What it keeps at every moment is reported by `journal`.
 pub struct Core<L: Library> {
     fields: Fields<L>,
 }
@@ -237,7 +237,7 @@ impl<L: Library> Core<L> {
         self.fields.state.alloc()
     }
 
-    /// The flows that stand at a key, first come first.
+    /// The flows that wait at a key, first come first.
     pub fn line(&self, key: Key) -> &[Waiter]
         ensures { IsLineAt self.now.entries key result.now }
     {

@@ -15,7 +15,7 @@ use flux_model::Item;
 use flux_values::{List, Memory};
 use std::alloc::Global;
 
-/// What a core keeps: where its flows stand, the journal, and the call that each flow has begun.
+/// What a core keeps: where its flows are, the journal, and the call that each flow has begun.
 #[derive(Drop)]
 pub struct Fields<L: Library> {
     pub state: State<L>,

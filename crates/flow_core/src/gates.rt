@@ -1,8 +1,8 @@
-//! Who is told of each call of a node.
+//! Who is notified of each call of a node.
 
 use flux_model::{FlowNo, NodeNo};
 
-/// Is told before and after each call, by any thread.
+/// Is notified before and after each call, by any thread.
 pub trait Gate {
     fn before(&self, flow: FlowNo, node: NodeNo);
 

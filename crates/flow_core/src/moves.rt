@@ -44,7 +44,7 @@ impl<L: Library> Fields<L> {
         }
     }
 
-    /// Lets a flow stand at the key of its next take, which others block, unless it stands there.
+    /// Lets a flow wait at the key of its next take, which others block, unless it waits there.
     #[inline(always)]
     fn wait(&mut self, flow: FlowNo, key: Key, mode: Mode, holder: FlowNo) -> Result<AtOnce, Memory>
         requires fields { AreFields L.meaning self.old }

@@ -19,7 +19,7 @@ pub struct Stopped<L: Library> {
 /// A way to let a core's flows run, alone or by several threads. It calls the gate before and after each call of a
 /// node.
 pub trait Runtime {
-    /// What a runtime has to be to drive a core, as it is again behind it.
+    /// What a runtime has to be to drive a core, as it is again afterwards.
     ghost ready: { Self → Type 0 };
 
     /// Drives a core to its end. A runtime that couldn't is as it was.

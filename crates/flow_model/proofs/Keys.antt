@@ -42,7 +42,7 @@ key_cases {P} a b same apart = by (same_key a b) refl
     by true e = same (same_key_is a b e) e
     by false e = apart e (key_apart a b e)
 
--- which of two keys stands first doesn't matter
+-- which of two keys comes first doesn't matter
 pub same_key_turned : (a b : Key) → same_key a b ≡ same_key b a
 same_key_turned a b =
     key_cases a b (λ same e. ap (λ k. same_key k b) same ∙ ap (same_key b) (sym same))

@@ -65,7 +65,7 @@ pub record CallIsNext (setup : Setup) (entries : List Entry) (flow : ℕ) (node 
   pub all : flow_events setup flow (own_answers entries flow) ≡ own_events entries flow
   pub stops : let walked = flow_walk setup flow (own_answers entries flow) in walked.stop ≡ before_call node args
 
--- an entry stands in a list, behind these and before those
+-- an entry is in a list, after these and before those
 abbrev pub Stands : List Entry → List Entry → FlowNo → Event → List Entry → Type 0
 Stands entries before flow event after =
     entries ≡ before ++ record { flow = flow; event = event } ∷ after

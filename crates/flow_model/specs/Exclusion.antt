@@ -47,7 +47,7 @@ HoldsKey entries flow key = modes_held entries flow key ≢ []
 abbrev pub holds_against : List Entry → ℕ → Key → Mode → Bool
 holds_against entries flow key mode = list_any (λ held. conflict held mode) (modes_held entries flow key)
 
--- no take stands where another flow holds that key in conflict
+-- no take is made where another flow holds that key in conflict
 abbrev pub TakesExclude : List Entry → Type 0
 TakesExclude entries = (before after : List Entry) (flow : FlowNo) (key : Key) (mode : Mode)
     → Stands entries before flow (Take key mode) after
@@ -55,7 +55,7 @@ TakesExclude entries = (before after : List Entry) (flow : FlowNo) (key : Key) (
 
 -- ---- sections
 
--- the nodes that a flow has entered and not left, the latest first: each exit leaves the latest one
+-- the nodes that a flow has entered and not exited, the latest first: each exit is from the latest one
 abbrev pub open_after : List NodeNo → List Event → List NodeNo
 open_after nodes [] = nodes
 open_after nodes (Enter node ∷ events) = open_after (node ∷ nodes) events

@@ -21,7 +21,7 @@ abbrev pub same_key : Key → Key → Bool
 same_key a b = a.class.0 == b.class.0 && same_id a.id b.id
 
 -- the session's number is what the session function gives for a flow's values; only a source without one, which leads
--- to no session class in sound programs, has none, and 0 stands for it
+-- to no session class in sound programs, has none, and 0 is in its place
 abbrev pub session_number : LibraryMeaning → Option (List ℕ) → List Value → ℕ
 session_number meaning None values = 0
 session_number meaning (Some function) values = meaning.id function values

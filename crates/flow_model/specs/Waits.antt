@@ -19,11 +19,11 @@ pub record IsLast (entries : List Entry) (flow : FlowNo) (event : Event) (place 
   pub last : events_by flow.0 after ≡ []
   pub at : length before ≡ place
 
--- a flow stands at a key in a mode: its last entry is a `wait` for it, at this place
+-- a flow waits at a key in a mode: its last entry is a `wait` for it, at this place
 abbrev pub StandsAt : List Entry → ℕ → Key → Mode → ℕ → Type 0
 StandsAt entries flow key mode place = IsLast entries (record { 0 = flow }) (Wait key mode) place
 
--- another flow stands at the key in conflict with this mode, and this flow doesn't stand there, or only behind it
+-- another flow waits at the key in conflict with this mode, and this flow doesn't wait there, or only after it
 pub record StandsBefore (entries : List Entry) (other flow : ℕ) (key : Key) (mode : Mode) : Type 0 where
   pub their : Mode
   pub place : ℕ
@@ -44,19 +44,19 @@ pub record WaitsFor (setup : Setup) (entries : List Entry) (flow other : ℕ) : 
   pub next : IsNext setup entries flow (Take key mode)
   pub blocked : Blocks entries other flow key mode
 
--- ---- where a wait may stand
+-- ---- where a wait may be
 
 -- a flow's last entry isn't a wait
 abbrev pub IsNoWaitLast : List Entry → FlowNo → Type 0
 IsNoWaitLast entries flow =
     (key : Key) (mode : Mode) (place : ℕ) → IsLast entries flow (Wait key mode) place → ⊥
 
--- a flow may pass one that waits for a key from a place on: it holds the key, or stands at it since before that
+-- a flow may pass one that waits for a key from a place on: it holds the key, or waits at it since before that
 abbrev pub MayPass : List Entry → ℕ → Key → ℕ → Type 0
 MayPass entries other key since = HoldsKey entries other key
     ⊎ ((own : Mode) × (place : ℕ) × (place < since) × StandsAt entries other key own place)
 
--- a flow that comes later doesn't overtake: a conflicting take of another flow behind a wait, and before the waiting
+-- a flow that comes later doesn't overtake: a conflicting take of another flow after a wait, and before the waiting
 -- flow's next entry, is of a flow that may pass
 abbrev pub IsNotOvertaken : List Entry → FlowNo → Key → Mode → List Entry → Type 0
 IsNotOvertaken before flow key mode after =
@@ -65,7 +65,7 @@ IsNotOvertaken before flow key mode after =
     → events_by flow.0 between ≡ [] → conflict their mode ≡ true
     → MayPass (before ++ record { flow = flow; event = Wait key mode } ∷ between) other.0 key (length before)
 
--- a wait stands only before the flow's take, where some flow blocks it; once for a take; and nobody overtakes
+-- a wait is only before the flow's take, where some flow blocks it; once for a take; and nobody overtakes
 pub record MayWait (setup : Setup) (before : List Entry) (flow : FlowNo) (key : Key) (mode : Mode)
     (after : List Entry) : Type 0 where
   pub next : IsNext setup before flow.0 (Take key mode)

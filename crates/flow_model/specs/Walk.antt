@@ -137,7 +137,7 @@ enclosed key holds node body =
       stop = left.stop;
     }
 
--- a handler that ends well or over leaves the node over; its own failure becomes the node's
+-- where a handler ends well or over the node is over; its own failure becomes the node's
 abbrev pub over : Outcome → List Answer → Walked
 over Good left = done [] (ended_with Over left)
 over Over left = done [] (ended_with Over left)

@@ -10,7 +10,7 @@ use Rattle.flow_orders.specs.Turns.{IsInLine, MakesMove}
 use Rattle.flow_orders.specs.Schedules.{IsScheduled}
 use Rattle.flow_orders.specs.Drains.{DrainsTo}
 
--- there is nothing for a flow to do: there is no such flow, it has ended, or it is blocked and stands in a line
+-- there is nothing for a flow to do: there is no such flow, it has ended, or it is blocked and in a line
 abbrev pub Rests : Setup → List Entry → ℕ → Type 0
 Rests setup before flow = (IsLive setup before flow → ⊥) ⊎ IsInLine setup before flow
 
@@ -33,8 +33,8 @@ pub record IsFollow (setup : Setup) (old : List Entry) (numbers : List FlowNo) (
 
 -- ---- as a rule
 
--- the rule: the flow is the next of the list, behind the turns of those listed before; or the lowest that can go on,
--- behind the turns of the whole list
+-- the rule: the flow is the next of the list, after the turns of those listed before; or the lowest that can go on,
+-- after the turns of the whole list
 abbrev pub IsListedTurn : Setup → List Entry → List FlowNo → List Entry → FlowNo → Event → Type 0
 IsListedTurn setup old numbers since flow event =
     ((done : List FlowNo) × (left : List FlowNo) × (numbers ≡ done ++ flow ∷ left)

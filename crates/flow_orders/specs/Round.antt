@@ -33,12 +33,12 @@ pub record HasHadTurn (entries : List Entry) (flow : FlowNo) : Type 0 where
   pub last : entries ≡ front ++ record { flow = flow; event = event } ∷ []
   pub over : EndsTurn event
 
--- the first owner is looked for from 0 on, each later one behind the last
+-- the first owner is looked for from 0 on, each later one after the last
 abbrev pub LooksFrom : List Entry → ℕ → Type 0
 LooksFrom entries from =
     ((entries ≡ []) × (from ≡ 0)) ⊎ ((flow : FlowNo) × HasHadTurn entries flow × (from ≡ flow.0 + 1))
 
--- behind some new entries it is a flow's turn: it goes on, or is the first that can go on from where it is looked for
+-- after some new entries it is a flow's turn: it goes on, or is the first that can go on from where it is looked for
 abbrev pub HasTurn : Setup → List Entry → List Entry → FlowNo → Type 0
 HasTurn setup old entries flow = IsOnTurn entries flow
     ⊎ ((from : ℕ) × LooksFrom entries from × IsFirstFrom setup (old ++ entries) from flow.0)

@@ -56,7 +56,7 @@ pub record IsPassedOver (processors : ℕ) (runs : List Run) (tick flow : ℕ) :
   pub taken : processors ≤ running_at runs tick
   pub lower : starting_from runs flow tick ≡ 0
 
--- where a live flow stands when all of a tick is done: it is blocked; or it is at a call, which runs or waits
+-- where a live flow is when all of a tick is done: it is blocked; or it is at a call, which runs or waits
 abbrev pub IsSettled : Setup → ℕ → List Entry → List Run → ℕ → ℕ → Type 0
 IsSettled setup processors entries runs tick flow =
     (IsBlocked setup entries flow × (running_of runs flow tick ≡ 0))

@@ -8,7 +8,7 @@ use Rattle.flow_model.specs.Events.{IsLive}
 use Rattle.flux_laws.specs.Moves.{IsMove}
 use Rattle.flow_orders.specs.Turns.{EachStands}
 
--- behind the entries since an old journal, a flow's entry is its next move, and the rule allows it
+-- after the entries since an old journal, a flow's entry is its next move, and the rule allows it
 pub record IsAllowed (Allows : List Entry → FlowNo → Event → Type 0) (setup : Setup) (old since : List Entry)
     (flow : FlowNo) (event : Event) : Type 0 where
   pub allowed : Allows since flow event

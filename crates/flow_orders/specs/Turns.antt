@@ -26,7 +26,7 @@ pub record MakesMove (setup : Setup) (before : List Entry) (flow : FlowNo) (even
   pub move : IsMove setup before flow event
   pub added : after ≡ before ++ record { flow = flow; event = event } ∷ []
 
--- a flow stands in a line, and is blocked: its take has its wait
+-- a flow is in a line, and is blocked: its take has its wait
 pub record IsInLine (setup : Setup) (entries : List Entry) (flow : ℕ) : Type 0 where
   pub key : Key
   pub mode : Mode
@@ -34,7 +34,7 @@ pub record IsInLine (setup : Setup) (entries : List Entry) (flow : ℕ) : Type 0
   pub stands : StandsAt entries flow key mode place
   pub blocked : IsBlocked setup entries flow
 
--- each entry of a list is as it should be, behind those before it
+-- each entry of a list is as it should be, after those before it
 abbrev pub EachStands : (List Entry → FlowNo → Event → Type 0) → List Entry → Type 0
 EachStands Is entries = (before after : List Entry) (flow : FlowNo) (event : Event)
     → Stands entries before flow event after → Is before flow event

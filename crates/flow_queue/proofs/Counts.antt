@@ -72,7 +72,7 @@ length-numbers (suc n) = let rest = length-numbers n in long (numbers n) n n res
     long (y ∷ xs) x zero is = absurd (omega (arith, is))
     long (y ∷ xs) x (suc k) is = let rest = long xs x k (omega (arith, is)) in omega (arith, rest)
 
--- a number doesn't stand in a list of lower ones
+-- a number isn't in a list of lower ones
 times_apart : (n : ℕ) (xs : List ℕ) → AllByRecursion (λ x. x < n) xs → times n xs ≡ 0
 times_apart n [] all = refl
 times_apart n (x ∷ xs) (lt, all) =
@@ -132,7 +132,7 @@ mark_here placed place is = rw (eq-eqb placed.place place is) refl
 pub mark_else : (placed : Placed) (place : ℕ) → placed.place ≢ place → marks place (placed ∷ []) ≡ 0
 mark_else placed place apart = rw (ne_eqb placed.place place apart) refl
 
--- what stands in a list stands before its end
+-- what is in a list is before its end
 pub behind : (all : List ℕ) (xs : List Placed) → AllByRecursion (StandsIn all) xs → IsBehind (length all) xs
 behind all [] stand = tt
 behind all (x ∷ xs) (here, stand) = (slice_get_within all x.place x.number here, behind all xs stand)

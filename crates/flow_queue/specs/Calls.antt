@@ -11,7 +11,7 @@ pub record IsFirstPass (flows : ℕ) (queue : QueueState) (pass : PassState) : T
   pub flows_ : queue.flows ≡ flows
   pub pass_ : pass ≡ record { queue = queue; held = None; moves = 0; puts = []; takes = [] }
 
--- the number that the pass held is put, at a place behind the first numbers and all that it put before
+-- the number that the pass held is put, at a place after the first numbers and all that it put before
 pub record PutsBack (old new : PassState) : Type 0 where
   pub number : ℕ
   pub held : old.held ≡ Some number
@@ -24,7 +24,7 @@ pub record PutsBack (old new : PassState) : Type 0 where
     puts = old.puts ++ record { place = place; number = number } ∷ [];
   }
 
--- a number is taken, at a place behind all that the pass took before, and is held
+-- a number is taken, at a place after all that the pass took before, and is held
 pub record TakesFront (old : PassState) (flow : FlowNo) (new : PassState) : Type 0 where
   pub below : let queue = old.queue in flow.0 < queue.flows
   pub place : ℕ

@@ -39,7 +39,7 @@ abbrev pub numbers : ℕ → List ℕ
 numbers zero = []
 numbers (suc n) = numbers n ++ n ∷ []
 
--- how often a number stands in a list
+-- how often a number is in a list
 abbrev pub times : ℕ → List ℕ → ℕ
 times number [] = 0
 times number (x ∷ xs) = (if x == number then 1 else 0) + times number xs
@@ -49,13 +49,13 @@ abbrev pub marks : ℕ → List Placed → ℕ
 marks place [] = 0
 marks place (x ∷ xs) = (if x.place == place then 1 else 0) + marks place xs
 
--- a number stands in a list at its place
+-- a number is in a list at its place
 abbrev pub StandsIn : List ℕ → Placed → Type 0
 StandsIn all placed = slice_get all placed.place ≡ Some placed.number
 
 -- ---- the rule
 
--- a number that was put later stands at its place, which is behind the first ones
+-- a number that was put later is at its place, which comes after the first ones
 pub record IsPut (flows : ℕ) (all : List ℕ) (placed : Placed) : Type 0 where
   pub stands : StandsIn all placed
   pub later : flows ≤ placed.place
@@ -109,7 +109,7 @@ abbrev pub opened : View → View
 opened (Opening next) = Working next None 0 [] []
 opened (Working flows held moves puts takes) = Working flows held moves puts takes
 
--- a place behind all that a pass has
+-- a place after all that a pass has
 abbrev pub IsBehind : ℕ → List Placed → Type 0
 IsBehind place = AllByRecursion (λ placed. placed.place < place)
 

@@ -99,7 +99,7 @@ pub rise_behind : (front entries : List Entry) → BeginsWith entries front
 rise_behind front entries begins = let le = begins-long entries front begins in
     rise-from (length front) (length entries - length front) (length entries) (omega (arith, le))
 
--- a seat's places with those behind what it saw
+-- a seat's places with those after what it saw
 pub places_then : (front entries : List Entry) (places : List ℕ) → BeginsWith entries front → ArePlacesOf front places
     → ArePlacesOf entries (places ++ places_behind front entries)
 places_then front entries places begins rise =
@@ -247,7 +247,7 @@ entries-added front (entry ∷ more) =
     ap (λ x. x ∷ entries_at (front ++ entry ∷ more) (places_from (suc (length front)) (length more)))
     (at_last front more entry) ∙ ap (λ xs. Some entry ∷ xs) same
 
--- behind a front stand the entries that were added
+-- after a front are the entries that were added
 pub entries_behind : (front more : List Entry)
     → entries_at (front ++ more) (places_behind front (front ++ more)) ≡ map Some more
 entries_behind front more =

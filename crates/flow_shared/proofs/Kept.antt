@@ -102,7 +102,7 @@ module _ {L : Type 0} where
     places_ = fits.places_;
   }
 
-  -- a fitting view has no place behind the journal
+  -- a fitting view has no place past the journal
   has_none : (base : CoreState L) (latest : List Entry) (view : View L) (place : ℕ) → length latest ≤ place
       → FitsView base latest view → has place view ≡ 0
   has_none base latest Spent place le fits = refl
@@ -305,7 +305,7 @@ module _ {L : Type 0} where
           (λ there. fits_later base kept.latest core.entries view later off_ (kept.seats other view there.1))
           (at_set table.views seat other new view at')
 
-      -- no place is twice: the new ones are behind all others
+      -- no place is twice: the new ones come after all others
       all_once : (table : State (Option (CoreState L)) (View L)) → (kept : IsShared base table)
           → get_elem? table.views seat ≡ some on → (place : ℕ)
           → sum_by (has place) (set table.views seat (view_after_turn core on)) ≤ 1

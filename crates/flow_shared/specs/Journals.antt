@@ -19,7 +19,7 @@ abbrev pub places_from : ℕ → ℕ → List ℕ
 places_from start zero = []
 places_from start (suc count) = start ∷ places_from (suc start) count
 
--- the places of the entries that a journal has behind a front of it
+-- the places of the entries that a journal has after a front of it
 abbrev pub places_behind : List Entry → List Entry → List ℕ
 places_behind front entries = places_from (length front) (length entries - length front)
 
@@ -43,7 +43,7 @@ abbrev pub merged : List ℕ → List ℕ → List ℕ
 merged [] others = others
 merged (place ∷ places) others = with_place place (merged places others)
 
--- how often a place stands in a list
+-- how often a place is in a list
 abbrev pub times : ℕ → List ℕ → ℕ
 times place [] = 0
 times place (first ∷ places) = (if first == place then 1 else 0) + times place places

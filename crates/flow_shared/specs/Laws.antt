@@ -4,7 +4,7 @@ use Rattle.flow_model.specs.declared.journals.Entry.{Entry}
 use Rattle.flow_shared.specs.Journals.{places_behind, ArePlacesOf, merged, times, entries_at}
 
 pub record PlacesFit : Type 0 where
-  -- behind a front of a journal stand the entries that were added to it
+  -- after a front of a journal are the entries that were added to it
   pub added : (front more : List Entry)
       → entries_at (front ++ more) (places_behind front (front ++ more)) ≡ map Some more
   -- among the places of a journal each is there once

@@ -1,4 +1,4 @@
--- Who holds a key against a take, and who stands at it ahead, as the table tells it.
+-- Who holds a key against a take, and who waits at it ahead, as the table tells it.
 use Rattle.std.proofs.Common.{◌≡◌, ◌⊎◌, inl, inr, ℕ, true, List, [], ◌∷◌, Option, Some, None, refl, sym, ap, subst, ◌∙◌, arith}
 use Rattle.std.proofs.lemmas.Bool.{false≢true}
 use Rattle.flux_values.specs.declared.answers.Mode.{Mode}

@@ -192,7 +192,7 @@ module _ (setup : Setup) (plans : List Plan) (entries : List Entry) (legal : IsL
     stands = stands;
   }
 
-  -- behind the event that comes next
+  -- after the event that comes next
   pub place-advanced : (next : Next) → next_in is.plan (matches_in setup) place.local ≡ Some next → (event : Event)
       → event_for (key_in setup.program place.session) next ≡ Some event
       → (new : Place) → HasPlan plans setup.items flow (λ plan. Advances plan (matches_in setup) place.local new.local)
@@ -222,7 +222,7 @@ module _ (setup : Setup) (plans : List Plan) (entries : List Entry) (legal : IsL
             (events_by flow entries) event ∙ no_wait);
       }
 
-  -- behind the call that comes next
+  -- after the call that comes next
   pub place-answered : (node : NodeNo) (answer : Answer) → called_in is.plan place.local ≡ Some node → (new : Place)
       → HasPlan plans setup.items flow (λ plan. IsAnswered plan place.local answer new.local)
       → new.session ≡ place.session → new.stands ≡ false
@@ -249,7 +249,7 @@ module _ (setup : Setup) (plans : List Plan) (entries : List Entry) (legal : IsL
             (events_by flow entries) event);
       }
 
-  -- where the flow stands nowhere, its place says so
+  -- where the flow waits nowhere, its place says so
   pub place-nowhere : ((key : Key) (mode : Mode) (at : ℕ) → StandsAt entries flow key mode at → ⊥)
       → place.stands ≡ false
   place-nowhere nowhere = is.stands ∙ by (ends_waiting false (events_by flow entries)) refl

@@ -108,7 +108,7 @@ abbrev pub live_in : List Entry → ℕ → ℕ
 live_in entries count = sum_below (one_live entries) count
 
 module _ (entries : List Entry) (flow : FlowNo) (event : Event) (count : ℕ) where
-  -- an event that is no end leaves as many
+  -- after an event that is no end as many are live
   pub live-still : is_end event ≡ false → live_in (entries ++ record { flow = flow; event = event } ∷ []) count
       ≡ live_in entries count
   live-still no_end = sum-same (one_live entries) (one_live (entries ++ record { flow = flow; event = event } ∷ []))
@@ -126,7 +126,7 @@ module _ (entries : List Entry) (flow : FlowNo) (event : Event) (count : ℕ) wh
           (ended-own entries flow event ∙ ap (λ (b : Bool). has_ended entries flow.0 || b) no_end ∙ or-false
           (has_ended entries flow.0))
 
-  -- an end of a flow that goes on leaves one less
+  -- after an end of a flow that goes on one less is live
   pub live-less : is_end event ≡ true → flow.0 < count → has_ended entries flow.0 ≡ false
       → live_in entries count ≡ live_in (entries ++ record { flow = flow; event = event } ∷ []) count + 1
   live-less is lt goes_on =

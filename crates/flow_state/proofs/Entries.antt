@@ -1,4 +1,4 @@
--- One entry more: where flows stand behind it.
+-- One entry more: where flows wait after it.
 use Rattle.std.proofs.Common.{◌≡◌, ◌⊎◌, inl, inr, ℕ, zero, suc, Bool, true, false, cond, eqb, List, [], ◌∷◌, ◌++◌, length, refl, sym, ap, subst, ◌∙◌}
 use Rattle.std.proofs.lemmas.Bool.{false≢true, eqb-true}
 use Rattle.std.proofs.lemmas.List.{append-nil}
@@ -39,7 +39,7 @@ module _ (entries : List Entry) (flow : FlowNo) (event : Event) where
   last-own : IsLast more flow event (length entries)
   last-own = record { before = entries; after = []; stands = refl; last = refl; at = refl }
 
-  -- so where it stands, it stands by this entry
+  -- so where it waits, it waits by this entry
   pub stands-own : (key : Key) (mode : Mode) (place : ℕ) → StandsAt more flow.0 key mode place
       → (event ≡ Wait key mode) × (length entries ≡ place)
   stands-own key mode place stands = last-unique more flow event (Wait key mode) (length entries) place last-own stands
@@ -48,7 +48,7 @@ module _ (entries : List Entry) (flow : FlowNo) (event : Event) where
   stands-here key mode is = subst (λ (e : Event). IsLast more flow e (length entries)) is last-own
 
   module _ (other : ℕ) (apart : flow.0 ≡ other → ⊥) where
-    -- other flows stand where they stood
+    -- other flows wait where they did
     pub stands-still : (key : Key) (mode : Mode) (place : ℕ) → StandsAt entries other key mode place
         → StandsAt more other key mode place
     stands-still key mode place stands = record {
@@ -88,7 +88,7 @@ pub waiting-last : (before : Bool) (events : List Event) (event : Event)
 waiting-last before [] event = refl
 waiting-last before (first ∷ events) event = waiting-last (is_wait first) events event
 
--- a flow stands at some key
+-- a flow waits at some key
 abbrev pub StandsAnywhere : List Entry → ℕ → Type 0
 StandsAnywhere entries flow = (key : Key) × (mode : Mode) × (place : ℕ) × StandsAt entries flow key mode place
 
@@ -158,7 +158,7 @@ waiting-from (entry ∷ entries) flow before waits = by (eqb entry.flow.0 flow) 
         other (inl none) = inl none
         other (inr there) = inr (stands-further entry entries flow there)
 
--- where it is, the flow stands at a key
+-- where it is, the flow waits at a key
 pub waiting-stands : (entries : List Entry) (flow : ℕ) → ends_waiting false (events_by flow entries) ≡ true
     → StandsAnywhere entries flow
 waiting-stands entries flow waits = by (waiting-from entries flow false waits)
@@ -167,7 +167,7 @@ waiting-stands entries flow waits = by (waiting-from entries flow false waits)
     by (inl (never, none)) = absurd (false≢true never)
     by (inr there) = there
 
--- and where it isn't, it stands nowhere
+-- and where it isn't, it waits nowhere
 pub not_waiting-nowhere : (entries : List Entry) (flow : ℕ) → ends_waiting false (events_by flow entries) ≡ false
     → (key : Key) (mode : Mode) (place : ℕ) → StandsAt entries flow key mode place → ⊥
 not_waiting-nowhere entries flow none key mode place stands =

@@ -1,4 +1,4 @@
--- Lines have exactly the flows that stand at a key, by their places; so they stay with one entry more.
+-- Lines have exactly the flows that wait at a key, by their places; so they stay with one entry more.
 use Rattle.std.proofs.Common.{◌≡◌, ◌<◌, ◌⊎◌, inl, inr, ℕ, suc, ◌+◌, Bool, true, false, not, cond, eqb, List, [], ◌∷◌, ◌++◌, length, take, refl, sym, ap, subst, ◌∙◌, arith}
 use Rattle.std.specs.List.{Contains, prefix_len}
 use Rattle.std.proofs.lemmas.Bool.{false≢true, eqb-true, eq-eqb, ne_eqb, cases_eq}
@@ -23,7 +23,7 @@ use Rattle.flow_state.proofs.Entries.{stands-own, stands-here, stands-still, sto
 abbrev NotIn : ℕ → List Waiter → Type 0
 NotIn flow line = (waiter : Waiter) → In waiter line → waiter.flow.0 ≡ flow → ⊥
 
--- a line that a flow leaves
+-- a line that a flow is taken out of
 pub without-in : (line : List Waiter) (flow : ℕ) (waiter : Waiter) → In waiter (line_without line flow) → In waiter line
 without-in [] flow waiter is = is
 without-in (first ∷ line) flow waiter is = by (eqb first.flow.0 flow) is (without-in line flow waiter)
@@ -55,7 +55,7 @@ without-none (first ∷ line) flow none =
     ∙ ap (λ l. first ∷ l) (without-none line flow (λ waiter is. none waiter (inr is)))
 
 module _ (entries : List Entry) (key : Key) where
-  -- each waiter of a line stands at the key
+  -- each waiter of a line waits at the key
   pub order-stands : (line : List Waiter) → AreInOrder entries key line → (waiter : Waiter) → In waiter line
       → (place : ℕ) × StandsAt entries waiter.flow.0 key waiter.mode place
   order-stands [] order waiter is = absurd is
@@ -63,14 +63,14 @@ module _ (entries : List Entry) (key : Key) where
       (own.place, subst (λ (w : Waiter). StandsAt entries w.flow.0 key w.mode own.place) same own.stands)
   order-stands (first ∷ line) (own, order) waiter (inr is) = order-stands line order waiter is
 
-  -- a flow stands at one place
+  -- a flow waits at one place
   one-place : (flow : ℕ) (own their : Mode) (place other : ℕ) → StandsAt entries flow key own place
       → StandsAt entries flow key their other → place ≡ other
   one-place flow own their place other one two =
       let same = last-unique entries (record { 0 = flow }) (Wait key own) (Wait key their) place other one two in
       same.1
 
-  -- the first flow doesn't stand in the rest of the line
+  -- the first flow isn't in the rest of the line
   first-once : (first : Waiter) (line : List Waiter) → IsFirst entries key first line → AreInOrder entries key line
       → NotIn first.flow.0 line
   first-once first line own order waiter is same =
@@ -140,7 +140,7 @@ module _ (entries : List Entry) (key : Key) where
           left,
         )
 
-    -- where the flow doesn't come to stand at the key, it has left the line
+    -- where the flow doesn't begin to wait at the key, it is no longer in the line
     pub line-left : NotHere → (line : List Waiter) → IsLine entries key line
         → IsLine more key (line_without line flow.0)
     line-left away line is = record {
@@ -165,7 +165,7 @@ module _ (entries : List Entry) (key : Key) where
     line-still away nowhere line is =
         subst (IsLine more key) (without-none line flow.0 (nowhere-in nowhere line is.order)) (line-left away line is)
 
-  -- a flow that stands nowhere leaves a line as it is
+  -- without a flow that waits nowhere a line is as it was
   pub line-unchanged : (flow : FlowNo) → ((mode : Mode) (place : ℕ) → StandsAt entries flow.0 key mode place → ⊥)
       → (line : List Waiter) → IsLine entries key line → line_without line flow.0 ≡ line
   line-unchanged flow nowhere line is = without-none line flow.0 (λ waiter there same.
@@ -239,7 +239,7 @@ module _ (entries : List Entry) (key : Key) where
           order,
     )
 
-    -- a flow that stood nowhere stands at the end of the line
+    -- a flow that waited nowhere is at the end of the line
     pub line-waited : ((own : Mode) (place : ℕ) → StandsAt entries flow.0 key own place → ⊥) → (line : List Waiter)
         → IsLine entries key line → IsLine waited key (line ++ last ∷ [])
     line-waited nowhere line is = record {
@@ -264,7 +264,7 @@ module _ (entries : List Entry) (key : Key) where
             (in-left line (last ∷ []) (record { flow = other; mode = own })
             (in-from_contains line (record { flow = other; mode = own }) there))
 
-  -- ---- who stands before a flow
+  -- ---- who waits before a flow
 
   -- the line before a flow, by recursion
   abbrev front_of : List Waiter → ℕ → List Waiter
@@ -299,7 +299,7 @@ module _ (entries : List Entry) (key : Key) where
       )
       by false own (inr is) later = let (there, apart) = later is in (inr there, apart)
 
-  -- who stands before a flow has a lower place
+  -- who waits before a flow has a lower place
   front-lower : (line : List Waiter) → AreInOrder entries key line → (flow : ℕ) (waiter own : Waiter)
       → In waiter (front_of line flow) → In own line → own.flow.0 ≡ flow
       → (place behind : ℕ) → StandsAt entries waiter.flow.0 key waiter.mode place
@@ -322,7 +322,7 @@ module _ (entries : List Entry) (key : Key) where
           omega (arith, e, lt)
       by false test (inr is) (inr there) more = more is there
 
-  -- and whoever has one stands before it
+  -- and whoever has one waits before it
   lower-front : (line : List Waiter) → AreInOrder entries key line → (flow : ℕ) (waiter : Waiter) → In waiter line
       → (waiter.flow.0 ≡ flow → ⊥)
       → (place : ℕ) → StandsAt entries waiter.flow.0 key waiter.mode place
@@ -373,7 +373,7 @@ module _ (entries : List Entry) (key : Key) where
         contains-from_in (line_before line flow) waiter
         (subst (λ (l : List Waiter). In waiter l) (sym (front-is line flow)) among)
 
-    -- who is in the line stands there
+    -- who is in the line waits there
     pub line-stands : (waiter : Waiter) → Contains line waiter
         → (place : ℕ) × StandsAt entries waiter.flow.0 key waiter.mode place
     line-stands waiter there = order-stands line is.order waiter (in-from_contains line waiter there)

@@ -110,7 +110,7 @@ module _ (setup : Setup) (plans : List Plan) (given : IsGiven setup plans) (entr
 
   -- ---- moves
 
-  -- the flow's new place behind an event
+  -- the flow's new place after an event
   pub record IsMadeAt (place new : Place) : Type 0 where
     pub made : HasPlan plans setup.items flow.0 (λ plan. Advances plan (matches_in setup) place.local new.local)
     pub session : new.session ≡ place.session

@@ -94,7 +94,7 @@ module _ {L : Type 0} (meaning : L → LibraryMeaning) (r : Fields L) (is : AreF
       places.count in omega (arith, lt, count)
 
   module _ (flow : FlowNo) where
-    -- the fields behind a move
+    -- the fields after a move
     abbrev Moved : Place → Locks → List Entry → ℕ → Fields L
     Moved new locks made live = record {
       alloc = r.alloc;

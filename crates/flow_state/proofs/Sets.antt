@@ -7,7 +7,7 @@ length-replaced [] k x = refl
 length-replaced (y ∷ xs) zero x = refl
 length-replaced (y ∷ xs) (suc k) x = ap suc (length-replaced xs k x)
 
--- what stands at a place then
+-- what is at a place then
 pub replaced-cases : {X : Type 0} (xs : List X) (k n : ℕ) (x y : X) → slice_get (slice_set xs k x) n ≡ Some y
     → ((k ≡ n) × (x ≡ y)) ⊎ ((k ≡ n → ⊥) × (slice_get xs n ≡ Some y))
 replaced-cases [] k n x y is = absurd cc

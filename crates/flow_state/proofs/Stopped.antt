@@ -1,4 +1,4 @@
--- Where a flow is blocked, and who stands at a key, as the fields of a state tell it.
+-- Where a flow is blocked, and who waits at a key, as the fields of a state tell it.
 use Rattle.std.proofs.Common.{◌≡◌, ◌<◌, ℕ, Bool, true, false, List, [], ◌∷◌, length, Some, refl, sym, subst, ◌∙◌}
 use Rattle.std.specs.List.{slice_get}
 use Rattle.std.specs.Prelude.{MatchBool}
@@ -57,7 +57,7 @@ module _ {L : Type 0} (meaning : L → LibraryMeaning) (r : Fields L) (is : AreF
   module _ (next : Next) (coming : IsComing setup (plans_of r) items flow.0 next) (class : ClassNo) (mode : Mode)
       (takes : next ≡ nexts.Take class mode)
       (key : Key) (is_key : key_for setup (item_of setup flow.0) class ≡ Some key) where
-    -- the flow's place tells whether it stands there
+    -- the flow's place tells whether it waits there
     pub stop-is : (blocker : ℕ) → Blocks entries blocker flow.0 key mode → (place : Place)
         → slice_get items flow.0 ≡ Some place
         → IsBlockedTake setup entries flow.0 (record { key = key; mode = mode; stands = place.stands })
@@ -103,7 +103,7 @@ line-is meaning r is key =
     let line = table.lines key in
     record { all = line.all; order = in-order r.made key (lines_of r.table key) line.order }
 
--- a place tells whether its flow stands in a line
+-- a place tells whether its flow is in a line
 pub stands-is : (setup : Setup) (plans : List Plan) (entries : List Entry) (flow : FlowNo) (place : Place)
     → IsPlaceOf setup plans entries flow.0 place
     → MatchBool place.stands (IsStanding entries flow.0) (IsNoWaitLast entries flow)

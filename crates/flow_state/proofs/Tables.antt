@@ -62,14 +62,14 @@ not-both setup entries flow event node args next call =
     cc
 
 module _ (setup : Setup) (entries : List Entry) (legal : IsLegal setup entries) where
-  -- a flow stands only at its next take
+  -- a flow waits only at its next take
   pub stands-next : (flow : ℕ) (event : Event) → IsNext setup entries flow event → (key : Key) (mode : Mode) (place : ℕ)
       → StandsAt entries flow key mode place → event ≡ Take key mode
   stands-next flow event next key mode place stands =
       next-unique setup entries flow event (Take key mode) next
       (standers_take_next setup entries legal.waits flow key mode place stands)
 
-  -- so it stands nowhere where its next event is no take
+  -- so it waits nowhere where its next event is no take
   pub nowhere-by : (flow : ℕ) (event : Event) → IsNext setup entries flow event
       → ((key : Key) (mode : Mode) → event ≡ Take key mode → ⊥)
       → (key : Key) (mode : Mode) (place : ℕ) → StandsAt entries flow key mode place → ⊥

@@ -1,4 +1,4 @@
--- Who blocks a take: who holds the key, and who stands at it ahead.
+-- Who blocks a take: who holds the key, and who waits at it ahead.
 use Rattle.std.specs.Prelude.{◌≡◌, ◌≢◌, ℕ, true, List}
 use Rattle.flux_values.specs.declared.answers.Mode.{Mode}
 use Rattle.flow_model.specs.declared.journals.Entry.{Entry}
@@ -15,7 +15,7 @@ pub record IsHeldBy (entries : List Entry) (other flow : ℕ) (key : Key) (mode 
   pub apart : other ≢ flow
   pub against : holds_against entries other key mode ≡ true
 
--- the flow doesn't hold the key, and another stands at it in conflict, ahead of the flow or with the flow not there
+-- the flow doesn't hold the key, and another waits at it in conflict, ahead of the flow or with the flow not there
 pub record IsAhead (entries : List Entry) (other flow : ℕ) (key : Key) (mode : Mode) : Type 0 where
   pub free : HoldsKey entries flow key → ⊥
   pub apart : other ≢ flow

@@ -1,4 +1,4 @@
--- Calls: the library nodes behind them, what they are given, and which answers are right.
+-- Calls: the library nodes that they call, what these are given, and which answers are right.
 use Rattle.std.specs.Prelude.{◌≡◌, ℕ, List, Option, Some, None}
 use Rattle.std.specs.List.{slice_get}
 use Rattle.flux_values.specs.declared.answers.Answer.{Answer}

@@ -1,4 +1,4 @@
--- Where a flow stands or is blocked, and who stands at a key.
+-- Where a flow waits or is blocked, and who waits at a key.
 use Rattle.std.specs.Prelude.{◌≡◌, ℕ, ◌<◌, true, false, List, [], ◌∷◌, ⊤}
 use Rattle.std.specs.List.{Contains}
 use Rattle.flux_values.specs.declared.answers.Mode.{Mode}
@@ -16,14 +16,14 @@ use Rattle.flow_state.specs.declared.readiness.BlockedTake.{BlockedTake}
 use Rattle.flow_state.specs.declared.readiness.Readiness.{Readiness}
 use Rattle.flow_state.specs.declared.readiness.Readiness.TheVariants.{Ended, Blocked, Free}
 
--- a flow stands at some key: its last entry is a `wait` for it
+-- a flow waits at some key: its last entry is a `wait` for it
 pub record IsStanding (entries : List Entry) (flow : ℕ) : Type 0 where
   pub key : Key
   pub mode : Mode
   pub place : ℕ
   pub stands : StandsAt entries flow key mode place
 
--- a flow is blocked at a take, and stands there or has no wait yet
+-- a flow is blocked at a take, and waits there or has no wait yet
 pub record IsBlockedTake (setup : Setup) (entries : List Entry) (flow : ℕ) (stop : BlockedTake) : Type 0 where
   pub next : IsNext setup entries flow (Take stop.key stop.mode)
   pub blocked : IsBlocked setup entries flow
@@ -36,7 +36,7 @@ IsReadiness setup entries flow Ended = has_ended entries flow ≡ true
 IsReadiness setup entries flow (Blocked stop) = (has_ended entries flow ≡ false) × IsBlockedTake setup entries flow stop
 IsReadiness setup entries flow Free = (has_ended entries flow ≡ false) × (IsBlocked setup entries flow → ⊥)
 
--- the others of a line stand there behind a place
+-- the others of a line wait there, after a place
 abbrev pub StandBehind : List Entry → Key → ℕ → List Waiter → Type 0
 StandBehind entries key place line = (waiter : Waiter) (behind : ℕ) → Contains line waiter
     → StandsAt entries waiter.flow.0 key waiter.mode behind → place < behind
@@ -47,7 +47,7 @@ StandInOrder entries key (waiter ∷ line) =
     ((place : ℕ) × StandsAt entries waiter.flow.0 key waiter.mode place × StandBehind entries key place line)
     × StandInOrder entries key line
 
--- a line has exactly the flows that stand at a key, by their places
+-- a line has exactly the flows that wait at a key, by their places
 pub record IsLineAt (entries : List Entry) (key : Key) (line : List Waiter) : Type 0 where
   pub all : (flow : FlowNo) (mode : Mode) (place : ℕ) → StandsAt entries flow.0 key mode place
       → Contains line (record { flow = flow; mode = mode })

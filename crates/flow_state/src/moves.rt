@@ -98,7 +98,7 @@ impl<L: Library> Fields<L> {
         }
     }
 
-    /// The same for a flow that stands in the key's line. Its place is changed last, since leaving a line can't be undone.
+    /// The same for a flow that is in the key's line. Its place is changed last, since leaving a line can't be undone.
     fn acquire_from_line(&mut self, flow: FlowNo, key: Key, mode: Mode) -> Result<(), Memory>
         requires fields { AreFields L.meaning self.old }
         requires coming { IsEventComing (setup_at L.meaning (state_of self.old)) (plans_of self.old)
@@ -122,7 +122,7 @@ impl<L: Library> Fields<L> {
         Ok(())
     }
 
-    /// The same for a flow that stands nowhere.
+    /// The same for a flow that waits nowhere.
     #[inline(always)]
     fn acquire_at_once(&mut self, flow: FlowNo, key: Key, mode: Mode) -> Result<(), Memory>
         requires fields { AreFields L.meaning self.old }
@@ -152,7 +152,7 @@ impl<L: Library> Fields<L> {
         Ok(())
     }
 
-    /// Lets a flow stand at the key of its next take.
+    /// Lets a flow wait at the key of its next take.
     pub fn wait(&mut self, flow: FlowNo, key: Key, mode: Mode) -> Result<(), Memory>
         requires fields { AreFields L.meaning self.old }
         requires flow { flow.0 < length self.old.setup.items }

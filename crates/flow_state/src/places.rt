@@ -2,7 +2,7 @@
 
 use flux_plan::Local;
 
-/// A flow's place in its plan, its session's number, and whether it stands in a line.
+/// A flow's place in its plan, its session's number, and whether it is in a line.
 #[derive(Drop)]
 pub struct Place {
     pub local: Local,

@@ -1,4 +1,4 @@
-//! What is asked of flows: who has ended, who is at a call, who is blocked and by whom, and who stands where.
+//! What is asked of flows: who has ended, who is at a call, who is blocked and by whom, and who waits where.
 
 ghost use Rattle.std.specs.Prelude.{◌≡◌, ◌<◌, ◌↔◌, length, IsTrue, MatchBool, MatchOption};
 ghost use Rattle.flow_model.specs.declared.journals.Event.TheVariants as events;
@@ -100,7 +100,7 @@ impl<L: Library> Fields<L> {
         }
     }
 
-    /// Whether a flow stands in a line.
+    /// Whether a flow is in a line.
     pub fn stands(&self, flow: FlowNo) -> bool
         requires fields { AreFields L.meaning self.now }
         requires flow { flow.0 < length self.now.setup.items }
@@ -109,7 +109,7 @@ impl<L: Library> Fields<L> {
         self.places[flow.0 as usize].stands
     }
 
-    /// The flows that stand at a key, first come first.
+    /// The flows that wait at a key, first come first.
     pub fn line(&self, key: Key) -> &[Waiter]
         requires { AreFields L.meaning self.now }
         ensures { IsLineAt self.now.made key result.now }
@@ -129,7 +129,7 @@ impl<L: Library> Fields<L> {
         self.table.held_against(flow, key, mode)
     }
 
-    /// The lowest flow that stands at the key of a flow's next take in conflict, ahead of the flow.
+    /// The lowest flow that waits at the key of a flow's next take in conflict, ahead of the flow.
     pub fn ahead(&self, flow: FlowNo, key: Key, mode: Mode) -> Option<FlowNo>
         requires fields { AreFields L.meaning self.now }
         requires next { IsNext (setup_at L.meaning (state_of self.now)) self.now.made flow.0

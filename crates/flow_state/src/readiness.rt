@@ -3,7 +3,7 @@
 use flow_model::Key;
 use flux_model::Mode;
 
-/// The take at which a flow is blocked, and whether it stands there already.
+/// The take at which a flow is blocked, and whether it waits there already.
 #[derive(Clone, Copy, PartialEq, Eq)]
 pub struct BlockedTake {
     pub key: Key,

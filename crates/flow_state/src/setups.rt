@@ -37,7 +37,7 @@ impl<L: Library> Drop for Setup<L> {
 }
 
 impl<L: Library> Setup<L> {
-    /// The plan that a flow goes by.
+    /// The plan that a flow follows.
     #[inline(always)]
     fn plan(&self, flow: FlowNo) -> &VerifiedPlan
         requires { IsSome (plan_of_item (arc_value self.now.plans) (slice_get self.now.items flow.0)) }

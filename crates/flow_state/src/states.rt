@@ -33,7 +33,7 @@ use flux_values::Memory;
 use std::alloc::Global;
 use std::marker::Model;
 
-/// Flows over a setup, where the entries that they made have led them. What it keeps at every moment is told by
+/// Flows over a setup, where the entries that they made have led them. What it keeps at every moment is reported by
 /// `keep`.
 pub struct State<L: Library> {
     fields: Fields<L>,
@@ -175,7 +175,7 @@ impl<L: Library> State<L> {
         self.fields.readiness(flow)
     }
 
-    /// Whether a flow stands in a line: its last entry is a wait.
+    /// Whether a flow is in a line: its last entry is a wait.
     pub fn stands(&self, flow: FlowNo) -> bool
         requires { flow.0 < length self.now.setup.items }
         ensures { MatchBool result (IsStanding self.now.entries flow.0) (IsNoWaitLast self.now.entries flow) }
@@ -183,7 +183,7 @@ impl<L: Library> State<L> {
         self.fields.stands(flow)
     }
 
-    /// The flows that stand at a key, first come first.
+    /// The flows that wait at a key, first come first.
     pub fn line(&self, key: Key) -> &[Waiter]
         ensures { IsLineAt self.now.entries key result.now }
     {
@@ -200,7 +200,7 @@ impl<L: Library> State<L> {
         self.fields.holder(flow, key, mode)
     }
 
-    /// The lowest flow that stands at the key of a flow's next take in conflict, ahead of the flow.
+    /// The lowest flow that waits at the key of a flow's next take in conflict, ahead of the flow.
     pub fn ahead(&self, flow: FlowNo, key: Key, mode: Mode) -> Option<FlowNo>
         requires { IsNext (setup_at L.meaning self.now) self.now.entries flow.0 (events.Take key mode) }
         ensures { IsLowestOf (λ other. IsAhead self.now.entries other flow.0 key mode) result }
@@ -218,7 +218,7 @@ impl<L: Library> State<L> {
 }
 
 impl<L: Library> State<L> {
-    /// Makes a flow's next event, as `next` told it, which is neither a call nor blocked.
+    /// Makes a flow's next event, as `next` gave it, which is neither a call nor blocked.
     #[inline(always)]
     pub fn make(&mut self, flow: FlowNo, coming: Coming) -> Result<(), Memory>
         requires comes { Comes (setup_at L.meaning self.old) self.old.entries flow.0 coming }
@@ -229,7 +229,7 @@ impl<L: Library> State<L> {
         self.fields.make(flow, coming)
     }
 
-    /// Lets a flow stand at the key of its next take, which is blocked and has no wait yet.
+    /// Lets a flow wait at the key of its next take, which is blocked and has no wait yet.
     pub fn wait(&mut self, flow: FlowNo, key: Key, mode: Mode) -> Result<(), Memory>
         requires { MayStand (setup_at L.meaning self.old) self.old.entries flow key mode }
         ensures ok { OnOk result (AddsWait L.meaning self.old self.new flow key mode) }
@@ -238,7 +238,7 @@ impl<L: Library> State<L> {
         self.fields.wait(flow, key, mode)
     }
 
-    /// What the call of a node that comes next for a flow, as `next` told it, is given.
+    /// What the call of a node that comes next for a flow, as `next` gave it, is given.
     pub fn inputs(&self, flow: FlowNo, node: NodeNo) -> Result<Inputs, Memory>
         requires { IsComing (setup_at L.meaning self.now) self.now.entries flow.0 (comings.Call node) }
         ensures next { IfOk result (IsNextCall (setup_at L.meaning self.now) self.now.entries flow.0) }

@@ -28,7 +28,7 @@ event-unless plan matches position next is call ended = subst IsEvent (sym is) (
     by (nexts.End outcome) c e = tt
     by nexts.Ended c e = e refl
 
--- the place behind an event is reached too
+-- the place after an event is reached too
 pub reached-behind : (plan : Plan) (matches : Matches) (old new : Position) (next : Next) → IsReached plan matches old
     → next_in plan matches old ≡ Some next → Advances plan matches old new → IsReached plan matches new
 reached-behind plan matches old new next reached is made =

@@ -3,7 +3,7 @@
 //! `core N` drives N flows to their ends, and prints how many flows and events there are. `journal N P R` makes their
 //! journal's text P times and reads it R times, and prints how many events and bytes there are. `text N` prints that text.
 //! `watch N` does what `core N` does; then it drives N flows by the loop of the runtimes, over a library that refuses one call
-//! for want of memory, each call in turn, and prints how many calls there are where each was made once and told of before and
+//! for want of memory, each call in turn, and prints how many calls there are where each was made once and seen before and
 //! after, and how many of all these journals the auditor upholds. `trials` does what `watch 16` does, and simulates small programs
 //! and flows of the load, whose journals are audited too; then it makes each public call once that no program makes.
 #![tactic(auto)]
@@ -125,7 +125,7 @@ fn drained(alloc: Global, flows: u32, refused: u32, calls: &Calls) -> Result<Jou
     Ok(journal)
 }
 
-/// How many calls flows make, of which one is refused and made again. Behind the refusal each call was told of, too.
+/// How many calls flows make, of which one is refused and made again. After the refusal the gate saw each call, too.
 fn watched(alloc: Global, flows: u32, refused: u32) -> Result<Watch, Trouble> {
     let told = Calls::new();
     let journal = drained(alloc, flows, refused, &told)?;

@@ -43,29 +43,29 @@ pub fn take_turn<L: Library>(
 /// No flow.
 const NOBODY: u32 = u32::MAX;
 
-/// Flows one behind the other: the first and the last, or nobody.
+/// Flows one after the other: the first and the last, or nobody.
 #[derive(Clone, Copy)]
 struct Line {
     first: u32,
     last: u32,
 }
 
-/// Nobody stands here.
+/// Nobody waits here.
 const EMPTY: Line = Line {
     first: NOBODY,
     last: NOBODY,
 };
 
-/// Who may go on, each in its turn, and who waits, by key in the order of coming. A flow stands in one line at most.
+/// Who may go on, each in its turn, and who waits, by key in the order of coming. A flow is in one line at most.
 #[derive(Drop)]
 struct Turns {
-    /// Who stands behind each flow in its line.
+    /// Who comes after each flow in its line.
     behind: Vec<u32>,
     ready: Line,
     waiting: Vec<(Key, Line)>,
 }
 
-/// Says who stands behind a flow.
+/// Says who comes after a flow.
 fn set_behind(behind: &mut [u32], flow: u32, next: u32) {
     if let Some(place) = behind.get_mut(flow as usize) {
         *place = next;
@@ -95,7 +95,7 @@ fn rest_of(behind: &[u32], line: Line) -> Line {
     }
 }
 
-/// Where the line of a key stands.
+/// Where the line of a key is.
 fn place_of(waiting: &[(Key, Line)], key: Key) -> Option<usize> {
     for (place, (other, _)) in waiting.iter().enumerate() {
         if *other == key {
@@ -147,7 +147,7 @@ impl Turns {
         Some(line.first)
     }
 
-    /// A flow's turn. The next one comes behind the others' turns, unless the flow waits or has ended.
+    /// A flow's turn. The next one comes after the others' turns, unless the flow waits or has ended.
     fn give<L: Library>(
         &mut self,
         alloc: Global,
@@ -168,7 +168,7 @@ impl Turns {
         }
     }
 
-    /// A flow comes to a key's line.
+    /// A flow joins a key's line.
     fn wait(&mut self, key: Key, flow: u32) -> Result<(), Memory> {
         let place = match place_of(self.waiting.as_slice(), key) {
             Some(place) => place,

@@ -1,4 +1,4 @@
-//! Calls of nodes that are watched from both sides: by a gate, which is told of each, and by the library that makes them.
+//! Calls of nodes that are watched from both sides: by a gate, which sees each, and by the library that makes them.
 
 use flow_core::{Core, Gate};
 use flow_waits::drain_by;
@@ -8,7 +8,7 @@ use std::sync::atomic::{AtomicBool, AtomicU32, Ordering};
 use trial_ends::Trouble;
 use trial_programs::Watcher;
 
-/// The calls so far. Each is told of, made once, and told of again.
+/// The calls so far. The gate sees each, it is made once, and the gate sees it again.
 #[derive(Drop)]
 pub struct Calls {
     told: AtomicBool,
@@ -40,7 +40,7 @@ impl Calls {
         self.ended.load(Ordering::SeqCst)
     }
 
-    /// How many calls there were. It is wrong where one was not told of before and after, was made twice, or has no end yet.
+    /// How many calls there were. It is wrong where one was not seen before and after, was made twice, or has no end yet.
     pub fn count(&self) -> Result<u32, Trouble> {
         let open = self.told.load(Ordering::SeqCst) || self.made.load(Ordering::SeqCst);
         if open || self.mixed_up.load(Ordering::SeqCst) {
@@ -79,7 +79,7 @@ impl<'a> Watcher for Refusing<'a> {
     }
 }
 
-/// Drives a core by the loop of the runtimes, with its gate told, and once more where a call was refused.
+/// Drives a core by the loop of the runtimes, with its gate notified, and once more where a call was refused.
 pub fn drain_twice<L: Library>(core: &mut Core<L>, calls: &Calls) -> Result<(), Trouble> {
     if drain_by(core, calls).is_ok() {
         return Ok(());

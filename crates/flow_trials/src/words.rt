@@ -1,4 +1,4 @@
-//! What the words behind the program's own name ask for.
+//! What the words after the program's own name ask for.
 
 use trial_ends::Trouble;
 

@@ -6,7 +6,7 @@ use Rattle.flow_core.specs.States.{CoreState, setup_in}
 use Rattle.flow_core.specs.Runs.{SameSetup}
 
 module _ {L : Type 0} (meaning : L → LibraryMeaning) (old : CoreState L) (halted : Bool) (new : CoreState L) where
-  -- the same setup and the same journal, which is legal, and the flag as it is told
+  -- the same setup and the same journal, which is legal, and this flag
   pub record IsSetBack : Type 0 where
     pub setup_ : SameSetup old new
     pub entries_ : new.entries ≡ old.entries

@@ -102,7 +102,7 @@ module _ (setup : Setup) (entries : List Entry) (old new : Pools) (from : ℕ) (
     exist = λ flow ready. covers.exist flow (sym (same.ready_ flow) ∙ ready);
   }
 
--- ---- a flow that leaves those that are looked at
+-- ---- a flow that is no longer among those that are looked at
 
 parked-beside : (old new : Pools) (aside : List ℕ) (flow : ℕ) (key : Key) (mode : Mode) (stands : Bool)
     → BecomesParked old new flow key mode stands → BecomesParked (beside old aside) (beside new aside) flow key mode stands

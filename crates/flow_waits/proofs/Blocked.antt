@@ -64,7 +64,7 @@ nothing-left list event rest e = by (append_cancel_left list [] (event ∷ rest)
     by : [] ≡ event ∷ rest → ⊥
     by nothing = cc
 
--- an entry behind a flow's own wait is the take
+-- an entry after a flow's own wait is the take
 take-follows : (setup : Setup) (entries : List Entry) (flow : FlowNo) (key : Key) (their : Mode) (place : ℕ)
     → StandsAt entries flow.0 key their place
     → IsNext setup entries flow.0 (Take key their) → (event : Event) → IsMove setup entries flow event
@@ -184,7 +184,7 @@ held_after-wait key k mode modes (End outcome ∷ a) = held_after-wait key k mod
 writer-against : (mode : Mode) → conflict Writer mode ≡ true
 writer-against mode = refl
 
--- a flow that stands at a key doesn't hold it
+-- a flow that waits at a key doesn't hold it
 stander-free : (setup : Setup) (entries : List Entry) → IsLegal setup entries
     → (flow : ℕ) (key : Key) (mode : Mode) (place : ℕ) → StandsAt entries flow key mode place
     → HoldsKey entries flow key → ⊥
@@ -238,7 +238,7 @@ writers_block setup entries legal flow writer key mode place before stands their
         let e = one.1 in
         omega (arith, e, lt)
 
--- a flow that has made its wait stands in a line, and is blocked still
+-- a flow that has made its wait is in a line, and is blocked still
 module _ (setup : Setup) (before : List Entry) (flow : FlowNo) (key : Key) (mode : Mode)
     (legal : IsLegal setup (before ++ record { flow = flow; event = Wait key mode } ∷ [])) where
   abbrev behind : List Entry

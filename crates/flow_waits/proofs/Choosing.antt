@@ -127,7 +127,7 @@ module _ (setup : Setup) (entries : List Entry) (old new : Pools) (from flow : �
     (covers : Covers setup entries old from)
     (kept : (other : ℕ) → flow ≢ other → IsReady old other → IsReady new other)
     (there : (other : ℕ) → IsReady new other → IsReady old other) where
-  -- what becomes of the others, where those behind the flow are covered without it
+  -- what becomes of the others, where those after the flow are covered without it
   others : ((k : Key) (m : Mode) (other : ℕ) → IsParked old k m other → IsParked new k m other)
       → ((k : Key) (m : Mode) (other : ℕ) → IsParked old k m other → IsFresh setup entries flow k m
       → IsBlocked setup entries other)
@@ -199,7 +199,7 @@ module _ (setup : Setup) (entries : List Entry) (old new : Pools) (from flow : �
           by (inl is) = subst (IsCovered setup entries new from) is (own (subst (IsLive setup entries) (sym is) live))
           by (inr apart) = others stay (λ k m o parked fresh. absurd (stale k m fresh)) other apart live
 
-  -- one that is blocked, and stands in a line
+  -- one that is blocked, and is in a line
   pub without_standing : new.readers ≡ old.readers → new.writers ≡ old.writers → IsInLine setup entries flow
       → Covers setup entries new from
   without_standing readers writers line = without-own readers writers (λ live. inr (inl line))

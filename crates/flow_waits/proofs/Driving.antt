@@ -94,7 +94,7 @@ module _ (setup : Setup) (old new : List Entry) (kept : IsDraining setup old new
     few = draining-growth;
   }
 
--- what the candidates are told behind a move
+-- what the candidates learn after a move
 pub lags : (setup : Setup) (entries after : List Entry) (pools : Pools) (from : ℕ) (flow : FlowNo)
     → Covers setup entries pools from → IsReady pools flow.0 → Moves setup entries flow after
     → Lags setup after pools from

@@ -21,7 +21,7 @@ before-then from a b c (inr (lt, below)) (inr (less, low)) = inr (omega (arith, 
 pub before-turned : (from a b : ℕ) → IsBefore from a b → IsBefore from b a → ⊥
 before-turned from a b one other = before-itself from a (before-then from a b a one other)
 
--- behind the first flow, the order of all others stays when it goes on from there
+-- after the first flow, the order of all others stays when it goes on from there
 pub before-later : (from first a b : ℕ) → IsBefore from first a → IsBefore from a b → IsBefore (first + 1) a b
 before-later from first a b (inl (le, inl lt)) (inl (more, inl less)) = inl (omega (arith, lt), inl less)
 before-later from first a b (inl (le, inl lt)) (inl (more, inr less)) =

@@ -39,7 +39,7 @@ each-more Is entries flow event each own before after f e stands =
         let whole = end.whole in
         rw (← flow_is, ← event_is, ← whole) own
 
--- one list behind another
+-- one list after another
 pub each-append : (Is : List Entry → FlowNo → Event → Type 0) (front entries : List Entry) → EachStands Is front
     → EachStands (λ before. Is (front ++ before)) entries → EachStands Is (front ++ entries)
 each-append Is front [] each own = rw (append-nil front) each

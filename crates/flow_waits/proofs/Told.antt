@@ -1,4 +1,4 @@
--- Candidates that are told of one entry more cover all flows again.
+-- Candidates that learn of one entry more cover all flows again.
 use Rattle.std.proofs.Common.{◌≡◌, ◌≢◌, ◌-◌, ◌⊎◌, inl, inr, ℕ, suc, List, [], ◌∷◌, ◌++◌, length, Some, refl, sym, ap, subst, ◌∙◌, arith}
 use Rattle.std.specs.List.{slice_get}
 use Rattle.flux_values.specs.declared.answers.Mode.{Mode}
@@ -71,7 +71,7 @@ module _ (setup : Setup) (entries : List Entry) (legal : IsLegal setup entries) 
       (parked-fresh setup lags.before lags.flow lags.event split pools lags.was from covers lags.ready lags.later key
       mode flow parked)
 
-  -- the flow of a wait stands in a line then, and is blocked
+  -- the flow of a wait is in a line then, and is blocked
   pub waiting : (key : Key) (mode : Mode) → lags.event ≡ Wait key mode → IsInLine setup entries lags.flow.0
   waiting key mode waits = subst (λ es. IsInLine setup es lags.flow.0)
       (ap (λ event. lags.before ++ record { flow = lags.flow; event = event } ∷ []) (sym waits) ∙ sym lags.added)

@@ -1,4 +1,4 @@
--- What one entry more leaves of candidates.
+-- What is so of candidates after one entry more.
 use Rattle.std.proofs.Common.{◌≡◌, ◌≢◌, ◌⊎◌, inl, inr, ℕ, List, [], ◌∷◌, ◌++◌, sym, ap, subst, ◌∙◌}
 use Rattle.std.proofs.lemmas.Bool.{cases_eq}
 use Rattle.flux_values.specs.declared.answers.Mode.{Mode}
@@ -23,7 +23,7 @@ use Rattle.flow_waits.specs.steps.Covers.{Pools, IsReady, IsParked, IsBehind, Is
 use Rattle.flow_waits.proofs.Others.{live-back, last-stays, fresh-stays}
 use Rattle.flow_waits.proofs.Blocked.{blocked_stay, fresh_are_alike, nothing-left}
 
--- ---- what an entry leaves
+-- ---- what is so after an entry
 
 -- an event drops a key or not
 drops_or_not : (event : Event) (key : Key) → (event ≡ Drop key) ⊎ (event ≡ Drop key → ⊥)
@@ -36,7 +36,7 @@ drops_or_not (Call made) key = inr (λ e. cc)
 drops_or_not (Exit node outcome) key = inr (λ e. cc)
 drops_or_not (End outcome) key = inr (λ e. cc)
 
--- what is to be looked after behind an entry: who stands in the line of a dropped key or is parked at it, and who is
+-- who has to be looked at after an entry: who is in the line of a dropped key or is parked at it, and who is
 -- parked at the key of a take in its mode
 pub record IsOwed (entries : List Entry) (event : Event) (pools : Pools) (flow : ℕ) : Type 0 where
   pub key : Key

@@ -149,7 +149,7 @@ module _ (setup : Setup) (entries : List Entry) (old new : Pools) (key : Key) (m
               subst (λ f. f < length setup.items) same live.item
           told (inr was) = exist flow was
 
-  -- the other flows that are parked there are behind it
+  -- the other flows that are parked there come after it
   pub woken-owed : AreFresh setup entries old → (flow : ℕ) → IsParked old key mode flow
       → IsCovered setup entries new from flow
   woken-owed fresh flow parked = by wakes.first
@@ -192,7 +192,7 @@ left true c is = refl
 left false c is = absurd cc
 
 module _ (entries : List Entry) (key : Key) where
-  -- who is served stands there
+  -- who is served waits there
   served-stands : (line : List Waiter) (flow : ℕ) → StandInOrder entries key line → has (served_of line) flow ≡ true
       → (mode : Mode) × (place : ℕ) × StandsAt entries flow key mode place
   served-stands [] flow order is = absurd cc
@@ -215,7 +215,7 @@ module _ (entries : List Entry) (key : Key) where
       )
       by (inr there) more = more (rest (is_writer waiter.mode) there)
 
-  -- who stands there is served, or stands behind a writer
+  -- who waits there is served, or waits after a writer
   record IsBehindWriter (place : ℕ) : Type 0 where
     writer : ℕ
     earlier : ℕ

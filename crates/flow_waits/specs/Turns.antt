@@ -24,7 +24,7 @@ IsPassing (Exit node outcome) = ⊤
 IsPassing (Drop key) = ⊤
 IsPassing (End outcome) = ⊤
 
--- what a flow makes of its turn: nothing, where it has ended or stands in a line; and else its next move
+-- what a flow makes of its turn: nothing, where it has ended or is in a line; and else its next move
 abbrev pub TakesTurn : Setup → List Entry → FlowNo → List Entry → Turn → Type 0
 TakesTurn setup before flow after Ended = (IsLive setup before flow.0 → ⊥) × (after ≡ before)
 TakesTurn setup before flow after InLine = IsInLine setup before flow.0 × (after ≡ before)

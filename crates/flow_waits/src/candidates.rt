@@ -1,8 +1,8 @@
 //! Candidates: the flows that are looked at for one that can go on.
 //!
-//! Flows that are found blocked are no longer looked at, until an entry may have freed them. Those that stand in a
+//! Flows that are found blocked are no longer looked at, until an entry may have freed them. Those that are in a
 //! line are found there; of those that don't, the first at a key in a mode is enough, since they are blocked alike.
-//! So what is done behind each entry doesn't grow with the number of flows.
+//! So what is done after each entry doesn't grow with the number of flows.
 
 ghost use Rattle.std.specs.Prelude.{◌≡◌, ℕ, ◌||◌, List, IfOk, OnOk, MatchOption};
 ghost use Rattle.flow_model.specs.Events.{IsLive};
@@ -97,7 +97,7 @@ impl Candidates {
         self.follow(core, from)
     }
 
-    /// Looks at the flows that the last entry may have freed, and no longer at the flow of a wait. Others may stand beside
+    /// Looks at the flows that the last entry may have freed, and no longer at the flow of a wait. Others may be beside
     /// them.
     fn follow<L: Library>(&mut self, core: &Core<L>, from: u32) -> Result<(), Memory>
         ensures covers { (aside : List ℕ)
@@ -126,7 +126,7 @@ impl Candidates {
         }
     }
 
-    /// No longer looks at a flow that stands in a line.
+    /// No longer looks at a flow that is in a line.
     fn pass_over(&mut self, flow: u32)
         ensures { FallsAsleep self.old self.new flow }
     {

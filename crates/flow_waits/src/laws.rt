@@ -8,12 +8,12 @@ pub fn blocked_stay()
     ensures { BlockedStay }
 {}
 
-/// A flow that stands at a key behind a writer is blocked.
+/// A flow that waits at a key after a writer is blocked.
 pub fn writers_block()
     ensures { WritersBlock }
 {}
 
-/// Flows at one take that stand in no line are blocked alike.
+/// Flows at one take that are in no line are blocked alike.
 pub fn fresh_are_alike()
     ensures { FreshAreAlike }
 {}

@@ -16,7 +16,7 @@ use flux_values::Memory;
 pub enum Turn {
     /// Nothing: it has had its `end`.
     Ended,
-    /// Nothing: it stands in the line of the key that it would take.
+    /// Nothing: it is in the line of the key that it would take.
     InLine,
     /// The wait at its take.
     Waited,

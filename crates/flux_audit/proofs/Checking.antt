@@ -143,7 +143,7 @@ module _ (setup : Setup) (before : List Entry) (flow : FlowNo) where
         by rules.Wait lt = absurd (omega (arith, lt))
         by rules.Short lt = absurd (omega (arith, lt))
 
-    -- a take that no flow holds and none stands ahead of may be made
+    -- a take of a key that no flow holds against it, and before which none waits, may be made
     pub may_take : (key : Key) (mode : Mode) → IsNext setup before flow.0 (events.Take key mode)
         → ((other : ℕ) → IsHeldBy before other flow.0 key mode → ⊥)
         → ((other : ℕ) → IsAhead before other flow.0 key mode → ⊥) → MayMake setup before flow
@@ -318,7 +318,7 @@ module _ (setup : Setup) (named : IsNamed setup.program) (before : List Entry) (
 
 -- ---- what the state's calls tell
 
--- the lowest of flows, where one is told
+-- the lowest of flows, where there is one
 pub lowest_some : (Is : ℕ → Type 0) (told : Option FlowNo) → IsLowestOf Is told → true ≡ is_some told
     → (other : ℕ) × Is other
 lowest_some Is None lowest some = absurd cc

@@ -99,7 +99,7 @@ keeping_moves setup before flow (Exit node outcome) keeps =
 keeping_moves setup before flow (Drop key) keeps = step_by setup before flow (Drop key) (keeps rules.Path) keeps
 keeping_moves setup before flow (End outcome) keeps = step_by setup before flow (End outcome) (keeps rules.Path) keeps
 
--- behind entries that keep the rules a journal goes on legally
+-- after entries that keep the rules a journal goes on legally
 pub goes_on : (setup : Setup) (before after : List Entry) → IsLegal setup before
     → EachKeeps setup (before ++ after) → IsLegal setup (before ++ after)
 goes_on setup before [] legal keeps = subst (IsLegal setup) (sym (append-nil before)) legal

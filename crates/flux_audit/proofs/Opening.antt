@@ -26,7 +26,7 @@ module _ (text first : List ℕ) (rest : List (List ℕ)) (flows : ℕ) (headed 
   fits_head h = subst (λ (t : Bool). FitsHead t flows (lines_of text)) (sym headed)
       (subst (λ (ls : List (List ℕ)). FitsHead true flows ls) (sym lines) (ap Some h.is))
 
-  -- a head line's numbers are those that are told
+  -- a head line's numbers are those that it gives
   pub told_other : (head : Head) (events : ℕ) → ((f e : ℕ) → IsHeadLine first f e → Some head ≡ Some (record { flows = f; events = e }))
       → events ≡ length rest → false ≡ (eqb head.flows flows && eqb head.events events) → HasHeadFor flows text → ⊥
   told_other head events once count differ fits =

@@ -13,7 +13,7 @@ use Rattle.flux_audit.specs.declared.verdicts.Verdict.{Verdict}
 use Rattle.flux_audit.specs.Rules.{Keeps}
 use Rattle.flux_audit.specs.Verdicts.{HasVerdict}
 
--- each entry keeps all rules behind those before it
+-- each entry keeps all rules after those before it
 abbrev pub EachKeeps : Setup → List Entry → Type 0
 EachKeeps setup entries = (before after : List Entry) (flow : FlowNo) (event : Event)
     → Stands entries before flow event after → (rule : Rule) → Keeps setup before flow event rule

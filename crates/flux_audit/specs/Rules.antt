@@ -1,4 +1,4 @@
--- The rules of entries: what keeps each of them behind the entries before it, and what breaks it.
+-- The rules of entries: what keeps each of them after the entries before it, and what breaks it.
 use Rattle.std.specs.Prelude.{◌≡◌, ◌≢◌, ◌<◌, ℕ, true, List, length, ⊤}
 use Rattle.std.specs.List.{slice_get}
 use Rattle.flux_model.specs.declared.items.FlowNo.{FlowNo}
@@ -51,7 +51,7 @@ IsHeld before flow (Exit node outcome) = ⊥
 IsHeld before flow (Drop key) = ⊥
 IsHeld before flow (End outcome) = ⊥
 
--- turn: the flow of a take doesn't hold the key, and another flow stands at it in conflict, ahead of the flow or with
+-- turn: the flow of a take doesn't hold the key, and another flow waits at it in conflict, ahead of the flow or with
 -- the flow not there
 abbrev pub IsOutOfTurn : List Entry → FlowNo → Event → Type 0
 IsOutOfTurn before flow (Take key mode) = (HoldsKey before flow.0 key → ⊥)

@@ -39,13 +39,13 @@ pub record IsTrueText (setup : Setup) (text : List ℕ) (journal : Journal) : Ty
 
 -- ---- lines that break a rule
 
--- a line spells an entry that breaks a rule behind the entries before it
+-- a line spells an entry that breaks a rule after the entries before it
 pub record SpellsBroken (setup : Setup) (before : List Entry) (line : List ℕ) (rule : Rule) : Type 0 where
   pub entry : Entry
   pub spells : IsEntryLine setup.program line entry
   pub breaks : Breaks setup before entry.flow entry.event rule
 
--- a line breaks a rule behind the entries before it: it spells no entry, or one that breaks it
+-- a line breaks a rule after the entries before it: it spells no entry, or one that breaks it
 abbrev pub LineBreaks : Setup → List Entry → List ℕ → Rule → Type 0
 LineBreaks setup before line rules.Text = (entry : Entry) → IsEntryLine setup.program line entry → ⊥
 LineBreaks setup before line rules.Head = ⊥
@@ -62,7 +62,7 @@ pub record LacksHead (setup : Setup) (text : List ℕ) (number : ℕ) : Type 0 w
   pub first : number ≡ 1
   pub other : HasHeadFor (length setup.items) text → ⊥
 
--- a line of this number, counted from 1 and from the head, breaks a rule behind the lines before it
+-- a line of this number, counted from 1 and from the head, breaks a rule after the lines before it
 pub record HasBroken (setup : Setup) (text : List ℕ) (number : ℕ) (rule : Rule) : Type 0 where
   pub before : List (List ℕ)
   pub line : List ℕ

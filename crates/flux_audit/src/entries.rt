@@ -1,4 +1,4 @@
-//! One line, behind the entries that a state has made.
+//! One line, after the entries that a state has made.
 
 ghost use Rattle.std.specs.Prelude.{◌≡◌, ◌<◌, Some, IfOk, length};
 ghost use Rattle.flow_model.specs.declared.journals.Event.{Event};

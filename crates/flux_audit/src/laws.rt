@@ -2,7 +2,7 @@
 
 ghost use Rattle.flux_audit.specs.Laws.{RulesMakeLegal, LegalKeepsRules, EndsMakeWhole, WholeHasEnds, OneVerdict};
 
-/// A journal is legal exactly where each of its entries keeps all rules behind those before it, and then it is whole
+/// A journal is legal exactly where each of its entries keeps all rules after those before it, and then it is whole
 /// exactly where no flow is live.
 pub fn rules_are_legal()
     ensures make { RulesMakeLegal }

@@ -25,7 +25,7 @@ fn rule_name(rule: Rule) -> &'static [u8]
     }
 }
 
-/// Adds the line of a yes at the end. After an `Err` a part of it may stand there.
+/// Adds the line of a yes at the end. After an `Err` a part of it may be there.
 fn append_yes(alloc: Global, out: &mut Bytes, events: u64) -> Result<(), Memory>
     ensures { OnOk result (out.new ≡ out.old ++ printed_verdict (Yes events)) }
 {
@@ -34,7 +34,7 @@ fn append_yes(alloc: Global, out: &mut Bytes, events: u64) -> Result<(), Memory>
     out.append(b" events\n")
 }
 
-/// Adds the name of a rule and a line end. After an `Err` a part of it may stand there.
+/// Adds the name of a rule and a line end. After an `Err` a part of it may be there.
 fn append_rule(out: &mut Bytes, rule: Rule) -> Result<(), Memory>
     ensures { OnOk result (out.new ≡ out.old ++ rule_name rule ++ codes "\n") }
 {
@@ -42,7 +42,7 @@ fn append_rule(out: &mut Bytes, rule: Rule) -> Result<(), Memory>
     out.append(b"\n")
 }
 
-/// Adds the line of a no at the end. After an `Err` a part of it may stand there.
+/// Adds the line of a no at the end. After an `Err` a part of it may be there.
 fn append_no(alloc: Global, out: &mut Bytes, line: u64, rule: Rule) -> Result<(), Memory>
     ensures { OnOk result (out.new ≡ out.old ++ printed_verdict (No line rule)) }
 {

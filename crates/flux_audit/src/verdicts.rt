@@ -19,7 +19,7 @@ pub enum Rule {
     Turn,
     /// A flow that waits is blocked.
     Wait,
-    /// Each flow comes to its end.
+    /// Each flow reaches its end.
     Short,
 }
 

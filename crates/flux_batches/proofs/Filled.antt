@@ -9,7 +9,7 @@ use Rattle.flux_doors.specs.declared.framing.Framing.{Framing}
 use Rattle.flux_doors.specs.Texts.{ends, least_front, has_front, trimmed, limit_of, text_of}
 use Rattle.flux_doors.proofs.Fronts.{text-found, text-full, text-all}
 
--- a front, and a part that was read behind it
+-- a front, and a part that was read after it
 pub filled-is : (buffer part rest : List ℕ) (filled count : ℕ) → filled ≤ length buffer → count ≤ length part → take (filled + count) (take filled buffer ++ (part ++ rest)) ≡ take filled buffer ++ take count part
 filled-is buffer part rest filled count has fits =
     let size : length (take filled buffer) ≡ filled = length-take-le filled buffer has in

@@ -6,7 +6,7 @@ use Rattle.flux_outside.specs.Causes.{Rose}
 use Rattle.flux_doors.specs.Doors.{waiting, first_link, behind_first}
 use Rattle.flux_batches.specs.Gathered.{AreFirst, AreAll, AreGathered}
 
--- so far these came, where links are told
+-- so far these came, where links are reported
 abbrev pub Come : {L : Type 0} → Option (List (List L)) → Option (List (List L)) → List L → Type 0
 Come None after links = after ≡ None
 Come (Some before) None links = ⊥

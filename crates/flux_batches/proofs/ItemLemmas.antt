@@ -8,7 +8,7 @@ use Rattle.flux_values.specs.declared.values.Value.{Value}
 use Rattle.flux_values.specs.declared.values.Value.TheVariants as values
 use Rattle.flux_model.specs.Items.{AreValues}
 
--- a number and a text, one added behind the other
+-- a number and a text, one added after the other
 pub values-fit : (number : ℤ) (bytes text : List ℕ) (one both : List Value) → FitsSigned w64 number → ((i : ℕ) → Fits w8 (get_or bytes i 0)) → length bytes ≤ TEXT_LIMIT → text ≡ bytes
     → one ≡ values.Int number ∷ [] → both ≡ one ++ values.Text text ∷ [] → AreValues (kinds.Int ∷ kinds.Text ∷ []) both
 values-fit number bytes text one both fits small short same first second =

@@ -17,7 +17,7 @@ flow-next flow [] place none below = absurd (omega (arith, below))
 flow-next flow (request ∷ rest) zero none below = flow-first (flow_behind flow request.sent) rest
 flow-next flow (request ∷ rest) (suc place) none below = flow-next (flow_behind flow request.sent) rest place none (omega (arith, below))
 
--- the flow of the place behind one
+-- the flow of the place after one
 pub flow-behind : {K : Type 0} → (requests : List (ReadLink K)) (place : ℕ) (request : ReadLink K) → place < length requests
     → flow_at 0 requests (place + 1) ≡ flow_behind (flow_at 0 requests place) (slice_index_or requests place request).sent
 flow-behind requests place request below =

@@ -14,7 +14,7 @@ use Rattle.flux_batches.specs.declared.reading.ReadLink.{ReadLink}
 use Rattle.flux_doors.specs.Texts.{limit_of, text_of}
 
 -- what is seen of a link: all that its client sends, the bytes left to read and all bytes written,
--- where they are told, and its count of faults
+-- where they are reported, and its count of faults
 pub record Seen : Type 0 where
   pub had : Option (List ℕ)
   pub left : Option (List ℕ)

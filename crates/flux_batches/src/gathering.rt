@@ -25,7 +25,7 @@ pub enum NoBatch {
     Memory,
 }
 
-/// The links of the next batch: waits for the first, and takes those that stand ready with it.
+/// The links of the next batch: waits for the first, and takes those that are ready with it.
 pub fn gather<D: Door>(alloc: Global, door: &mut D) -> Result<VecDeque<D::Link>, NoBatch>
     requires { D.out door.old ≡ 0 }
     ensures links { IfOk result (λ links. AreGathered (D.to_come door.old) (D.to_come door.new)

@@ -6,7 +6,7 @@ ghost use Rattle.flux_batches.specs.steps.Answering.{flow_at};
 use crate::gathering::LINK_LIMIT;
 use crate::reading::{ReadLink, Sent};
 
-/// The flow of the next link with an item, behind the one at a place.
+/// The flow of the next link with an item, after the one at a place.
 fn next_flow<K>(links: &[ReadLink<K>], place: usize, flow: u32) -> u32
     requires within { place < length links.now }
     requires few { flow < LINK_LIMIT }
@@ -21,7 +21,7 @@ fn next_flow<K>(links: &[ReadLink<K>], place: usize, flow: u32) -> u32
 }
 
 /// The flow of the link at each place: the links with items have those from 0 on, in order. That of a link without one is of no
-/// use, and so are those behind the last link.
+/// use, and so are those after the last link.
 pub fn flows_of<K>(links: &[ReadLink<K>]) -> [u32; LINK_LIMIT]
     requires { length links.now ≤ LINK_LIMIT }
     ensures count { length result ≡ LINK_LIMIT }

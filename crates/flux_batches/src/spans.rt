@@ -1,4 +1,4 @@
-//! Where the emissions of flows stand in a journal: so that a reply is written without looking at all entries of a batch.
+//! Where the emissions of flows are in a journal: so that a reply is written without looking at all entries of a batch.
 
 ghost use Rattle.std.specs.Prelude.{◌≡◌, ◌^◌, ◌<◌, nat_eq, if◌then◌else◌, List, [], ◌∷◌, ◌++◌, length};
 ghost use Rattle.flux_batches.specs.Replies.{emitted, reply_of};
@@ -8,7 +8,7 @@ use crate::gathering::LINK_LIMIT;
 use flow_model::{Entry, Event};
 use flux_model::FlowNo;
 
-/// From the first entry of a flow that emits something to behind the last one.
+/// From the first entry of a flow that emits something to after the last one.
 #[derive(Clone, Copy)]
 pub struct Span {
     pub from: usize,
@@ -16,7 +16,7 @@ pub struct Span {
 }
 
 impl Span {
-    /// With one place more, behind all of its places.
+    /// With one place more, after all of its places.
     fn with(self, place: usize) -> Span
         requires { place < 2 ^ 63 }
         ensures { result ≡ span_with self place }
@@ -42,7 +42,7 @@ pub fn emission_of(entry: &Entry, flow: FlowNo) -> &[u8]
     }
 }
 
-/// Notes an entry, behind as many others.
+/// Notes an entry, after as many others.
 fn note(spans: &mut [Span], place: usize, entry: &Entry)
     requires { place < 2 ^ 63 }
     ensures count { length spans.new ≡ length spans.old }

@@ -2,7 +2,7 @@
 //!
 //! It reads each file of its folder whose name ends in `.cases`, in the order of their names. A case is a command line
 //! with the files, folders and streams that it meets and what has to come of it; `docs/CASES.md` tells how it is
-//! written. A wrong case is told with its file, its line and what differs. The last line counts them.
+//! written. A wrong case is reported with its file, its line and what differs. The last line counts them.
 #![tactic(auto)]
 
 mod outcomes;

@@ -1,4 +1,4 @@
-//! What a command line comes to in a world in memory.
+//! What comes of a command line in a world in memory.
 
 ghost use Rattle.std.specs.Prelude.{◌≡◌};
 

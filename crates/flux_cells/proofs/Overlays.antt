@@ -1,4 +1,4 @@
--- Copies that stand over cells, and what puts do to them.
+-- Copies that lie over cells, and what puts do to them.
 use Rattle.std.proofs.Common.{◌≡◌, ℕ, suc, ◌+◌, ◌<◌, ◌≤◌, Bool, true, false, not, cond, ltb, List, [], ◌∷◌, ◌++◌, length, get_or, set, take, map, Option, Some, None, refl, sym, ap, ◌∙◌, arith, unwrap_or}
 use Rattle.std.specs.List.{position, position_or_len}
 use Rattle.std.specs.Map.{lookup}
@@ -72,7 +72,7 @@ with_puts_more p touched now after puts place d so_far within next =
     next ∙ ap (λ t. with_put p t (get_or puts place d)) so_far ∙ sym (with_puts-append p touched (take place puts) (get_or puts place d ∷ []))
     ∙ ap (with_puts p touched) (sym (take_more puts place d within))
 
--- ---- what stands over the cells
+-- ---- what lies over the cells
 
 keys-with_put : (p : Program) (touched : Touched) (put : Put) → keys_in (with_put p touched put) ≡ keys_in touched
 keys-with_put p [] put = refl

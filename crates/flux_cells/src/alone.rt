@@ -1,4 +1,4 @@
-//! One put alone, on the cell itself. It needs no copies, since a put that a cell refuses leaves that cell as it was.
+//! One put alone, on the cell itself. It needs no copies, since a cell that refuses a put is as it was.
 
 ghost use Rattle.std.specs.Prelude.{◌≡◌, OnOk, OnErr, None, Some};
 ghost use Rattle.flow_model.specs.CellsAfter.{put_under};

@@ -122,7 +122,7 @@ pub fn settle(
     settled
 }
 
-/// Puts the copies in place of the cells, and leaves empty cells under the keys.
+/// Puts the copies in place of the cells, and empty cells under the keys of the copies.
 fn replace(
     alloc: Global,
     cells: &mut BTreeMap<Key, Cell>,

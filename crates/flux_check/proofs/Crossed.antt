@@ -63,7 +63,7 @@ crossed_append seen (own ∷ first) second =
     ap (λ (l : List Word). word ++ l) (crossed_append (and_scope seen own) first second)
     ∙ sym (append_assoc word (crossed_by (and_scope seen own) first) (crossed_by (and_scopes (and_scope seen own) first) second))
 
--- ---- where the row doesn't stand
+-- ---- where the row doesn't apply
 
 no_other : (x : ConstraintOn) (before : List ConstraintOn) (y : ConstraintOn) → list_any (is_other_scope x) before ≡ false → IsAmong y before → is_other_scope x y ≡ false
 no_other x before y none is = one (is_other_scope x y) refl

@@ -1,4 +1,4 @@
--- The first row that stands, of two lists of rows.
+-- The first row that applies, of two lists of rows.
 use Rattle.std.proofs.Common.{◌≡◌, ℕ, List, [], ◌∷◌, ◌++◌, Option, Some, None, refl, sym, ap, ◌∙◌}
 use Rattle.std.specs.Option.{option_or}
 use Rattle.flux_faults.specs.declared.faults.FaultKind.{FaultKind}

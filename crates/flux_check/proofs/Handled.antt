@@ -1,4 +1,4 @@
--- The nodes of all `handle` lines have names, where no row on names stands.
+-- The nodes of all `handle` lines have names, where no row on names applies.
 use Rattle.std.proofs.Common.{◌≡◌, ℕ, List, [], ◌∷◌, ◌++◌, None}
 use Rattle.std.specs.List.{AllByRecursion}
 use Rattle.flux_values.specs.Meanings.{LibraryMeaning}

@@ -68,7 +68,7 @@ nodes_identified : (of : List ℕ → Node) → ((name : List ℕ) → (let node
 nodes_identified of same [] all = tt
 nodes_identified of same (n ∷ names) all = (subst IsIdentifier (sym (same n)) all.0, nodes_identified of same names all.1)
 
--- ---- nodes stand apart
+-- ---- nodes are apart
 
 -- no two nodes of declarations have one name
 pub nodes_apart : (decls : List Decl) → AreNamedApart (nodes_of decls)
@@ -96,7 +96,7 @@ lines_identified text [] stand = tt
 lines_identified text (Atomic node constraints ∷ decls) stand = both_identified constraints (flat_map constraints_of decls) (constraints_identified constraints text stand.0.0.1) (lines_identified text decls stand.1)
 lines_identified text (other ∷ decls) stand = lines_identified text decls stand.1
 
--- classes in canonical order stand apart
+-- classes in canonical order are apart
 pub classes_apart : (classes : List Class) → AreCanonical classes → AreClassesApart classes
 classes_apart classes canonical a b first second at_first at_second named scoped = one (ltb a b) refl (ltb b a) refl
   where

@@ -75,7 +75,7 @@ module _ (meaning : LibraryMeaning) (all : List Decl) where
     cases_typed number name at false = all_typed (S number) (filter_map (case_of names (texts_of defined all) name) all)
         (cases_joined meaning all number name at all (typed_decls meaning all (no_types meaning all joined).0))
 
-    -- where no row up to 26 stands, types agree
+    -- where no row up to 26 applies, types agree
     pub types_agree : TypesAgree (program_of all) S
     types_agree = record {
       cases_ = λ number node at.

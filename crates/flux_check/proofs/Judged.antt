@@ -168,7 +168,7 @@ module _ (meaning : LibraryMeaning) (decls : List Decl) where
       earlier a b causes.Memory f = tt
       earlier a b (causes.Static fault) f = (first_fault-before a b (fault.kind, fault.at) f.0, f.1)
 
-      -- rows behind others of which none stands
+      -- rows after others of which none applies
       behind : (a b : List Row) (fault : CheckFault) → first_fault a ≡ None → IsLeastFault (first_fault b) fault → IsLeastFault (first_fault (a ++ b)) fault
       behind a b fault none f = subst (λ (x : Option (FaultKind × ℕ)). IsLeastFault x fault) (sym (first_fault-behind a b none)) f
 

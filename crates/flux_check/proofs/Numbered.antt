@@ -86,7 +86,7 @@ all_at P [] k x at all = absurd cc
 all_at P (y ∷ xs) zero x at all = let same : y ≡ x = cc in subst P same all.0
 all_at P (y ∷ xs) (suc k) x at all = all_at P xs k x at all.1
 
--- the element behind one of a mapped list
+-- the element after one of a mapped list
 pub record IsImage {X Y : Type 0} (f : X → Y) (xs : List X) (k : ℕ) (y : Y) : Type 0 where
   pub from : X
   pub at : slice_get xs k ≡ Some from

@@ -1,4 +1,4 @@
--- Faults of declarations stand at places of their words.
+-- Faults of declarations are at places of their words.
 use Rattle.std.proofs.Common.{◌≡◌, ◌≤◌, ◌+◌, ℕ, zero, suc, min, inl, inr, Bool, true, false, not, nat_lt, if◌then◌else◌, List, [], ◌∷◌, ◌++◌, length, map, filter, drop, Option, Some, None, refl, ap, ◌∙◌, arith}
 use Rattle.std.specs.List.{list_any, flat_map, filter_map, AllByRecursion}
 use Rattle.flux_check.proofs.Numbered.{all_at}

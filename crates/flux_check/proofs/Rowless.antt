@@ -1,4 +1,4 @@
--- Declarations at which none of the rows up to 26 stands: what that says of each of them.
+-- Declarations at which none of the rows up to 26 applies: what that says of each of them.
 use Rattle.std.proofs.Common.{◌≡◌, Bool, true, false, List, [], ◌∷◌, ◌++◌, None, refl}
 use Rattle.std.specs.List.{flat_map, AllByRecursion}
 use Rattle.flux_syntax.proofs.RowLemmas.{none_either, wordless, none_of_both}
@@ -16,12 +16,12 @@ use Rattle.flux_check.specs.Judgement.{AreJoined}
 
 -- ---- of each declaration
 
--- a word that stands where something holds
+-- a word that is there where something holds
 pub no_word : (t : Bool) (name : Word) → word_if t name ≡ [] → t ≡ false
 no_word true name e = absurd cc
 no_word false name e = refl
 
--- no row on names, handlers or cells stands at a declaration, among all
+-- no row on names, handlers or cells applies at a declaration, among all
 pub record IsClean (meaning : LibraryMeaning) (all : List Decl) (d : Decl) : Type 0 where
   pub named : not_among (names_of all) (used_names d) ≡ []
   pub present : not_in meaning d ≡ []
@@ -59,7 +59,7 @@ module _ (meaning : LibraryMeaning) (all : List Decl) where
         clean_each decls (record { named = named.1; present = present.1; like = like.1; origins = origins.1; plain = plain.1; handlers = handlers.1; protected = protected.1 }),
       )
 
--- no row stands at any of joined declarations
+-- no row applies at any of joined declarations
 pub all_clean : (meaning : LibraryMeaning) (decls : List Decl) → AreJoined meaning decls → AllByRecursion (IsClean meaning decls) decls
 all_clean meaning decls joined =
     let named = wordless (rows meaning decls) joined.ordered.named in

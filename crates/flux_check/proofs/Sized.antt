@@ -1,4 +1,4 @@
--- Fault 27 along the program is that of the declarations, and where it doesn't stand the sizes are those of the program.
+-- Fault 27 along the program is that of the declarations, and without it the sizes are those of the program.
 use Rattle.std.proofs.Common.{◌≡◌, ◌≤◌, ◌+◌, ℕ, Bool, true, false, nat_lt, if◌then◌else◌, List, [], ◌∷◌, ◌++◌, map, Option, None, refl, sym, ap, ◌∙◌, arith}
 use Rattle.std.specs.List.{filter_map}
 use Rattle.std.proofs.lemmas.Bool.Decides.{nat_tests}

@@ -1,4 +1,4 @@
--- The program of declarations at which no row up to 26 stands is sound for the library.
+-- The program of declarations at which no row up to 26 applies is sound for the library.
 use Rattle.std.proofs.Common.{◌≡◌, ℕ, inl, inr, ◌⊎◌, Bool, true, false, not, if◌then◌else◌, List, [], ◌∷◌, ◌++◌, map, Option, Some, None, IfSome, refl, sym, ap, subst, ◌∙◌, arith}
 use Rattle.std.specs.Bool.{beq}
 use Rattle.std.specs.List.{slice_get, list_any, list_all, filter_map, flat_map, AllByRecursion, Contains}
@@ -280,7 +280,7 @@ module _ (meaning : LibraryMeaning) (all : List Decl) (order : List NodeNo) (is_
     session = served;
   }
 
--- the program of declarations at which no row up to 26 stands is sound for the library, with its nodes' kinds
+-- the program of declarations at which no row up to 26 applies is sound for the library, with its nodes' kinds
 pub sound : (meaning : LibraryMeaning) (decls : List Decl) (order : List NodeNo) (sigs : List NodeSig) → IsNumbered (program_of decls) → IsOrder (nodes_of decls) order → AreSigs meaning.kind decls sigs → AreJoined meaning decls
     → (let p = program_of decls in AllByRecursion (HasSession p) p.sources) → IsSound meaning (program_of decls) (kinds_at sigs)
 sound meaning decls order sigs numbered is_order are joined served =

@@ -28,7 +28,7 @@ use Rattle.flux_check.specs.Rows.{later_rows, size_rows}
 
 -- ---- sound declarations
 
--- no row on names stands, and there is no cycle
+-- no row on names applies, and there is no cycle
 pub record AreOrdered (meaning : LibraryMeaning) (decls : List Decl) : Type 0 where
   pub named : first_fault (rows meaning decls) ≡ None
   pub acyclic : HasCycle (nodes_of decls) → ⊥
@@ -47,7 +47,7 @@ pub record AreSound (meaning : LibraryMeaning) (decls : List Decl) : Type 0 wher
 
 -- ---- the fault of declarations: of the first group that has one
 
--- the row that stands with the least number, at its least place
+-- the row that applies with the least number, at its least place
 pub record IsFirst (rows : List Row) (fault : StaticFault) : Type 0 where
   pub is : first_fault rows ≡ Some (fault.kind, fault.at)
   pub path : fault.path ≡ []
@@ -76,7 +76,7 @@ pub record IsSizeFault (meaning : LibraryMeaning) (decls : List Decl) (fault : S
   pub are_locks : AreLocks (program_of decls) locks
   pub first : IsFirst (size_rows locks decls) fault
 
--- 5 to 14, and 28 where none of these stands; and those
+-- 5 to 14, and 28 where none of these applies; and those
 abbrev pub IsDeclsFault : LibraryMeaning → List Decl → StaticFault → Type 0
 IsDeclsFault meaning decls fault =
     IsFirst (rows meaning decls) fault

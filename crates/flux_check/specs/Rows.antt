@@ -1,4 +1,4 @@
--- The faults 24, 25 and 27: for each its row, the words at which it stands; and the rows that are looked for in programs
+-- The faults 24, 25 and 27: for each its row, the words at which it applies; and the rows that are looked for in programs
 -- without a cycle.
 use Rattle.std.specs.Prelude.{ℕ, ◌+◌, ◌&&◌, nat_lt, not, Bool, true, false, if◌then◌else◌, List, [], ◌∷◌, ◌++◌, map, Option, Some, None}
 use Rattle.std.specs.Bool.{beq}

@@ -26,7 +26,7 @@ pub none_listed : (value : Option (Bor (List ℕ))) → false ≡ is_some value 
 none_listed None e = refl
 none_listed (Some x) e = absurd cc
 
--- where no command of a name stands on words, none asks for threads
+-- where the words are no command of a name, none asks for threads
 pub nothing_asks : (name : CommandName) (words : List (List ℕ)) → Nothing name words → IsTrue false ↔ AskThreads name words
 nothing_asks name words none = not_so (AskThreads name words) (λ asks. none asks.command asks.is)
 
@@ -113,7 +113,7 @@ serve_asks words r told = (
     by (serve f s) c = (f, s, c.behind)
     by other c = let e = c.is in absurd cc
 
--- words need threads where those behind their name ask for them
+-- words need threads where those after their name ask for them
 pub needs_behind : (words : List (List ℕ)) (first word : List ℕ) (name : CommandName) (r : Bool) → 1 ≤ length words → first ≡ get_or words 0 first → first ≡ word → IsNamed name word
     → IsTrue r ↔ AskThreads name (take (length words - 1) (drop 1 words)) → IsTrue r ↔ ((command : Command) × Spells words command × NeedsThreads command)
 needs_behind words first word name r some is same named told =

@@ -42,7 +42,7 @@ pub none_given : (value : Option (Bor (List ℕ))) (r : Bool) → r ≡ is_some 
 none_given None r same is = refl
 none_given (Some x) r same is = let e : true ≡ false = sym same ∙ is in absurd cc
 
--- ---- words that no command of a name stands on
+-- ---- words that are no command of a name
 
 abbrev pub Nothing : CommandName → List (List ℕ) → Type 0
 Nothing name words = (command : Command) → IsCommand name words command → ⊥
@@ -413,7 +413,7 @@ pub all_asked : (words : List (List ℕ)) (result : Result (Option Asked) Memory
 all_asked words (Ok found) command is spells = one_asked words found command is spells
 all_asked words (Err e) command is spells = tt
 
--- what words spell has their name, and the words behind it
+-- what words spell has their name, and the words after it
 pub behind_name : (words rest : List (List ℕ)) (first : List ℕ) (name : CommandName) (command : Command) → words ≡ first ∷ rest → IsNamed name first → Spells words command → IsCommand name rest command
 behind_name words rest first name command are named spells =
     let both : spells.first ∷ spells.rest ≡ first ∷ rest = sym spells.are ∙ are in
@@ -424,7 +424,7 @@ behind_name words rest first name command are named spells =
       behind = subst (StandsBehind command) same_rest spells.behind;
     }
 
--- a name and the words behind it
+-- a name and the words after it
 pub spelled_whole : (words rest : List (List ℕ)) (first : List ℕ) (name : CommandName) (command : Command) → words ≡ first ∷ rest → IsNamed name first → IsCommand name rest command → Spells words command
 spelled_whole words rest first name command are named is = record { first = first; rest = rest; are = are; named = subst (λ (n : CommandName). IsNamed n first) (sym is.is) named; behind = is.behind }
 
@@ -432,7 +432,7 @@ asked_whole : (words rest : List (List ℕ)) (first : List ℕ) (name : CommandN
 asked_whole words rest first name (Some a) are named is = spelled_whole words rest first name (asked a) are named is
 asked_whole words rest first name None are named none = λ command spells. none command (behind_name words rest first name command are named spells)
 
--- a first word and those behind it
+-- a first word and those after it
 pub first_and_rest : (words : List (List ℕ)) (first : List ℕ) → 1 ≤ length words → first ≡ get_or words 0 first → words ≡ first ∷ take (length words - 1) (drop 1 words)
 first_and_rest [] first some is = absurd (omega arith)
 first_and_rest (v ∷ words) first some is =
@@ -457,7 +457,7 @@ module _ (words : List (List ℕ)) where
   abbrev behind : List (List ℕ)
   behind = take (length words - 1) (drop 1 words)
 
-  -- behind the word `serve`, a file and how it is served are a command that does
+  -- after the word `serve`, a file and how it is served are a command that does
   pub serve_spelled : (first word : List ℕ) → 1 ≤ length words → first ≡ get_or words 0 first → first ≡ word → word ≡ codes "serve"
       → (file : List ℕ) × (serving : Serving) × HasParts behind (FitsServe file serving) → (command : Command) × Spells words command × IsServe command
   serve_spelled first word some is same named (file, serving, has) =

@@ -47,7 +47,7 @@ none_more : (rest : List (List ℕ)) → (rest ≡ [] → ⊥) → ((p : Part) (
 none_more rest some none [] laid = some laid
 none_more rest some none (p ∷ more) laid = none p laid.0 laid.1
 
--- where no part stands at the rest, the words have no parts
+-- where no part begins the rest, the words have no parts
 pub none_there : (words rest : List (List ℕ)) (given : Given) → AreAllSoFar words rest given → (rest ≡ [] → ⊥) → ((p : Part) (next : List (List ℕ)) → Begins p rest next → ⊥) → (all : List Part) → BeginWith all words [] → ⊥
 none_there words rest given sofar some none all laid =
     let on = past sofar.parts all words rest sofar.front laid in

@@ -8,7 +8,7 @@ use Rattle.flux_cli.specs.Parts.{Part, word, option, IsPositional, IsFilled, IsN
 
 -- ---- one part
 
--- the third letter of an option's spelling, and the one behind it, as a number
+-- the third letter of an option's spelling, and the one after it, as a number
 letters : OptionName → ℕ
 letters Runtime = 231
 letters Docs = 211
@@ -116,7 +116,7 @@ pub begin_more : (ps : List Part) (p : Part) (words rest next : List (List ℕ))
 begin_more [] p words rest next front b = (next, subst (λ (w : List (List ℕ)). Begins p w next) (sym front) b, refl)
 begin_more (q ∷ ps) p words rest next front b = (front.0, front.1, begin_more ps p front.0 rest next front.2 b)
 
--- all parts of words go on behind those at the front
+-- all parts of words go on after those at the front
 pub record GoOn (sofar all : List Part) (rest : List (List ℕ)) : Type 0 where
   pub more : List Part
   pub are : all ≡ sofar ++ more
@@ -173,7 +173,7 @@ no_begin (v ∷ words) w first some is same none other (option n value) rest b =
   | inr e ↦ none n [] (same ∙ is ∙ same_head v (spelled n) words (value ∷ rest) e.0 ∙ sym (append-nil (spelled n)))
 ]
 
--- where the first word is an option's name alone, and no value stands behind it, no part begins words
+-- where the first word is an option's name alone, and no value comes after it, no part begins words
 pub alone : {R : Type 0} (r : Option R) (words : List (List ℕ)) (w first more : List ℕ) (name : OptionName)
     → 1 ≤ length words → first ≡ get_or words 0 first → w ≡ first → w ≡ spelled name ++ more → length more < 1
     → IfNone r ((value : List ℕ) (rest : List (List ℕ)) → take (length words - 1) (drop 1 words) ≡ value ∷ rest

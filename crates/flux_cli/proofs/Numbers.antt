@@ -20,7 +20,7 @@ use Rattle.flux_cli.specs.steps.Found.{AreSoFar, IsThreadedRead, IsThreaded, IsR
 
 -- ---- one number
 
--- digits behind a number spell no smaller one
+-- digits after a number spell no smaller one
 from_least : (before : ℕ) (digits : List ℕ) → before ≤ number_from before digits
 from_least before [] = omega arith
 from_least before (b ∷ digits) = let more = from_least (10 * before + (b - 48)) digits in omega (arith, more)
@@ -143,7 +143,7 @@ no_numbers list n digits some at none numbers spells = elim spells.laid [
 
 -- ---- values
 
--- what the second letter of a value tells of the runtime, and behind `event` the sixth
+-- what the second letter of a value says of the runtime, and after `event` the sixth
 mark : Runtime → ℕ
 mark Event = 0
 mark (EventWithHelpers helpers) = 61
@@ -174,14 +174,14 @@ same_count m n e = subst
 same_workers : (a b : Workers) → a.count ≡ b.count → a ≡ b
 same_workers a b e = same_count a.count b.count e a.some b.some a.few b.few
 
--- a number that is spelled behind a mark is spelled one way
+-- a number that is spelled after a mark is spelled one way
 same_behind : (before value : List ℕ) (v w : Workers) → ((digits : List ℕ) × (value ≡ before ++ digits) × SpellsNumber 1 WORKER_LIMIT digits v.count)
     → ((digits : List ℕ) × (value ≡ before ++ digits) × SpellsNumber 1 WORKER_LIMIT digits w.count) → v ≡ w
 same_behind before value v w s t =
     let same : s.0 ≡ t.0 = append_cancel_left before s.0 t.0 (sym s.1 ∙ t.1) in
     same_workers v w (one_number 1 WORKER_LIMIT t.0 v.count w.count (subst (λ (l : List ℕ). SpellsNumber 1 WORKER_LIMIT l v.count) same s.2) t.2)
 
--- digits that spell no number of workers spell none behind a mark
+-- digits that spell no number of workers spell none after a mark
 none_behind : (before value digits : List ℕ) (v : Workers) → value ≡ before ++ digits → ((number : ℕ) → SpellsNumber 1 WORKER_LIMIT digits number → ⊥)
     → ((own : List ℕ) × (value ≡ before ++ own) × SpellsNumber 1 WORKER_LIMIT own v.count) → ⊥
 none_behind before value digits v is none s =
@@ -228,7 +228,7 @@ no_threads value other no_pool no_event (Script numbers) s t = t
 no_threads value other no_pool no_event PerFlow s t = other s
 no_threads value other no_pool no_event (Pool workers) s t = no_pool s.0 s.1
 
--- and none where no number of workers stands behind `pool=`
+-- and none where no number of workers comes after `pool=`
 pub no_workers : (value digits : List ℕ) → value ≡ codes "pool=" ++ digits
     → ((number : ℕ) → SpellsNumber 1 WORKER_LIMIT digits number → ⊥) → (runtime : Runtime) → SpellsRuntime value runtime → StartsThreads runtime → ⊥
 unfolding mark telling
@@ -240,7 +240,7 @@ no_workers value digits is none PerFlow s t =
 no_workers value digits is none (EventWithHelpers helpers) s t =
     let e : 61 ≡ 111 = sym (marked value (EventWithHelpers helpers) s) ∙ ap (λ (l : List ℕ). telling l) is in omega (arith, e)
 
--- or behind `event=`
+-- or after `event=`
 pub no_helpers : (value digits : List ℕ) → value ≡ codes "event=" ++ digits
     → ((number : ℕ) → SpellsNumber 1 WORKER_LIMIT digits number → ⊥) → (runtime : Runtime) → SpellsRuntime value runtime → StartsThreads runtime → ⊥
 unfolding mark telling
@@ -292,12 +292,12 @@ script_numbers value list is (Script numbers) s =
 script_numbers value list is PerFlow s = let e = only_script value list PerFlow is s in absurd (omega (arith, e))
 script_numbers value list is (Pool workers) s = let e = only_script value list (Pool workers) is s in absurd (omega (arith, e))
 
--- a list that is told to spell numbers, or none, spells a runtime, or none
+-- a list for which the answer is that it spells numbers, or none, spells a runtime, or none
 pub script_given : (value list : List ℕ) → value ≡ codes "script=" ++ list → (told : Bool)
     → (IsTrue told ↔ ((numbers : List FlowNo) × SpellsNumbers list numbers)) → IsTrue told ↔ ((runtime : Runtime) × SpellsRuntime value runtime)
 script_given value list is told both = (λ yes. let found = both.0 yes in (Script found.0, (list, is, found.1)), λ has. both.1 (script_numbers value list is has.0 has.1))
 
--- a runtime that is read, or none, is told
+-- a runtime that is read, or none, is the answer
 pub runtime_told : (value : List ℕ) (found : Option Runtime) → IsRuntimeRead (value ∷ []) found → IsTrue (is_some found) ↔ ((runtime : Runtime) × IsRuntime (value ∷ []) runtime)
 runtime_told value (Some runtime) is = ((λ yes. (runtime, is)), (λ has. refl))
 runtime_told value None none = ((λ e. absurd cc), (λ has. absurd (none has.0 has.1)))

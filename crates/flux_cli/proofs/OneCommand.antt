@@ -66,7 +66,7 @@ by_letters a b e = absurd (omega (arith, e))
 pub one_name : (a b : CommandName) (word : List ℕ) → IsNamed a word → IsNamed b word → a ≡ b
 one_name a b word is also = by_letters a b (sym (told a word is) ∙ told b word also)
 
--- ---- what stands behind it
+-- ---- what follows it
 
 one_file : (words : List (List ℕ)) (f g : List ℕ) → IsFile f words → IsFile g words → f ≡ g
 one_file words f g a b = let e : f ∷ [] ≡ g ∷ [] = sym a.0 ∙ b.0 in cc

@@ -1,4 +1,4 @@
--- What stands behind a mark at the front of bytes.
+-- What follows a mark at the front of bytes.
 use Rattle.std.proofs.Common.{◌≡◌, ℕ, List, ◌++◌, Option, Some, None}
 use Rattle.std.specs.Prelude.{MatchOption, IfSome, IfNone}
 use Rattle.std.specs.Borrow.{Bor}

@@ -35,7 +35,7 @@ name_of help = names.Help
 name_of (simulate file items simulating) = names.Simulate
 name_of (swarm file items journal hash docs) = names.Swarm
 
--- these words stand behind its name
+-- these words come after its name
 abbrev pub StandsBehind : Command → List (List ℕ) → Type 0
 StandsBehind (check file) words = IsFile file words
 StandsBehind (plan file) words = IsFile file words

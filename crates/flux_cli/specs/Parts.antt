@@ -1,4 +1,4 @@
--- What stands behind the command's word: positional words, and options with their values.
+-- What follows the command's word: positional words, and options with their values.
 use Rattle.std.specs.Prelude.{◌≡◌, ◌≢◌, ◌⊎◌, ℕ, List, [], ◌∷◌, ◌++◌, codes, ⊤}
 use Rattle.flux_cli.specs.declared.names.OptionName.{OptionName}
 use Rattle.flux_cli.specs.declared.names.OptionName.TheVariants.{Runtime, Docs, Journal, Port, Batches, AtOnce, Processors, Costs}
@@ -33,7 +33,7 @@ pub data Part : Type 0 where
   word : List ℕ → Part
   option : OptionName → List ℕ → Part
 
--- the words begin with a part, and these are left: an option stands as `--name=value` or as
+-- the words begin with a part, and these are left: an option is written as `--name=value` or as
 -- `--name value`
 abbrev pub Begins : Part → List (List ℕ) → List (List ℕ) → Type 0
 Begins (word name) words rest = (words ≡ name ∷ rest) × IsPositional name

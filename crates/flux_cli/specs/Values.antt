@@ -16,7 +16,7 @@ is_comma b = b == 44
 abbrev pub IsDigit : ℕ → Type 0
 IsDigit b = (48 ≤ b) × (b ≤ 57)
 
--- the number that digits spell behind those of another number
+-- the number that digits spell after those of another number
 abbrev pub number_from : ℕ → List ℕ → ℕ
 number_from before [] = before
 number_from before (b ∷ digits) = number_from (10 * before + (b - 48)) digits

@@ -1,4 +1,4 @@
-//! The words behind `audit`.
+//! The words after `audit`.
 
 ghost use Rattle.flux_cli.specs.declared.names.CommandName.TheVariants.{Audit};
 ghost use Rattle.flux_cli.specs.steps.Asking.{IsAskedBehind};

@@ -96,7 +96,7 @@ fn read_file<'a>(words: &'a [Bytes]) -> Option<&'a [u8]>
     }
 }
 
-/// What the words behind a command's name ask for.
+/// What the words after a command's name ask for.
 fn read_behind<'a>(
     alloc: Global,
     name: CommandName,
@@ -133,7 +133,7 @@ fn read_command<'a>(alloc: Global, words: &'a [Bytes]) -> Result<Option<Asked<'a
 
 /// What the words ask for; None exactly where they spell no command.
 ///
-/// The words are those behind the program's own name: `check FILE`, `plan FILE`, `format FILE`,
+/// The words are those after the program's own name: `check FILE`, `plan FILE`, `format FILE`,
 /// `run FILE ITEMS [--runtime R] [--docs DIR] [--journal J]`, `audit FILE ITEMS JOURNAL [--docs DIR]`,
 /// `load N K [--runtime R]`, `serve FILE --port P [--docs DIR] [--batches B] [--runtime R] [--at-once W]` without
 /// both of the last two, `help` or `--help`,

@@ -1,4 +1,4 @@
-//! All that is given behind the command's word.
+//! All that is given after the command's word.
 
 ghost use Rattle.std.specs.Prelude.{◌≡◌, ◌∷◌, ◌++◌, [], List, IfSome, IfNone, IsTrue, IsFalse, length};
 ghost use Rattle.flux_cli.specs.Parts.{Part as AnyPart, BeginWith, option};

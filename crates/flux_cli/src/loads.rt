@@ -1,4 +1,4 @@
-//! The words behind `load`.
+//! The words after `load`.
 
 ghost use Rattle.std.specs.Prelude.{IfOk};
 ghost use Rattle.flux_cli.specs.declared.names.CommandName.TheVariants.{Load};

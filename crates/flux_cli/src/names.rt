@@ -79,7 +79,7 @@ pub fn read_name(word: &[u8]) -> Option<CommandName>
     None
 }
 
-/// What stands behind a mark at the front.
+/// What follows a mark at the front.
 pub fn strip<'a>(mark: &[u8], word: &'a [u8]) -> Option<&'a [u8]>
     ensures found { IfSome result (λ rest. word.now ≡ mark.now ++ rest.now) }
     ensures none { IfNone result ((rest : List ℕ) → word.now ≡ mark.now ++ rest → ⊥) }
@@ -87,7 +87,7 @@ pub fn strip<'a>(mark: &[u8], word: &'a [u8]) -> Option<&'a [u8]>
     word.strip_prefix(mark)
 }
 
-/// The option that a word begins with, and what stands behind its name.
+/// The option that a word begins with, and what follows its name.
 pub fn split_name(word: &[u8]) -> Option<(OptionName, &[u8])>
     ensures found { IfSome result (λ split. word.now ≡ spelled split.0 ++ split.1.now) }
     ensures none { IfNone result ((name : OptionName) (rest : List ℕ)

@@ -24,7 +24,7 @@ fn is_threaded(given: Option<&[u8]>) -> bool
     read_threaded(value).is_some()
 }
 
-/// Whether the words behind `run` do.
+/// Whether the words after `run` do.
 fn run_needs(words: &[Bytes]) -> bool
     ensures { IsTrue result ↔ AskThreads Run words.now }
 {
@@ -46,7 +46,7 @@ fn run_needs(words: &[Bytes]) -> bool
     is_threaded(given.runtime)
 }
 
-/// Whether the words behind `load` do.
+/// Whether the words after `load` do.
 fn load_needs(words: &[Bytes]) -> bool
     ensures { IsTrue result ↔ AskThreads Load words.now }
 {
@@ -74,7 +74,7 @@ fn load_needs(words: &[Bytes]) -> bool
     is_threaded(given.runtime)
 }
 
-/// Whether the words behind a command's name do.
+/// Whether the words after a command's name do.
 fn behind_needs(name: CommandName, words: &[Bytes]) -> bool
     ensures { IsTrue result ↔ AskThreads name words.now }
 {

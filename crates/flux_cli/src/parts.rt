@@ -1,4 +1,4 @@
-//! The parts of the command line behind the command's word.
+//! The parts of the command line after the command's word.
 
 ghost use Rattle.std.specs.Prelude.{◌≡◌, ◌<◌, ◌∷◌, ◌++◌, ◌↔◌, ℕ, List, IsTrue, IfSome, IfNone, length};
 ghost use Rattle.flux_cli.specs.declared.names.OptionName.{OptionName};
@@ -54,7 +54,7 @@ fn take_value<'a>(name: OptionName, behind: &'a [Bytes]) -> Option<(Part<'a>, &'
     }
 }
 
-/// The part at the front, and the words behind it.
+/// The part at the front, and the words after it.
 pub fn take_part<'a>(words: &'a [Bytes]) -> Option<(Part<'a>, &'a [Bytes])>
     ensures found { IfSome result (λ taken. Begins (part_of taken.0) words.now taken.1.now) }
     ensures shorter { IfSome result (λ taken. length taken.1.now < length words.now) }

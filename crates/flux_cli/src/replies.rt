@@ -42,7 +42,7 @@ pub fn read_replying(
     }
 }
 
-/// Whether they say anything, which is told without memory.
+/// Whether they say anything, which is decided without memory.
 pub fn is_replying(runtime: Option<&[u8]>, at_once: Option<&[u8]>) -> bool
     ensures { IsTrue result ↔ ((replying : Replying) × IsReplying (listed runtime.entry) (listed at_once.entry) replying) }
 {

@@ -1,4 +1,4 @@
-//! The words behind `run`.
+//! The words after `run`.
 
 ghost use Rattle.std.specs.Prelude.{IfOk};
 ghost use Rattle.flux_cli.specs.declared.names.CommandName.TheVariants.{Run};

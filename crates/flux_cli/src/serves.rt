@@ -1,4 +1,4 @@
-//! The words behind `serve`.
+//! The words after `serve`.
 
 ghost use Rattle.std.specs.Prelude.{◌↔◌, ℕ, List, IfOk, IsTrue};
 ghost use Rattle.flux_cli.specs.declared.names.CommandName.TheVariants.{Serve};
@@ -68,7 +68,7 @@ pub fn read_serve<'a>(alloc: Global, words: &'a [Bytes]) -> Result<Option<Asked<
     }))
 }
 
-/// Whether they ask for anything, which is told without memory.
+/// Whether they ask for anything, which is decided without memory.
 pub fn is_serve(words: &[Bytes]) -> bool
     ensures { IsTrue result ↔ ((file : List ℕ) × (serving : Serving) × HasParts words.now (FitsServe file serving)) }
 {

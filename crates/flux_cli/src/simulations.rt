@@ -1,4 +1,4 @@
-//! The words behind `simulate`.
+//! The words after `simulate`.
 
 ghost use Rattle.std.specs.Prelude.{IfOk};
 ghost use Rattle.flux_cli.specs.declared.names.CommandName.TheVariants.{Simulate};

@@ -1,4 +1,4 @@
-//! The words behind `swarm`.
+//! The words after `swarm`.
 
 ghost use Rattle.std.specs.Prelude.{IfOk};
 ghost use Rattle.flux_cli.specs.declared.names.CommandName.TheVariants.{Swarm};

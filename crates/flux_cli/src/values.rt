@@ -128,7 +128,7 @@ pub fn read_threaded(value: &[u8]) -> Option<Runtime>
     }
 }
 
-/// Whether numbers stand in a list, which is told without memory.
+/// Whether numbers are in a list, which is decided without memory.
 fn are_numbers(list: &[u8]) -> bool
     ensures { IsTrue result ↔ ((numbers : List FlowNo) × SpellsNumbers list.now numbers) }
 {
@@ -144,7 +144,7 @@ fn are_numbers(list: &[u8]) -> bool
     true
 }
 
-/// Whether a runtime is given, or none has to be, which is told without memory.
+/// Whether a runtime is given, or none has to be, which is decided without memory.
 pub fn is_runtime(given: Option<&[u8]>) -> bool
     ensures { IsTrue result ↔ ((runtime : Runtime) × IsRuntime (listed given.entry) runtime) }
 {

@@ -1,4 +1,4 @@
--- What a command answers behind its documents is what it answers with them.
+-- What a command answers after its documents is what it answers with them.
 use Rattle.std.proofs.Common.{◌≡◌, ◌++◌, ℕ, inl, inr, ◌⊎◌, List, [], Option, Some, None, Result, Ok, Err, IfOk, IfErr, refl, sym, ap, subst, ◌∙◌}
 use Rattle.std.specs.Prelude.{option_to_list}
 use Rattle.std.proofs.lemmas.List.{append-nil}

@@ -1,4 +1,4 @@
--- What the steps of a command give, behind its documents, is what it and its files decide.
+-- What the steps of a command give, after its documents, is what it and its files decide.
 use Rattle.std.proofs.Common.{◌≡◌, ◌<◌, ℕ, zero, suc, inl, inr, List, [], ◌∷◌, ◌++◌, length, Option, Some, Result, Ok, Err, IfErr, refl, sym, ap, subst, ◌∙◌, append_assoc, arith}
 use Rattle.std.specs.List.{AllByRecursion, slice_get}
 use Rattle.std.proofs.lemmas.List.{append-nil}
@@ -240,7 +240,7 @@ module _ (meaning : LibraryMeaning) (told : Files) where
   load_unloaded count first runtime refusal u = unloaded (load count first runtime) (made program_text) (made (items_text count first)) refl (λ text fault is. is) (λ line is. is)
       (λ name missed. let e = missed.is in absurd cc) refusal u
 
-  -- where a refusal stands on items, these are read by rules
+  -- where a refusal rests on items, these are read by rules
   pub unloaded_reads : (program items : Origin) (refusal : Refusal) → IsUnloaded meaning told program items refusal → TellsText told program → StandsOnItems (status_of refusal) → AreRead meaning told program
   unloaded_reads program items (refusals.Items fault) u tells stands = u.1 tells
   unloaded_reads program items (refusals.Missing name) u tells stands = u.1 tells

@@ -57,7 +57,7 @@ known_last (n ∷ names) text = one (bytes_eq text n) (known_last names text)
     one true more = refl
     one false more = more
 
--- a known name stands at its place
+-- a known name is at its place
 place_known : (word : Word) (names : List (List ℕ)) → known names word.text ≡ true → slice_get names (place_of names word) ≡ Some word.text
 place_known word [] e = absurd cc
 place_known word (n ∷ names) e = one (bytes_eq word.text n) refl (place_known word names)
@@ -71,7 +71,7 @@ place_known word (n ∷ names) e = one (bytes_eq word.text n) refl (place_known 
 
 -- ---- the texts of the sources' names
 
--- each is new behind those before it
+-- each is new after those before it
 abbrev AreNew : List (List ℕ) → List (List ℕ) → Type 0
 AreNew before [] = Unit {0}
 AreNew before (text ∷ texts) = (known before text ≡ false) × AreNew (before ++ text ∷ []) texts

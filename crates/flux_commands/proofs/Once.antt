@@ -174,7 +174,7 @@ module _ (meaning : LibraryMeaning) (told : Files) where
   same_program (simulate file items simulating) a b x y = x ∙ sym y
   same_program (swarm file items journal hash docs) a b x y = x ∙ sym y
 
-  -- a file is read, so that files are told
+  -- a file is read, so that files are reported
   some_read : (command : Command) (name : List ℕ) → TellsFiles told command → ReadsProgram command (named name) → IsSome told
   some_read (check file) name tells reads = tells
   some_read (plan file) name tells reads = tells
@@ -187,7 +187,7 @@ module _ (meaning : LibraryMeaning) (told : Files) where
   some_read (simulate file items simulating) name tells reads = tells
   some_read (swarm file items journal hash docs) name tells reads = tells
 
-  -- ---- what lies behind a sound program
+  -- ---- what comes after a sound program
   pub record IsSoundOf (command : Command) : Type 0 where
     pub program : Origin
     pub reads : ReadsProgram command program
@@ -283,7 +283,7 @@ module _ (meaning : LibraryMeaning) (told : Files) where
       | inr late ↦ sound_static said (missed_sound command m.name late) s
     ]
 
-  -- ---- what stands on items: one thing alone
+  -- ---- what rests on items: one thing alone
   pub late_missing : (command : Command) (line : List ℕ) → TellsFiles told command → IsSoundOf command → IsMissing meaning command told line → (name : List ℕ) × (AreItemsLost meaning command told name ⊎ IsJournalLost meaning command told name)
   late_missing command line tells sound m = elim m.lost [
     | inl lost ↦ absurd (sound_lost command tells m.name sound lost)
@@ -414,7 +414,7 @@ module _ (meaning : LibraryMeaning) (told : Files) (command : Command) (tells : 
   items_static : (said line : List ℕ) → IsItems meaning command told said → IsStatic meaning command told line → ⊥
   items_static said line i s = sound_static meaning told command tells line (items_sound meaning told command said i) s
 
-  -- the status that stands on items has its rules
+  -- the status that rests on items has its rules
   reads : (s own : Status) → s ≡ own → IsFirm meaning command told s → IsFirm meaning command told own
   reads s own e firm = subst (IsFirm meaning command told) e firm
 

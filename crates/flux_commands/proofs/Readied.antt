@@ -86,7 +86,7 @@ has_servable meaning told file checked framing ready = record {
   source = subst (λ (p : Program). IsServed meaning p framing) ready.is ready.source;
 }
 
--- ---- what is due, behind the documents
+-- ---- what is due, after the documents
 
 module _ (library : Libraries) (file : List ℕ) (serving : Serving) (files : Files) (folders : Folders) (docs : DocMap) (are : AreDocs folders serving.docs docs) where
   servable_text : {T : Type 0} (result : Result T Refusal) → IfOk result (λ x. HasServable (library docs) files (named file)) → IfOk (as_text result) (IsPrepared (library docs) (serve file serving) files)

@@ -1,4 +1,4 @@
--- What the words ask for: the folder of documents, and the files behind it.
+-- What the words ask for: the folder of documents, and the files after it.
 use Rattle.std.specs.Prelude.{◌≡◌, ℕ, ◌⊎◌, List, [], ◌∷◌, ◌++◌, Option, IsSome, option_to_list, ⊤}
 use Rattle.flux_values.specs.Meanings.{LibraryMeaning}
 use Rattle.flux_syntax.specs.declared.declarations.Decl.{Decl}
@@ -12,13 +12,13 @@ use Rattle.flux_commands.specs.Origins.{named}
 use Rattle.flux_commands.specs.Inputs.{HasProgram, GivesItems}
 use Rattle.flux_commands.specs.Answers.{Libraries}
 
--- the file of a program alone, or that of items too, behind a sound program
+-- the file of a program alone, or that of items too, after a sound program
 abbrev pub AreTwoFiles : LibraryMeaning → Files → List ℕ → List ℕ → List (List ℕ) → Type 0
 AreTwoFiles meaning told file items names = (names ≡ file ∷ [])
     ⊎ ((names ≡ file ∷ items ∷ [])
     × (decls : List Decl) × HasProgram meaning told (named file) decls)
 
--- these, or that of a journal too, behind items
+-- these, or that of a journal too, after items
 abbrev pub AreThreeFiles : LibraryMeaning → Files → List ℕ → List ℕ → List ℕ → List (List ℕ) → Type 0
 AreThreeFiles meaning told file items journal names = AreTwoFiles meaning told file items names
     ⊎ ((names ≡ file ∷ items ∷ journal ∷ []) × GivesItems meaning told (named file) (named items))
@@ -45,7 +45,7 @@ IsStopped dir statuses.Missing = IsSome dir
 IsStopped dir statuses.Memory = ⊤
 IsStopped dir other = ⊥
 
--- a command asks first for its folder of documents, where one is named, and for files only behind the
+-- a command asks first for its folder of documents, where one is named, and for files only after the
 -- documents
 pub record AsksFor (library : Libraries) (command : Command) (told : Told) (status : Status)
     (dirs names : List (List ℕ)) : Type 0 where

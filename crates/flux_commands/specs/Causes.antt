@@ -126,7 +126,7 @@ AreItemsLost meaning (swarm file items journal hash docs) told name =
     IsItemsFileLost meaning told file items name
 AreItemsLost meaning other told name = ⊥
 
--- the journal's file, behind the items
+-- the journal's file, after the items
 pub record IsJournalFileLost (meaning : LibraryMeaning) (told : Files)
     (file items journal name : List ℕ) : Type 0 where
   pub is : name ≡ journal

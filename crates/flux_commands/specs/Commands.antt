@@ -31,7 +31,7 @@ folder_of help = None
 folder_of (simulate file items simulating) = simulating.docs
 folder_of (swarm file items journal hash docs) = docs
 
--- what files hold is told, where the command reads any
+-- what files hold is reported, where the command reads any
 abbrev pub TellsFiles : Files → Command → Type 0
 TellsFiles told (check file) = IsSome told
 TellsFiles told (plan file) = IsSome told

@@ -8,7 +8,7 @@ use Rattle.flux_cli.specs.Commands.{Command}
 use Rattle.flux_commands.specs.Told.{Folders, Told}
 use Rattle.flux_commands.specs.Commands.{folder_of, TellsFiles}
 
--- none where no folder is named, else what the folder gives, where it is told
+-- none where no folder is named, else what the folder gives, where it is reported
 abbrev pub AreDocs : Folders → Option (List ℕ) → DocMap → Type 0
 AreDocs told None docs = docs.named ≡ empty
 AreDocs told (Some dir) docs = GivesDocs told dir docs
@@ -25,12 +25,12 @@ abbrev pub IsDirLost : Folders → Option (List ℕ) → List ℕ → Type 0
 IsDirLost told None name = ⊥
 IsDirLost told (Some dir) name = (name ≡ dir) × IsFolderLost told dir
 
--- what folders hold is told, or none is named
+-- what folders hold is reported, or none is named
 abbrev pub TellsDocs : Folders → Option (List ℕ) → Type 0
 TellsDocs told None = ⊤
 TellsDocs told (Some dir) = IsSome told
 
--- all that a command reads is told
+-- all that a command reads is reported
 pub record TellsAll (told : Told) (command : Command) : Type 0 where
   pub files : TellsFiles told.files command
   pub docs : TellsDocs told.folders (folder_of command)

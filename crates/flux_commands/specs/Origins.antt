@@ -13,7 +13,7 @@ abbrev pub GivesText : Files → Origin → ℕ → List ℕ → Type 0
 GivesText told (named file) max text = Gives told file max (Found text)
 GivesText told (made own) max text = text ≡ own
 
--- what the text is is told
+-- it is reported what the text is
 abbrev pub TellsText : Files → Origin → Type 0
 TellsText told (named file) = IsSome told
 TellsText told (made own) = ⊤

@@ -35,7 +35,7 @@ pub record IsReady (meaning : LibraryMeaning) (told : Files) (program : Origin) 
   pub sound : IsSound meaning checked.program (kinds_at checked.sigs.nodes)
   pub source : IsServed meaning checked.program framing
 
--- what is ready stands for an empty text that is to be printed
+-- in place of what is ready comes an empty text that is to be printed
 abbrev pub as_text : {T : Type 0} → Result T Refusal → Result Prepared Refusal
 as_text (Ok ready) = Ok (Text [])
 as_text (Err refusal) = Err refusal

@@ -1,4 +1,4 @@
--- What a refusal comes to: its status, and its line.
+-- What a refusal is answered by: its status, and its line.
 use Rattle.std.specs.Prelude.{ℕ, List, []}
 use Rattle.flux_items.specs.declared.rules.ItemFault.{ItemFault}
 use Rattle.flux_items.specs.declared.rules.ItemFault.TheVariants as items_

@@ -22,7 +22,7 @@ use Rattle.flux_commands.specs.Inputs.{GivesItems}
 --   whole           each item's flow is one whole path of its walk, on its own calls' answers;
 --   legal.answers   each call has its library node's answer, on the cells as earlier calls left them;
 --   legal.excludes  no take and no section overlaps one of another flow in conflict with it;
---   legal.waits     each wait stands where a take is blocked, and nobody overtakes it;
+--   legal.waits     each wait is made where a take is blocked, and nobody overtakes it;
 --   legal.free      at no moment do flows wait for each other in a circle;
 --   order           the flows went on in the runtime's order.
 -- `legal` says too that the locks are the program's.

@@ -120,7 +120,7 @@ fn prepare<'a, L: Library, S: Store>(
     }
 }
 
-/// The same behind its documents.
+/// The same after its documents.
 fn make_ready<'a, S: Store, F: Folder>(
     alloc: Global,
     store: &mut S,

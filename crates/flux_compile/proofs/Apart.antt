@@ -94,7 +94,7 @@ plain_node : (meaning : LibraryMeaning) (found : Option Node) → IsSourceNode m
 plain_node meaning None source plain = source
 plain_node meaning (Some node) source plain = plain_body meaning node.body source plain
 
--- so no flow comes to a source's own node
+-- so no flow reaches a source's own node
 pub sound_apart : (meaning : LibraryMeaning) (p : Program) (kinds : ℕ → NodeKinds) → IsSound meaning p kinds → AreApart p
 sound_apart meaning p kinds sound = record { targets = targets; led = led }
   where

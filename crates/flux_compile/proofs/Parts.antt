@@ -11,7 +11,7 @@ use Rattle.flux_plan.specs.declared.plans.Instr.{Instr}
 use Rattle.flux_plan.specs.declared.plans.Instr.TheVariants.{Enter, Go, Leave}
 use Rattle.flux_compile.specs.steps.Segments.{taking, arms_from, members_code, segment_for, segments_from, segments_of}
 
--- the arm of the next case, and those behind it
+-- the arm of the next case, and those after it
 pub arms_next : (place : ℕ) (cases : List Case) (i : ℕ) (case : Case) → i < length cases → case ≡ get_or cases i case
     → arms_from place (drop i cases)
     ≡ record { patterns = case.patterns; to = place } ∷ arms_from (place + length case.members + 1) (drop (suc i) cases)
@@ -19,7 +19,7 @@ arms_next place cases i case lt is =
     ap (arms_from place) (drop-cons cases i case lt)
     ∙ ap (λ (c : Case). record { patterns = c.patterns; to = place } ∷ arms_from (place + length c.members + 1) (drop (suc i) cases)) (sym is)
 
--- the code of the next case's members, and of those behind it
+-- the code of the next case's members, and of those after it
 pub members_next : (cases : List Case) (i : ℕ) (case : Case) → i < length cases → case ≡ get_or cases i case
     → members_code (drop i cases) ≡ members_code (case ∷ []) ++ members_code (drop (suc i) cases)
 members_next cases i case lt is =
@@ -31,7 +31,7 @@ members_next cases i case lt is =
 pub length-opening : (holds : List Hold) (code : List Instr) → code ≡ map taking holds ++ Enter ∷ [] → length code ≡ length holds + 1
 length-opening holds code is = rw is (grind (arith, length-append, length-map))
 
--- the segment of the next node, and those behind it
+-- the segment of the next node, and those after it
 segments_next : (origins : List ℕ) (sets : List (List Hold)) (first : ℕ) (nodes : List Node) (node : Node) (rest : List Node)
     → nodes ≡ node ∷ rest → segments_from origins sets first nodes
     ≡ segment_for origins (held_by sets first) first node ∷ segments_from origins sets (first + 1) rest

@@ -33,7 +33,7 @@ found_below [] n less none = omega (arith, less)
 found_below (x ∷ xs) zero less none = cc
 found_below (x ∷ xs) (suc n) less none = found_below xs n (omega (arith, less)) none
 
--- where no flow comes to these nodes, and all else is as it should be
+-- where no flow reaches these nodes, and all else is as it should be
 module _ (p : Program) (origins : List ℕ) (sets : List (List Hold)) (numbered : IsNumbered p) (acyclic : HasCycle p.nodes → ⊥)
     (locks : AreLocks p (held_by sets)) (apart : (from next : ℕ) → IsIn next (leads_in p.nodes from) → IsKnown next origins → ⊥) where
   abbrev segments : List Segment
@@ -100,7 +100,7 @@ module _ (p : Program) (origins : List ℕ) (sets : List (List Hold)) (numbered 
       none node place faulty = by node place (slice_get p.nodes node) refl (rw (segment_at origins sets p.nodes node) at faulty)
 
 -- a plan whose segments are those of a program's nodes has no faulty place, where leading has no cycle, the sets are the
--- locks of the nodes, and no flow comes to nodes that items come from
+-- locks of the nodes, and no flow reaches nodes that items come from
 pub segments_are_verified : (p : Program) (origins : List ℕ) (sets : List (List Hold)) (plan : Plan)
     → plan.segments ≡ segments_of origins sets p.nodes → plan.target.0 < length p.nodes → (IsKnown plan.target.0 origins → ⊥)
     → ((from next : ℕ) → IsIn next (leads_in p.nodes from) → IsKnown next origins → ⊥)

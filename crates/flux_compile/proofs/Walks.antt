@@ -57,7 +57,7 @@ module _ (plan : Plan) (given : Given) (walking : Walking) (values : List Value)
 
 -- ---- segments of all nodes
 
--- the segment of a node to which flows come stands at its number
+-- the segment of a node that flows reach is at its number
 segments_of-at : (origins : List ℕ) (sets : List (List Hold)) (nodes : List Node) (number : ℕ) (node : Node)
     → (IsKnown number origins → ⊥) → slice_get nodes number ≡ Some node
     → slice_get (segments_of origins sets nodes) number ≡ Some (segment_of (held_by sets number) node)
@@ -65,7 +65,7 @@ segments_of-at origins sets nodes number node other at =
     segment_at origins sets nodes number ∙ ap (option_map (segment_for origins (held_by sets number) number)) at
     ∙ ap Some (own_segment origins (held_by sets number) number node other)
 
--- segments as the code writes them run as walks, where no flow comes to nodes that items come from
+-- segments as the code writes them run as walks, where no flow reaches nodes that items come from
 pub segments_run_as_walks : (p : Program) (origins : List ℕ) (sets : List (List Hold)) (order : List NodeNo) (target : NodeNo) (plan : Plan)
     → plan.target ≡ target → plan.segments ≡ segments_of origins sets p.nodes → IsOrder p.nodes order
     → ((locks : Holds) → AreLocks p locks → (node : ℕ) → locks node ≡ held_by sets node)

@@ -1,4 +1,4 @@
--- The nodes that items come from: no flow comes to them, and their segments are empty.
+-- The nodes that items come from: no flow reaches them, and their segments are empty.
 use Rattle.std.specs.Prelude.{◌≡◌, ℕ, List, [], Some}
 use Rattle.std.specs.List.{slice_get, Contains}
 use Rattle.flux_model.specs.declared.programs.SourceLine.{SourceLine}
@@ -8,7 +8,7 @@ use Rattle.flux_model.specs.Children.{IsIn}
 use Rattle.flux_plan.specs.declared.plans.Plan.{Plan}
 use Rattle.flux_plan.specs.declared.plans.Segment.{Segment}
 
--- no flow comes to a source's own node: it is no source's target, and no node leads to it. So it is in each program that is
+-- no flow reaches a source's own node: it is no source's target, and no node leads to it. So it is in each program that is
 -- sound for a library
 pub record AreApart (p : Program) : Type 0 where
   pub targets : (line other : SourceLine) → Contains p.sources line → Contains p.sources other

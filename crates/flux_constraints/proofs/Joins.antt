@@ -139,7 +139,7 @@ set_rises (h ∷ hs) (suc p) x rises t =
 pub set_rising : (hs : List Hold) (p : ℕ) (x : Hold) → AreRising hs → IsThere hs x.class p → AreRising (set hs p x)
 set_rising hs p x are t = rising_from (set hs p x) (set_rises hs p x (rises_from hs are) t)
 
--- where the hold that stands there isn't more
+-- where the hold that is there isn't more
 pub set_joined : (hs : List Hold) (p : ℕ) (x d : Hold) → IsThere hs x.class p → at_least x.mode (get_or hs p d).mode ≡ true → IsJoined hs x (set hs p x)
 set_joined hs p x d t enough = record {
   kept = λ old c. elim (set_old hs p x old d c) [

@@ -1,4 +1,4 @@
--- A told folder gives one map of documents, or is lost.
+-- A folder that is reported gives one map of documents, or is lost.
 use Rattle.std.proofs.Common.{◌≡◌, ◌⊎◌, inl, inr, ℕ, true, false, List, Option, Some, None, Result, Ok, Err, sym, ◌∙◌}
 use Rattle.std.specs.Prelude.{IfSome, IfOk, IfErr, IsNone}
 use Rattle.std.specs.Cmp.Lexicographic.{nat_list_cmp_total}

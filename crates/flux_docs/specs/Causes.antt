@@ -11,7 +11,7 @@ abbrev pub fault_of : StoreFault → DocsFault
 fault_of stores.Failed = Failed
 fault_of stores.Memory = Memory
 
--- the count of faults rose where the folder failed, and stands as before in every other answer
+-- the count of faults rose where the folder failed, and is as before in every other answer
 abbrev pub CountsDocs : {T : Type 0} → ℕ → ℕ → Result T DocsFault → Type 0
 CountsDocs before now (Ok docs) = now ≡ before
 CountsDocs before now (Err Failed) = Rose before now

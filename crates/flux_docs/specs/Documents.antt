@@ -1,4 +1,4 @@
--- The documents of a folder: which ones are within the limits, and which body stands under a name.
+-- The documents of a folder: which ones are within the limits, and which body is under a name.
 use Rattle.std.specs.Prelude.{◌≡◌, ℕ, ◌≤◌, List, length, sum_by}
 use Rattle.std.specs.List.{AllByRecursion}
 use Rattle.std.specs.FinMap.{get}
@@ -23,6 +23,6 @@ pub record AreWithin (docs : List FileBytes) : Type 0 where
   pub few : length docs ≤ DOC_LIMIT
   pub small : total_size docs ≤ BODIES_LIMIT
 
--- under each name stands the body of its first document
+-- under each name is the body of its first document
 abbrev pub HasFirst : Bodies → List FileBytes → Type 0
 HasFirst named docs = (name : List ℕ) → get named name ≡ first_of docs name

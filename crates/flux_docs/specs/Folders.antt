@@ -6,7 +6,7 @@ use Rattle.flux_docs.specs.declared.faults.DocsFault.{DocsFault}
 use Rattle.flux_docs.specs.declared.faults.DocsFault.TheVariants.{Failed, Missing, TooLong, Memory}
 use Rattle.flux_docs.specs.Documents.{AreWithin, HasFirst}
 
--- the documents of folders by their names, in order, where they are told
+-- the documents of folders by their names, in order, where they are reported
 abbrev pub Folders : Type 0
 Folders = Option (List ℕ → Option (List FileBytes))
 
@@ -22,7 +22,7 @@ abbrev pub IsPast : Option (List FileBytes) → Type 0
 IsPast (Some held) = AreWithin held → ⊥
 IsPast None = ⊥
 
--- ---- where folders are told
+-- ---- where folders are reported
 
 -- the folder of this name gives these documents
 abbrev pub GivesDocs : Folders → List ℕ → DocMap → Type 0

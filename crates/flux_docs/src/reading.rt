@@ -63,7 +63,7 @@ fn read_folder<F: Folder>(alloc: Global, folder: &mut F, dir: &[u8]) -> Result<D
 /// 67,108,864 bytes together. Where the folder gives a name twice its first document is used, and both
 /// count for the limits.
 pub fn read_docs<F: Folder>(alloc: Global, folder: &mut F, dir: &[u8]) -> Result<Docs, DocsFault>
-    // Where folders are told, what they hold decides, unless the folder failed or memory was short.
+    // Where folders are reported, what they hold decides, unless the folder failed or memory was short.
     ensures docs { IfOk result (GivesDocs (F.folders folder.old) dir.now) }
     ensures unread { IfErr result (IsUnread (F.folders folder.old) dir.now) }
     // The count of faults rose exactly where the folder failed.

@@ -23,7 +23,7 @@ has-more test bytes n below fails =
     ∙ ap (λ t. t || has_front test (take n bytes ++ get_or bytes n 0 ∷ []) (drop (n + 1) bytes)) fails
     ∙ ap (λ l. has_front test l (drop (n + 1) bytes)) (sym (take_more bytes n 0 below))
 
--- a front that passes is the least one behind those that were looked at
+-- a front that passes is the least one after those that were looked at
 pub grown-found : (test : List ℕ → Bool) (seen bytes : List ℕ) → test seen ≡ true → grown test seen bytes ≡ seen
 grown-found test seen [] passes = refl
 grown-found test seen (b ∷ bytes) passes = ap (λ t. if t then seen else grown test (seen ++ b ∷ []) bytes) passes
@@ -32,7 +32,7 @@ pub has-found : (test : List ℕ → Bool) (seen bytes : List ℕ) → test seen
 has-found test seen [] passes = passes
 has-found test seen (b ∷ bytes) passes = ap (λ t. t || has_front test (seen ++ b ∷ []) bytes) passes
 
--- where a front passes, what stands behind the bytes changes nothing
+-- where a front passes, what follows the bytes changes nothing
 pub grown-append : (test : List ℕ → Bool) (seen xs ys : List ℕ) → has_front test seen xs ≡ true → grown test seen (xs ++ ys) ≡ grown test seen xs
 grown-append test seen [] ys has = grown-found test seen ys has
 grown-append test seen (x ∷ xs) ys has = go (test seen) refl (grown-append test (seen ++ x ∷ []) xs ys)

@@ -3,7 +3,7 @@ use Rattle.std.proofs.Common.{◌≡◌, ℕ, ◌+◌, ◌-◌, ◌<◌, ◌≤�
 use Rattle.std.proofs.Math.Seq.{take-append_seam}
 use Rattle.std.proofs.lemmas.List.{take-append-drop, drop-drop, take_all, nil_from_length, length-take, length-drop}
 
--- a piece that was copied into a buffer's front, and what is left behind it, are what was left
+-- a piece that was copied into a buffer's front, and what is left after it, are what was left
 pub piece-and-rest : (input copied tail : List ℕ) (given n : ℕ) → copied ≡ take n (drop given input) → length copied ≡ n
     → drop given input ≡ take n (copied ++ tail) ++ drop (given + n) input
 piece-and-rest input copied tail given n is size =

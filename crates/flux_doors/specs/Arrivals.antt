@@ -1,4 +1,4 @@
--- What is told of std's answers at a real door.
+-- What is read of std's answers at a real door.
 use Rattle.std.specs.Prelude.{ℕ, ℤ, pos, Bool, false, ◌||◌, if◌then◌else◌, Option, Some, None}
 use Rattle.std.specs.Ordering.{int_eq}
 use Rattle.std.specs.declared.io.ErrorKind.{ErrorKind}

@@ -4,7 +4,7 @@ use Rattle.std.specs.Prelude.{Option, Some, None, Result, Ok, Err}
 use Rattle.flux_outside.specs.Causes.{HasCause}
 use Rattle.flux_outside.specs.declared.faults.Failed.{Failed}
 
--- the port that a door is open at behind an opening: one that failed leaves it as it was
+-- the port that a door is open at after an opening: after one that failed it is as it was
 abbrev pub opened_at : {T : Type 0} → ℕ → Option ℕ → Result T Failed → Option ℕ
 opened_at port before (Ok answer) = Some port
 opened_at port before (Err failed) = before
@@ -32,12 +32,12 @@ behind_first [] = []
 behind_first ([] ∷ batches) = [] ∷ batches
 behind_first ((link ∷ links) ∷ batches) = links ∷ batches
 
--- the batches that are left behind an accept: one that failed leaves all
+-- the batches that are left after an accept: after one that failed all are
 abbrev pub left_behind : {L T : Type 0} → Bool → Result T Failed → List (List L) → List (List L)
 left_behind first (Ok answer) batches = behind_first (looked_at first batches)
 left_behind first (Err failed) batches = batches
 
--- how many links are out behind an accept
+-- how many links are out after an accept
 abbrev pub out_after : {L : Type 0} → ℕ → Result (Option L) Failed → ℕ
 out_after out (Ok (Some link)) = out + 1
 out_after out (Ok None) = out
@@ -49,7 +49,7 @@ pub record Counts : Type 0 where
   pub late : ℕ
 
 -- where a first accept failed the one count rose, where a later one did the other, and else both
--- stand
+-- are as before
 abbrev pub HasAcceptCause : {T : Type 0} → Bool → Counts → Counts → Result T Failed → Type 0
 HasAcceptCause true before after result =
     HasCause before.faults after.faults result × (after.late ≡ before.late)

@@ -56,7 +56,7 @@ LinkWasWritten before after =
 
 -- ---- the door
 
--- the links to come: what is left of the batch that has begun, and the batches behind it
+-- the links to come: what is left of the batch that has begun, and the batches after it
 abbrev pub door_links : MemoryDoor → List (List MemoryLink)
 door_links door = door.begun.items ∷ map deque_items door.later.items
 

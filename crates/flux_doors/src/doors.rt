@@ -16,10 +16,10 @@ pub const OUT_LIMIT: usize = 4_096;
 pub trait Door {
     type Link: Link + Drop + Send;
 
-    /// The links to come, by their batches, where they are told. The first batch is the one that has begun.
+    /// The links to come, by their batches, where they are reported. The first batch is the one that has begun.
     ghost to_come: { Self → Option (List (List Self.Link)) };
 
-    /// The links taken back, where they are told.
+    /// The links taken back, where they are reported.
     ghost taken_back: { Self → Option (List Self.Link) };
 
     /// The port that it is open at; None where it isn't open.

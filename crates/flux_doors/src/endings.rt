@@ -16,12 +16,12 @@ const CLOSING_MILLIS: u64 = 20;
 /// So many bytes at most are read then: 1 MiB.
 const CLOSING_BYTES: usize = 1_048_576;
 
-/// A socket whose client was told that nothing more comes. What the client still sends is read up to a bound: a socket that
+/// A socket that was shut down for writing. What the client still sends is read up to a bound: a socket that
 /// is closed with bytes unread would take back what the client hasn't read yet.
 #[derive(Drop)]
 pub struct Ending<R: Net> {
     stream: R::Stream,
-    /// When the client was told, and when it was last heard.
+    /// When it was shut down, and when the client was last heard.
     told: Duration,
     heard: Duration,
     /// So many bytes more are read.
@@ -70,7 +70,7 @@ impl<R: Net> Ending<R> {
 /// Such sockets. None of them is waited for.
 #[derive(Drop)]
 pub struct Endings<R: Net> {
-    /// Those that weren't looked at since their clients were told. Most clients have ended by the first look.
+    /// Those that weren't looked at since they were shut down. Most clients have ended by the first look.
     told: VecDeque<Ending<R>>,
     /// Those whose clients had not ended by then.
     late: VecDeque<Ending<R>>,

@@ -48,7 +48,7 @@ impl<R: Net> Entrance<R> {
         }
     }
 
-    /// Notes that the system told of a client.
+    /// Notes that the system reported of a client.
     pub fn note(&mut self) {
         if self.next.is_none() {
             self.next = Some(Duration::ZERO);

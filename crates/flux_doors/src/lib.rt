@@ -2,8 +2,8 @@
 //!
 //! A door gives links in batches; a link gives the bytes that its client sends and takes the reply; each link goes back
 //! to its door. Links and doors have counts of faults, as all that is outside has: a call answers that it failed only
-//! where a count rose in that call. A link that fails is told from a door that fails, and a door that fails at a first
-//! accept from one that fails at a later one. What they hold is told in memory, and not over real sockets.
+//! where a count rose in that call. A link that fails differs from a door that fails, and a door that fails at a first
+//! accept from one that fails at a later one. What they hold is reported in memory, and not over real sockets.
 //!
 //! The door over real sockets has one loop of readiness (`event_loops`). It runs while a first link is waited for, and once in each
 //! later batch; it reads until texts have ended, sends what is left of replies, and closes clients whose time is over. So a link that

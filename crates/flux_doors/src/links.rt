@@ -10,13 +10,13 @@ use flux_outside::Failed;
 
 /// Gives the bytes that a client sends, and takes those of the reply.
 pub trait Link {
-    /// All that its client sends, where it is told. No call changes it: so links are told from each other.
+    /// All that its client sends, where it is reported. No call changes it: so links can be kept apart.
     ghost had: { Self → Option (List ℕ) };
 
-    /// The bytes left to read, where they are told.
+    /// The bytes left to read, where they are reported.
     ghost left: { Self → Option (List ℕ) };
 
-    /// All bytes written so far, where they are told.
+    /// All bytes written so far, where they are reported.
     ghost written: { Self → Option (List ℕ) };
 
     /// How often the link has failed.

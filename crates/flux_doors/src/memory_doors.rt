@@ -14,7 +14,7 @@ use std::collections::VecDeque;
 
 /// A door in memory with the batches of links that come.
 pub struct MemoryDoor {
-    /// What is left of the batch that has begun, and the batches behind it.
+    /// What is left of the batch that has begun, and the batches after it.
     begun: VecDeque<MemoryLink>,
     later: VecDeque<VecDeque<MemoryLink>>,
     /// The links taken back, with room for all.
@@ -70,7 +70,7 @@ impl MemoryDoor {
     ghost use Rattle.flux_doors.specs.Memory.{door_links, door_back, IsNewDoor};
     ghost use Rattle.flux_doors.specs.Doors.{waiting};
 
-    /// A door with these batches of links. Of opening and accepting, the calls whose numbers stand in `fails`, counted
+    /// A door with these batches of links. Of opening and accepting, the calls whose numbers are in `fails`, counted
     /// from 1, fail. Room for all links taken back is reserved here.
     pub fn new(
         alloc: Global,

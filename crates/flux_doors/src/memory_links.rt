@@ -36,7 +36,7 @@ impl MemoryLink {
     ghost use Rattle.flux_outside.specs.Memory.{sink_bytes};
     ghost use Rattle.flux_doors.specs.Memory.{link_had, link_left, link_written, link_faults, IsNewLink};
 
-    /// A link that gives these bytes, at most `piece` a call. The reads whose numbers stand in `fails`, counted from 1,
+    /// A link that gives these bytes, at most `piece` a call. The reads whose numbers are in `fails`, counted from 1,
     /// fail; a write fails where the sink's does.
     pub fn new(input: Bytes, piece: usize, written: MemorySink, fails: List<u64>) -> MemoryLink
         requires { 0 < piece }

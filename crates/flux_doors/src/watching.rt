@@ -11,7 +11,7 @@ use std::time::Duration;
 /// The number of the door's own socket. Those of clients are greater.
 pub const OWN: u64 = 0;
 
-/// So many sockets at most are told of at once.
+/// So many sockets at most are reported at once.
 const EVENTS: usize = 1_024;
 
 /// The system's set of watched sockets, and those that became ready.

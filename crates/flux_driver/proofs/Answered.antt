@@ -202,7 +202,7 @@ module _ (library : Libraries) (words : List (List ℕ)) (told after : Told) (fo
   put_done (Text text) asked prints same due alone status out out_after err err_after door out_later err_later put = text_done text asked prints same due alone status out out_after err err_after door out_later err_later put
   put_done (No text) asked prints same due alone status out out_after err err_after door out_later err_later put = no_done text asked prints same due status out out_after err err_after door out_later err_later put
 
-  -- ---- a refusal was told
+  -- ---- a refusal was written
 
   module _ (refusal : Refusal) (asked : Asked (status_of refusal)) (answers : IsAnswer library words told (status_of refusal) [] (line_of refusal)) (counts : CountsBothRefusal refusal s t f g) (due : AnswersWords library words told (status_of refusal)) where
     asked_told : (status : Status) → (status ≡ status_of refusal) ⊎ (status ≡ statuses.Memory) → Asked status

@@ -29,7 +29,7 @@ broke_later before mid after front rest one other = record {
   rose = rw (sym one.steady) other.rose;
 }
 
--- a front of one text, with another behind it
+-- a front of one text, with another after it
 pub broke_sooner : (before after : Stream) (front rest : List ℕ) → Broke before after front → Broke before after (front ++ rest)
 broke_sooner before after front rest one = record {
   front = one.front;

@@ -1,4 +1,4 @@
--- Serving with replies behind each batch or at once.
+-- Serving with replies after each batch or at once.
 use Rattle.std.proofs.Common.{◌≡◌, ℕ, ◌<◌, inl, inr, map, Option, ap}
 use Rattle.std.specs.Option.{option_map}
 use Rattle.flux_outside.specs.Causes.{Rose}

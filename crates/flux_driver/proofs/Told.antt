@@ -1,4 +1,4 @@
--- What is told of a refusal.
+-- What is written of a refusal.
 use Rattle.std.proofs.Common.{◌≡◌, inl, refl, sym, subst}
 use Rattle.flux_commands.specs.declared.statuses.Status.TheVariants as statuses
 use Rattle.flux_commands.specs.declared.refusals.Refusal.{Refusal}

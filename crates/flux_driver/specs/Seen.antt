@@ -11,12 +11,12 @@ pub record Giver : Type 0 where
   pub asked : List (List ℕ)
   pub faults : ℕ
 
--- what is seen of a link: all that its client sends, the bytes left to read and all bytes written, where they are told,
+-- what is seen of a link: all that its client sends, the bytes left to read and all bytes written, where they are reported,
 -- and its failures
 abbrev pub Link : Type 0
 Link = links.Seen
 
--- a door: the links to come, by their batches, and those taken back, where they are told; the port that it is open at; how
+-- a door: the links to come, by their batches, and those taken back, where they are reported; the port that it is open at; how
 -- often opening or a first accept has failed, and how often a later accept
 pub record Doorway : Type 0 where
   pub to_come : Option (List (List Link))

@@ -46,19 +46,19 @@ MayBeShut Door = ⊤
 MayBeShut Log = ⊥
 MayBeShut Memory = ⊤
 
--- nothing came: but for the door's failures, what is seen of it stands as it was, and so does the log
+-- nothing came: but for the door's failures, what is seen of it is as it was, and so is the log
 pub record IsUntouched {L : Type 0} (before after : Sight L) : Type 0 where
   pub to_come : after.to_come ≡ before.to_come
   pub taken_back : after.taken_back ≡ before.taken_back
   pub late : after.late ≡ before.late
   pub log_ : after.log ≡ before.log
 
--- the door is open at the port; or it stands as it was, and nothing came
+-- the door is open at the port; or it is as it was, and nothing came
 abbrev pub IsOpened : {L : Type 0} → ServeEnd → ℕ → Option ℕ → Option ℕ → Sight L → Sight L → Type 0
 IsOpened end port was is before after =
     (is ≡ Some port) ⊎ (MayBeShut end × (is ≡ was) × IsUntouched before after)
 
--- what is seen of the door, and of `out`, where the log stands
+-- what is seen of the door, and of `out`, which has the log
 abbrev pub sight_of : Seen → Sight Link
 sight_of seen = let door = seen.door in record {
   to_come = door.to_come;
@@ -68,7 +68,7 @@ sight_of seen = let door = seen.door in record {
   log = seen.out;
 }
 
--- what is promised of serving with replies behind each batch, or at once; no clause says when one is written, or by
+-- what is promised of serving with replies after each batch, or at once; no clause says when one is written, or by
 -- how many workers
 abbrev pub HasServedBy : {L : Type 0} → Replying → (L → links.Seen) → Service → ℕ → Sight L → Sight L
     → ServeEnd → Type 0

@@ -40,7 +40,7 @@ pub record HasAnswered (library : Libraries) (words : List (List ℕ)) (before :
 
 -- ---- counts of failures
 
--- status 5 comes only where the store's count rose, or the folder's; with any other both stand as before
+-- status 5 comes only where the store's count rose, or the folder's; with any other both are as before
 pub record RoseForReading (status : Status) (store store_after folder folder_after : ℕ) : Type 0 where
   pub failed : status ≡ statuses.Read → Rose store store_after ⊎ Rose folder folder_after
   pub steady : status ≢ statuses.Read → (store_after ≡ store) × (folder_after ≡ folder)
@@ -50,7 +50,7 @@ pub record RoseForWriting (status : Status) (out out_after : ℕ) : Type 0 where
   pub failed : status ≡ statuses.Write → Rose out out_after
   pub steady : (MayBreak status → ⊥) → out_after ≡ out
 
--- status 7 comes only where the door's count rose; with any other it stands as before
+-- status 7 comes only where the door's count rose; with any other it is as before
 pub record RoseForDoor (status : Status) (door door_after : ℕ) : Type 0 where
   pub failed : status ≡ statuses.Door → Rose door door_after
   pub steady : status ≢ statuses.Door → door_after ≡ door
@@ -71,7 +71,7 @@ abbrev pub Decides : Status → Status → Type 0
 Decides status due = (status ≡ due) ⊎ ((status ≡ statuses.Read)
     ⊎ (((status ≡ statuses.Write) ⊎ (status ≡ statuses.Door)) × (due ≡ statuses.Done)))
 
--- what a command decides, where all that it reads is told, is answered
+-- what a command decides, where all that it reads is reported, is answered
 abbrev pub IsComplete : Libraries → List (List ℕ) → Told → Status → Type 0
 IsComplete library words told status = (command : Command) → Spells words command
     → TellsAll told command → (due : Status) (text line : List ℕ)
@@ -80,11 +80,11 @@ IsComplete library words told status = (command : Command) → Spells words comm
 -- ---- the whole
 
 -- A call with these words answers this status:
---   what is told of files and folders is as before, no count of failures falls, and the words say which
+--   what is reported of files and folders is as before, no count of failures falls, and the words say which
 --   folder and which files were asked for, in which order;
 --   the status has its cause, and `out` and `err` have gained what belongs to it, and the door stays as it was; or `serve`
 --   has served;
---   with status 5 the count of the store or of the folder rose, and with any other both stand as
+--   with status 5 the count of the store or of the folder rose, and with any other both are as
 --   before; the same of status 6 and the count of `out`, which may rise with status 8 too, and of status 7
 --   and the count of the door;
 --   words that are no command are refused, and what is due is answered, unless memory was short.

@@ -128,7 +128,7 @@ fn serve_words<
 
 /// Does what the words say, and answers how it ended.
 ///
-/// The words are those behind the program's own name. `check FILE` says whether a program is sound
+/// The words are those after the program's own name. `check FILE` says whether a program is sound
 /// and reports on its locks, `plan FILE` prints what its nodes take, give, hold and count,
 /// `format FILE` prints its formatted text, `run FILE ITEMS` runs the items of one file through the program
 /// of another and prints the journal of their flows, `audit FILE ITEMS JOURNAL` prints whether a file is the
@@ -136,7 +136,7 @@ fn serve_words<
 /// the links of a door, batch by batch, and logs them, `help` prints the commands, `simulate FILE ITEMS` lets the items
 /// run on simulated processors and prints how long that takes, and `swarm FILE ITEMS JOURNAL HASH` prints the peers of a
 /// tracker's hash after a journal of such a run. The clause speaks of what is seen of the world before and after the
-/// call. The gate is told before and after each call of a node, but for those of `simulate`.
+/// call. The gate is notified before and after each call of a node, but for those of `simulate`.
 pub fn top<
     S: Store,
     F: Folder,

@@ -20,8 +20,8 @@ fn say<E: Sink>(err: &mut E, line: &[u8])
     let _ = write_all(err, line);
 }
 
-/// Writes the line about a refusal. That reading failed is told without taking memory, so that want of
-/// memory never stands for it.
+/// Writes the line about a refusal. That reading failed is said without taking memory, so that want of
+/// memory never comes in its place.
 pub fn refuse<E: Sink>(alloc: Global, err: &mut E, refusal: Refusal) -> Status
     ensures later { E.faults err.old ≤ E.faults err.new }
     ensures told { IsTold refusal.entry result

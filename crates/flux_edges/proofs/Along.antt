@@ -64,6 +64,6 @@ module _ (p : Program) (law : (number : ℕ) → IsNeeded p number → needs_ses
   has_all [] all = tt
   has_all (line ∷ lines) all = (has_one line all.0, has_all lines all.1)
 
-  -- where the row doesn't stand each source has the session that it needs
+  -- where the row doesn't apply each source has the session that it needs
   pub all_served : (lines : List SourceLine) (sites : List ℕ) → length sites ≡ length lines → least_of None (unserved (needs_session p) lines sites) ≡ None → AllByRecursion (HasSession p) lines
   all_served lines sites many none = has_all lines (served_all (needs_session p) lines sites many (none_least (unserved (needs_session p) lines sites) none))

@@ -44,7 +44,7 @@ module _ (all : List Decl) where
   lines_many (Source name target ∷ decls) = ap suc (lines_many decls)
   lines_many (other ∷ decls) = lines_many decls
 
--- 26 stands in the program where it stands in the declarations
+-- 26 applies in the program where it applies in the declarations
 pub sessions_least : (decls : List Decl) → least_of None (unserved_sources (named_of decls)) ≡ soonest None (flat_map (unserved_source decls) decls)
 sessions_least decls = sources_least decls decls None
 
@@ -194,7 +194,7 @@ module _ (sigs : ℕ → NodeSig) (names : List (List ℕ)) where
   row_more : (d : Decl) (decls : List Decl) → row_places (d ∷ decls) ≡ places (unlike_handler sigs names d) ++ row_places decls
   row_more d decls = places_append (unlike_handler sigs names d) (flat_map (unlike_handler sigs names) decls)
 
-  -- a name stands at a number, and nowhere else
+  -- a name is at a number, and nowhere else
   abbrev StandsAt : ℕ → List ℕ → Type 0
   StandsAt number name = (wanted : List ℕ) → bytes_eq wanted name ≡ true → position_or_len (bytes_eq wanted) names ≡ number
 
@@ -216,7 +216,7 @@ module _ (sigs : ℕ → NodeSig) (names : List (List ℕ)) where
           pick (inr others) = in_right at (places (unlike_handler sigs names (Handler node codes handler))) (row_places decls) (more others)
   own_in_row number name stands (other ∷ decls) at is = own_in_row number name stands decls at is
 
-  -- each of these names stands at its number
+  -- each of these names is at its number
   abbrev AllStand : ℕ → List (List ℕ) → Type 0
   AllStand number others = (k : ℕ) (name : List ℕ) → slice_get others k ≡ Some name → StandsAt (number + k) name
 
@@ -234,7 +234,7 @@ module _ (sigs : ℕ → NodeSig) (names : List (List ℕ)) where
       pick (inl own) rest = own_in_row number name first decls at own
       pick (inr is) rest = rest is
 
-  -- and back: a handler of a node that stands among the names
+  -- and back: a handler of a node that is among the names
   in_own : (number : ℕ) (name : List ℕ) (decls : List Decl) (others : List (List ℕ)) (start k at : ℕ) → start + k ≡ number → slice_get others k ≡ Some name → Among at (own_places number name decls) → Among at (all_places start others decls)
   in_own number name decls [] start k at same found is = absurd cc
   in_own number name decls (n ∷ others) start zero at same found is =
@@ -284,7 +284,7 @@ module _ (sigs : ℕ → NodeSig) (names : List (List ℕ)) where
   row_in_all (Atomic n constraints ∷ decls) all at is = wider (Atomic n constraints) decls 0 names at (row_in_all decls all.1 at is)
   row_in_all (Session source function ∷ decls) all at is = wider (Session source function) decls 0 names at (row_in_all decls all.1 at is)
 
--- 21 stands in the program where it stands in the declarations, where the nodes of all `handle` lines have names
+-- 21 applies in the program where it applies in the declarations, where the nodes of all `handle` lines have names
 pub handlers_least : (sigs : ℕ → NodeSig) (decls : List Decl) → AllByRecursion (HasNode (names_of decls)) decls
     → least_of None (unlike_handlers sigs (named_of decls)) ≡ soonest None (flat_map (unlike_handler sigs (names_of decls)) decls)
 handlers_least sigs decls known_ =

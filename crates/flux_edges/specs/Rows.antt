@@ -1,4 +1,4 @@
--- The faults 21 and 26 in declarations: for each its row, the words at which it stands.
+-- The faults 21 and 26 in declarations: for each its row, the words at which it applies.
 use Rattle.std.specs.Prelude.{ℕ, Bool, ◌||◌, not, if◌then◌else◌, List, [], ◌∷◌}
 use Rattle.std.specs.List.{flat_map}
 use Rattle.std.specs.Option.{is_some}

@@ -66,7 +66,7 @@ fn is_like(sigs: &[NodeSig], arm: Arm) -> bool
     same_types(ins_of(sigs, arm.node), ins_of(sigs, arm.handler))
 }
 
-/// Where the first handler stands that doesn't take what its node takes. Each arm has its place.
+/// Where the first handler is that doesn't take what its node takes. Each arm has its place.
 fn arms_along(sigs: &[NodeSig], arms: &[Arm], sites: &[u32]) -> Place
     ensures { result ≡ arms_along (sig_at sigs.now) None arms.now sites.now }
 {

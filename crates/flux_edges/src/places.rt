@@ -22,7 +22,7 @@ pub fn unless(holds: bool, at: u32, place: Place) -> Place
     }
 }
 
-/// The fault of a row with this least place, if it stands.
+/// The fault of a row with this least place, if it applies.
 pub fn fault(alloc: Global, kind: FaultKind, place: Place) -> Result<(), CheckFault>
     ensures fits { OnOk result (place ≡ None) }
     ensures fault { IfErr result (IsLeastFault (fault_or kind place None)) }

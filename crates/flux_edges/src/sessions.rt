@@ -114,7 +114,7 @@ fn blank(alloc: Global, count: usize) -> Result<List<bool>, Memory>
     Ok(marks)
 }
 
-/// Which nodes need a session, in an order in which each stands after all that it leads to.
+/// Which nodes need a session, in an order in which each is after all that it leads to.
 fn marked(alloc: Global, p: &Program, order: &[NodeNo]) -> Result<List<bool>, Memory>
     ensures { IfOk result (λ marks. marks ≡ fold (put_mark p.now.classes p.now.nodes)
         (replicate (length p.now.nodes) false) order.now) }
@@ -132,7 +132,7 @@ fn is_served(marks: &[bool], line: &SourceLine) -> bool
     line.session.is_some() || !mark_at(marks, line.target.0 as usize)
 }
 
-/// Where the first source stands that needs a session and has none. Each source line has its place.
+/// Where the first source is that needs a session and has none. Each source line has its place.
 fn lines_along(marks: &[bool], lines: &[SourceLine], sites: &[u32]) -> Place
     ensures { result ≡ lines_along (mark_at marks.now) None lines.now sites.now }
 {

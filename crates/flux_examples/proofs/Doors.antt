@@ -9,7 +9,7 @@ use Rattle.flux_examples.specs.Doors.{behind_one, DoorsFit, DoorsMisfit}
 pub rose : Rose 0 1
 rose = let up : 1 ≤ 1 = omega arith in up
 
--- and that stand
+-- and a count that didn't rise
 pub stands : Rose 0 0 → ⊥
 stands up = let below : 1 ≤ 0 = up in omega (arith, below)
 

@@ -1,4 +1,4 @@
--- No entry stands past the end of a journal.
+-- No entry is past the end of a journal.
 use Rattle.std.proofs.Common.{◌≡◌, List, [], ◌∷◌, ◌++◌}
 
 pub nothing_past : {X : Type 0} (before : List X) (x : X) (after : List X) → [] ≡ before ++ x ∷ after → ⊥

@@ -31,7 +31,7 @@ event_at place [] = Enter (no 0)
 event_at zero (x ∷ entries) = x.event
 event_at (suc place) (x ∷ entries) = event_at place entries
 
--- an entry of the journal is one of four, behind as many as its place says
+-- an entry of the journal is one of four, after as many as its place says
 is_there : (Is : List Entry → Event → Type 0) (before after : List Entry) (flow : FlowNo) (event : Event)
     → Stands failed before flow event after
     → Is [] (event_at 0 failed)
@@ -77,7 +77,7 @@ no_take_among key mode rest (w ∷ x ∷ y ∷ []) a b c d na nb nc nd e = nd cc
 no_take_among key mode rest (w ∷ x ∷ y ∷ z ∷ own) a b c d na nb nc nd e =
     nothing_past own (Take key mode) rest (ap (drop 4) e)
 
--- no flow of this setup comes to a take
+-- no flow of this setup reaches a take
 pub no_take_next : (before : List Entry) (flow : ℕ) (key : Key) (mode : Mode) → IsNext failing before flow (Take key mode) → ⊥
 no_take_next before zero key mode next = by_answers (own_answers before 0) next.next
   where

@@ -10,7 +10,7 @@ abbrev pub byte_of : List ℕ → ℕ
 byte_of [] = 0
 byte_of (b ∷ bytes) = b
 
--- the first byte that is told
+-- the first byte that is reported
 abbrev pub told_byte : Option (List ℕ) → ℕ
 told_byte None = 0
 told_byte (Some bytes) = byte_of bytes

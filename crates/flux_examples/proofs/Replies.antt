@@ -8,7 +8,7 @@ use Rattle.flux_examples.specs.Replies.{RepliesFit, RepliesMisfit}
 use Rattle.flux_examples.proofs.Doors.{rose, stands}
 use Rattle.flux_examples.proofs.Links.{told_byte}
 
--- how many bytes are told
+-- how many bytes are reported
 abbrev pub count_of : Option (List ℕ) → ℕ
 count_of None = 0
 count_of (Some bytes) = length bytes

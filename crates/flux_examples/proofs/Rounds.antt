@@ -48,7 +48,7 @@ can_with before live = record {
   free = λ blocked. let waits = blocked.1 in no_take_next before 0 waits.key waits.mode waits.next;
 }
 
--- the first two entries, and what is live behind them
+-- the first two entries, and what is live after them
 abbrev front : List Entry
 front = by 0 (Enter (no 0)) ∷ by 0 (called 0 (int 7 ∷ []) (results.Bad 1)) ∷ []
 
@@ -67,7 +67,7 @@ live_called = record {
   goes_on = λ outcome has. no_end_among _ _ outcome (λ same. absurd cc) (λ same. absurd cc) has;
 }
 
--- whose turn it is behind each front of the journal
+-- whose turn it is after each front of the journal
 turns : (before after : List Entry) (flow : FlowNo) (event : Event) → Stands failed before flow event after
     → HasTurn failing [] before flow
 turns [] after flow event e = subst (λ (f : FlowNo). HasTurn failing [] [] f) (ap (flow_at 0) e)

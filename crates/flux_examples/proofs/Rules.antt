@@ -16,7 +16,7 @@ use Rattle.flux_audit.specs.Rules.{IsHeld, IsOutOfTurn, HasCause}
 use Rattle.flux_examples.specs.SmallAudits.{flow, by, a}
 use Rattle.flux_examples.specs.Audits.{taken, awaited, Kept, Broken}
 
--- nothing stands in an empty list
+-- nothing is in an empty list
 nothing_there : (before : List Entry) (x : Entry) (after : List Entry) → [] ≡ before ++ x ∷ after → ⊥
 nothing_there before x after e = omega (arith, ap length e, length-append before (x ∷ after))
 
@@ -32,7 +32,7 @@ abbrev first_wait : List Entry → ℕ
 first_wait [] = 0
 first_wait (x ∷ entries) = is_wait x.event
 
--- in a list of one entry stands that one
+-- in a list of one entry is that one
 one_there : (x : Entry) (before : List Entry) (flow : FlowNo) (event : Event) (after : List Entry)
     → x ∷ [] ≡ before ++ record { flow = flow; event = event } ∷ after
     → (first_flow (x ∷ []) ≡ flow.0) × (first_wait (x ∷ []) ≡ is_wait event)

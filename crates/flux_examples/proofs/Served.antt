@@ -26,7 +26,7 @@ role_in (Some sig) = role_number sig.role
 by_role : (role : Role) (framing : Framing) → IsServed (with_role role) (sources_of_one (line ∷ [])) framing → role_number role ≡ role_number (role_of framing)
 by_role role framing is = ap role_in is.known ∙ ap role_number is.role
 
--- how many links the first batch has, where it is told
+-- how many links the first batch has, where it is reported
 abbrev first_count : Option (List (List Seen)) → ℕ
 first_count None = 0
 first_count (Some []) = 0

@@ -39,7 +39,7 @@ may_wait = record {
 pub own_take : WaitsForItsOwnTake
 own_take wait = let next = wait.next in let e = next.next in absurd cc
 
--- in an empty journal no flow stands anywhere
+-- in an empty journal no flow waits anywhere
 nobody_stands : (flow : ℕ) (place : ℕ) (mode : Mode) → StandsAt [] flow a mode place → ⊥
 nobody_stands flow place mode stands = nothing_past stands.before (by flow (Wait a mode)) stands.after stands.stands
 

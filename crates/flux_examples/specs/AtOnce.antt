@@ -1,4 +1,4 @@
--- A call that is made at once, and how a flow that is blocked is told: a small core and a small journal.
+-- A call that is made at once, and what is answered of a flow that is blocked: a small core and a small journal.
 use Rattle.std.specs.Prelude.{false, List, [], ◌∷◌, Option, Some, None}
 use Rattle.flux_values.specs.declared.answers.CallResult.TheVariants as results
 use Rattle.flux_values.specs.declared.answers.Mode.TheVariants.{Writer}
@@ -51,7 +51,7 @@ abbrev pub BegunCallIsNotMade : Type 0
 BegunCallIsNotMade = (new : CoreState LibraryMeaning)
     → HasSteppedAtOnce (λ library. library) (entered (Some its_inputs) []) new (record { 0 = 0 }) Called → ⊥
 
--- a flow whose key another one holds is blocked there, and has no wait yet; so it isn't told as free
+-- a flow whose key another one holds is blocked there, and has no wait yet; so the answer isn't that it is free
 abbrev pub HeldIsBlocked : Type 0
 HeldIsBlocked = IsReadiness both_write (by 0 (Take a Writer) ∷ []) 1
     (Blocked (record { key = a; mode = Writer; stands = false }))

@@ -12,22 +12,22 @@ counts faults late = record { faults = faults; late = late }
 abbrev pub two : List (List ℕ)
 two = (1 ∷ 2 ∷ []) ∷ (3 ∷ []) ∷ []
 
--- the same behind link 1
+-- the same after link 1
 abbrev pub behind_one : List (List ℕ)
 behind_one = (2 ∷ []) ∷ (3 ∷ []) ∷ []
 
--- and behind links 1 and 2
+-- and after links 1 and 2
 abbrev pub behind_both : List (List ℕ)
 behind_both = [] ∷ (3 ∷ []) ∷ []
 
 pub record DoorsFit : Type 0 where
-  -- an opening names the port, and one that failed leaves it
+  -- an opening names the port, and one that failed changes nothing
   pub opened : opened_at {T = ℕ} 80 None (Ok 0) ≡ Some 80
   pub unopened : (failed : Failed) → opened_at {T = ℕ} 80 (Some 79) (Err failed) ≡ Some 79
-  -- a batch without links is passed over; where none has links, one without stands there
+  -- a batch without links is passed over; where none has links, there is one without
   pub passed : waiting ([] ∷ two) ≡ two
   pub nobody : waiting {L = ℕ} [] ≡ [] ∷ []
-  -- the first link leaves its batch, and a batch without links stays
+  -- the first link goes out of its batch, and a batch without links stays
   pub behind : behind_first two ≡ behind_one
   pub behind_none : behind_first behind_both ≡ behind_both
   -- a first accept that failed counts at the door, a later one by itself

@@ -56,7 +56,7 @@ KeysGoBySession =
 
 -- ---- exclusion refuses a take beside another flow's holding, and sections that overlap
 
--- a reader's take, while a writer's stands
+-- a reader's take, while a writer holds the key
 abbrev pub TakesAreKeptApart : Type 0
 TakesAreKeptApart = TakesExclude (by 0 (Take k Writer) ∷ by 1 (Take k Reader) ∷ []) → ⊥
 

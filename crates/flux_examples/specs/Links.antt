@@ -24,7 +24,7 @@ pub record LinksFit : Type 0 where
   pub rest : text_of Line (codes "get") ≡ codes "get"
   -- a head goes up to its empty line, which it keeps
   pub head : text_of Head (codes "GET" ++ crlf ++ crlf ++ codes "x") ≡ codes "GET" ++ crlf ++ crlf
-  -- a link was read; or it failed, and its count rose; or memory was short, and its count stands
+  -- a link was read; or it failed, and its count rose; or memory was short, and its count is as before
   pub sent : IsSent Line (fresh (codes "a")) (spent (codes "a")) (Text (codes "a"))
   pub failed : IsSent Line (fresh (codes "a")) (link (codes "a") [] 1) Failed
   pub short : IsSent Line (fresh (codes "a")) (spent (codes "a")) Memory
@@ -41,7 +41,7 @@ pub record LinksMisfit : Type 0 where
   pub line : text_of Line (codes "add 5" ++ crlf) ≡ codes "add 5" ++ 13 ∷ [] → ⊥
   -- another text than came
   pub sent : IsSent Line (fresh (codes "a")) (spent (codes "a")) (Text (codes "b")) → ⊥
-  -- a link that failed isn't told as want of memory
+  -- a link that failed isn't answered as want of memory
   pub short : IsSent Line (fresh (codes "a")) (link (codes "a") [] 1) Memory → ⊥
   -- two texts don't change places
   pub turned : WereRead itself Line (fresh (codes "a") ∷ fresh (codes "b") ∷ [])

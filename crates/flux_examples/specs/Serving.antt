@@ -44,10 +44,10 @@ pub record ServingFits : Type 0 where
 pub record ServingMisfits : Type 0 where
   -- the links of a source of heads aren't read as lines
   pub lines : IsServed (with_role HeadSource) (sources_of_one (line ∷ [])) Line → ⊥
-  -- the door isn't closed while somebody waits, nor was a later accept made behind its end
+  -- the door isn't closed while somebody waits, nor was a later accept made after its end
   pub closed : Stops (door somebody 0 0) (door somebody 0 0) Closed → ⊥
   pub later : Stops (door nobody 0 0) (door nobody 0 1) Closed → ⊥
-  -- a door whose count stands hasn't failed, and one that failed has lost no link
+  -- a door whose count is as before hasn't failed, and one that failed has lost no link
   pub failed : Stops (door somebody 0 0) (door somebody 0 0) Door → ⊥
   pub lost : Stops (door somebody 0 0) (door nobody 1 0) Door → ⊥
   -- no batch ends it since as many were served as were wanted

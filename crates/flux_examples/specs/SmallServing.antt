@@ -15,7 +15,7 @@ use Rattle.flux_batches.specs.declared.reading.ReadLink.{ReadLink}
 use Rattle.flux_batches.specs.Links.{Seen}
 use Rattle.flux_serve.specs.Ends.{Sight}
 
--- ---- links, told by what is seen of them
+-- ---- links, by what is seen of them
 
 -- a link whose client sends some bytes, with bytes left to read, bytes written, and a count of faults
 abbrev pub link_of : List ℕ → List ℕ → List ℕ → ℕ → Seen

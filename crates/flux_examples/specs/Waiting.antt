@@ -1,4 +1,4 @@
--- Where a wait may not stand, and what a cycle of waits is: small journals.
+-- Where a wait may not be, and what a cycle of waits is: small journals.
 use Rattle.std.specs.Prelude.{List, [], ◌∷◌, codes}
 use Rattle.flux_values.specs.declared.answers.Mode.TheVariants.{Writer}
 use Rattle.flow_model.specs.declared.journals.Entry.{Entry}

@@ -8,7 +8,7 @@ use Rattle.flow_model.specs.Setup.{Setup}
 use Rattle.flow_model.specs.Flows.{flow_events}
 use Rattle.flux_examples.specs.Small.{int, no, concrete, flow, case_of, on_codes, answer, called, setup_of, k, writer, first_two, none_held}
 
--- ---- a handler runs after the drops of the node that failed, and leaves the nodes around it over
+-- ---- a handler runs after the drops of the node that failed, and the nodes around it are over
 
 abbrev pub handling : Setup
 handling = setup_of

@@ -77,7 +77,7 @@ arrows [] = []
 arrows (name ∷ []) = name
 arrows (name ∷ next ∷ names) = name ++ codes " -> " ++ arrows (next ∷ names)
 
--- what stands behind the name: the path of a cycle
+-- what follows the name: the path of a cycle
 abbrev pub printed_path : StaticFault → List ℕ
 printed_path fault =
     if number_of fault.kind == number_of Cycle then codes " " ++ arrows fault.path else []
@@ -89,7 +89,7 @@ printed_fault text fault =
     ++ codes ": fault " ++ decimal (number_of fault.kind)
     ++ codes " " ++ name_of fault.kind ++ printed_path fault
 
--- a refusal's fault, if it is one, stands at a byte of the text or at its end, and has a line
+-- a refusal's fault, if it is one, is at a byte of the text or at its end, and has a line
 abbrev pub IsPlacedIn : List ℕ → CheckFault → Type 0
 IsPlacedIn text (Static fault) = (fault.at ≤ length text) × (fault.at < PLACE_LIMIT)
 IsPlacedIn text Memory = ⊤

@@ -1,4 +1,4 @@
--- Where a byte of a text stands.
+-- Where a byte of a text is.
 use Rattle.std.specs.Prelude.{ℕ, ◌+◌, ◌==◌, not, List, length, take}
 use Rattle.std.specs.List.{filter, prefix_len}
 use Rattle.std.specs.Prelude.{reverse}

@@ -17,7 +17,7 @@ pub enum FaultKind {
     UnclosedComment,
     /// The tokens are no program.
     Unexpected,
-    /// A name stands for two things.
+    /// Two lines name one thing.
     TwiceNamed,
     /// A name has neither signature nor flow.
     UnknownNode,
@@ -33,7 +33,7 @@ pub enum FaultKind {
     UnknownSession,
     /// The node of a source line isn't a source, or a session's node has no source line.
     NotASource,
-    /// A source stands where another node is wanted.
+    /// A source is where another node is wanted.
     SourceMisused,
     /// There are more than 4,096 nodes or 256 classes.
     TooMany,
@@ -63,7 +63,7 @@ pub enum FaultKind {
     NoSession,
     /// The sources' sizes sum to more than 65,536.
     PlanTooLarge,
-    /// A code isn't 1 to 256 in decimal without leading zeros, or stands for its node already.
+    /// A code isn't 1 to 256 in decimal without leading zeros, or was named for its node already.
     BadCode,
 }
 

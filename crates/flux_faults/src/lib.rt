@@ -1,6 +1,6 @@
 //! Faults of program texts, their places and their lines.
 //!
-//! A fault stands at a byte of the text or at its end. `place` gives its line and column, and
+//! A fault is at a byte of the text or at its end. `place` gives its line and column, and
 //! `fault_line` the one line that is written about it.
 #![tactic(auto)]
 

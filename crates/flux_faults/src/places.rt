@@ -23,7 +23,7 @@ pub fn place(text: &[u8], at: u32) -> Place
     place
 }
 
-/// The place behind a byte.
+/// The place after a byte.
 fn behind(place: Place, byte: u8) -> Place
     requires { (place.line < PLACE_LIMIT) × (place.column < PLACE_LIMIT) }
     ensures { result ≡ next_place place byte }

@@ -70,7 +70,7 @@ begins_on start node (step ∷ a) b e = e
 
 -- ---- moves
 
--- a step that leaves a node is passed over
+-- a step that exits a node is passed over
 pub passed_leave : (nodes : List Node) (start : NodeNo) (s : Return) (node : NodeNo) → Seeks nodes start (and_step s (Leave node)) → Seeks nodes start s
 passed_leave nodes start s node h = record {
   led = stepping.led_front nodes None s.steps (Leave node ∷ []) h.led;
@@ -291,7 +291,7 @@ turned_on nodes start old mid new found node all after e other gives = from (sub
     from : IsAfter nodes start old mid (Some node) → Seeks nodes start new
     from (h, same, new) = one h new
 
--- such a turn leaves fewer nodes to be entered
+-- after such a turn fewer nodes are left to be entered
 pub turned_less : (nodes : List Node) (start : NodeNo) (old mid new : Return) (found : Option NodeNo) (node : NodeNo) → LeadToNodes nodes → IsAfter nodes start old mid found → found ≡ Some node → (node.0 ≡ start.0 → ⊥) → new ≡ moved nodes mid node
     → length nodes - length new.entered < length nodes - length old.entered
 turned_less nodes start old mid new found node all after e other gives = from (subst (IsAfter nodes start old mid) e after)
@@ -308,7 +308,7 @@ turned_less nodes start old mid new found node all after e other gives = from (s
     from : IsAfter nodes start old mid (Some node) → length nodes - length new.entered < length nodes - length old.entered
     from (h, same, new) = one same new
 
--- a turn that comes to the start gives a way back
+-- a turn that reaches the start gives a way back
 pub turned_back : (nodes : List Node) (start : NodeNo) (old mid : Return) (found : Option NodeNo) (node : NodeNo) → IsAfter nodes start old mid found → found ≡ Some node → node.0 ≡ start.0 → IsWayBack nodes start (leaves_of mid.steps ++ start ∷ [])
 turned_back nodes start old mid found node after e same = way_found nodes start mid node (subst (IsAfter nodes start old mid) e after).0 same
 

@@ -87,7 +87,7 @@ option_behind (m ∷ a) n b = ap Some (end_behind m.0 a n b)
 
 -- ---- the first with a number
 
--- the first node of a number, with what stands before and behind it
+-- the first node of a number, with what is before and after it
 pub record First (x : ℕ) (nodes : List NodeNo) : Type 0 where
   pub front : List NodeNo
   pub node : NodeNo

@@ -1,4 +1,4 @@
--- What is below a node is visited on the way down an order, and then told in rising order.
+-- What is below a node is visited on the way down an order, and then given in rising order.
 use Rattle.std.proofs.Common.{◌≡◌, ◌<◌, ◌+◌, ◌∙◌, append_assoc, drop, reverse, ℕ, zero, suc, true, false, Bool, ◌⊎◌, inl, inr, List, [], ◌∷◌, ◌++◌, length, get_or, Some, Result, Ok, Err, IfOk, refl, sym, ap, subst, eqb, arith}
 use Rattle.std.specs.List.{list_any, slice_get}
 use Rattle.std.proofs.Math.Nat.{eq-or-lt_of_le}

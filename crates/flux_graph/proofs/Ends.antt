@@ -123,7 +123,7 @@ entered_next nodes old mid new found node all next e gives = from (subst (IsNext
     from : IsNext nodes old mid (Some node) → Holds nodes new
     from (h, unknown, same) = subst (Holds nodes) (sym gives) (node_entered nodes mid node all h unknown)
 
--- such a turn leaves fewer nodes to be entered
+-- after such a turn fewer nodes are left to be entered
 pub entered_less : (nodes : List Node) (old mid new : Search) (found : Option NodeNo) (node : NodeNo) → LeadToNodes nodes → IsNext nodes old mid found → found ≡ Some node → new ≡ entered nodes mid node
     → length nodes - length new.entered < length nodes - length old.entered
 entered_less nodes old mid new found node all next e gives = from (subst (IsNext nodes old mid) e next)

@@ -15,7 +15,7 @@ use Rattle.flux_graph.proofs.Stepping.{IsReplaced, last_of}
 
 -- ---- the order grows
 
--- a node behind an order, where all that it leads to stands before it
+-- a node after an order, where all that it leads to is before it
 pub after_more : (nodes : List Node) (before order : List NodeNo) (node : NodeNo) → ComeAfter nodes before order → node.0 < length nodes → (IsIn node.0 before → ⊥) → (IsIn node.0 order → ⊥) → ((x : ℕ) → IsIn x (leads_in nodes node.0) → IsIn x order ⊎ IsIn x before)
     → ComeAfter nodes before (order ++ node ∷ [])
 after_more nodes before [] node a lt new other all = (lt, new, (λ x i. from x (all x i)), tt)
@@ -63,7 +63,7 @@ roots_on nodes order later s old new grows replaced roots x lt = from (roots x l
 
 -- ---- leaving a node
 
--- a step that leaves a node is one more of those not left
+-- a step that exits a node is one more of those not exited
 pub leaves_with : (s : List Step) (node : NodeNo) → leaves_of (s ++ Leave node ∷ []) ≡ leaves_of s ++ node ∷ []
 leaves_with s node = stepping.leaves_append s (Leave node ∷ [])
 

@@ -58,7 +58,7 @@ skipped nodes s node h k = record {
 
 -- ---- a node is left
 
--- a node is left, and stands in the order
+-- a node is exited, and is in the order
 pub node_left : (nodes : List Node) (s : Search) (node : NodeNo) → Holds nodes (with_step s (Leave node)) → Holds nodes (left s node)
 node_left nodes s node h = record {
   roots = λ x lt. subst (λ (t : List Step). IsIn x later ⊎ HasStep x t) (append-nil s.steps) (roots_on nodes s.order later s.steps old [] (grown s.order node) replaced h.roots x lt);
@@ -120,7 +120,7 @@ node_left nodes s node h = record {
 
 -- ---- a node is entered
 
--- what a search comes to is a node
+-- what a search reaches is a node
 pub follows_below : (nodes : List Node) (from : Option ℕ) (x : ℕ) → LeadToNodes nodes → FollowsOn nodes from x → x < length nodes
 follows_below nodes None x all f = f
 follows_below nodes (Some from) x all f = led-below_count (length nodes) nodes from x all f
@@ -241,7 +241,7 @@ step_taken nodes s rest step e h = subst (Holds nodes) same h
     same : s ≡ with_step (without s rest) step
     same = ap (λ (t : List Step). without s t) e
 
--- a last step that leaves a node was taken
+-- a last step that exits a node was taken
 pub took_leave : (nodes : List Node) (s new : Search) (rest : List Step) (step : Step) (node : NodeNo) → s.steps ≡ rest ++ step ∷ [] → step ≡ Leave node → new ≡ left (without s rest) node → Holds nodes s → Holds nodes new
 took_leave nodes s new rest step node e is gives h = subst (Holds nodes) (sym gives) (node_left nodes (without s rest) node (subst (λ (t : Step). Holds nodes (with_step (without s rest) t)) is (step_taken nodes s rest step e h)))
 

@@ -28,7 +28,7 @@ step_before x (Enter n ∷ a) b (inr h) = inr (step_before x a b h)
 step_before x (Leave n ∷ a) b (inl e) = inl e
 step_before x (Leave n ∷ a) b (inr h) = inr (step_before x a b h)
 
--- so it has behind others
+-- so it has with others before
 pub step_behind : (x : ℕ) (a b : List Step) → HasStep x b → HasStep x (a ++ b)
 step_behind x [] b h = h
 step_behind x (Enter n ∷ a) b h = inr (step_behind x a b h)
@@ -144,7 +144,7 @@ pub distinct_front : (a b : List NodeNo) → AreDistinct (a ++ b) → AreDistinc
 distinct_front [] b d = tt
 distinct_front (n ∷ a) b (own, d) = (λ i. own (in_front n.0 a b i), distinct_front a b d)
 
--- distinct nodes stay so with a new one behind them
+-- distinct nodes stay so with a new one after them
 pub distinct_last : (a : List NodeNo) (node : NodeNo) → AreDistinct a → (IsIn node.0 a → ⊥) → AreDistinct (a ++ node ∷ [])
 distinct_last [] node d new = (λ i. i, tt)
 distinct_last (n ∷ a) node (own, d) new = (λ i. from (in_either n.0 a (node ∷ []) i), distinct_last a node d (λ i. new (inr i)))

@@ -1,10 +1,10 @@
--- What stands below a node, in rising order.
+-- What is below a node, in rising order.
 use Rattle.std.specs.Prelude.{ℕ, ◌<◌, List, [], ◌∷◌, ⊤}
 use Rattle.flux_model.specs.declared.programs.NodeNo.{NodeNo}
 use Rattle.flux_model.specs.declared.programs.Program.{Program}
 use Rattle.flux_model.specs.Children.{IsIn, IsBelow}
 
--- each number is lower than those behind it
+-- each number is lower than those after it
 abbrev pub IsRising : List NodeNo → Type 0
 IsRising [] = ⊤
 IsRising (node ∷ nodes) = ((number : ℕ) → IsIn number nodes → node.0 < number) × IsRising nodes

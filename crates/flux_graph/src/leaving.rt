@@ -1,4 +1,4 @@
-//! The order in which a search in depth against leading leaves nodes.
+//! The order in which a search in depth against leading exits nodes.
 //!
 //! Where a node leads on to another that doesn't lead back, the other, or a node on a cycle with it, is left after all
 //! nodes on a cycle with the first. So `clearing`, which goes through this order from its end, is fast and clears each
@@ -98,7 +98,7 @@ fn leaders(alloc: Global, nodes: &[Node]) -> Result<Vec<List<NodeNo>>, Memory>
     Ok(leaders)
 }
 
-/// The nodes, in the order in which the search leaves them.
+/// The nodes, in the order in which the search exits them.
 pub fn leaving_order(alloc: Global, nodes: &[Node]) -> Result<List<NodeNo>, Memory>
     requires few { length nodes.now ≤ COUNT_LIMIT }
 {

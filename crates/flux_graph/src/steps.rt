@@ -1,4 +1,4 @@
-//! The steps of a search in depth. They stand on a list, so a long chain of nodes takes no room of the machine's stack.
+//! The steps of a search in depth. They are in a list, so a long chain of nodes takes no room of the machine's stack.
 
 ghost use Rattle.std.specs.Prelude.{◌≡◌, ◌≤◌, ◌++◌, OnOk, IfOk};
 ghost use Rattle.flux_model.specs.declared.programs.TheConstants.{COUNT_LIMIT};

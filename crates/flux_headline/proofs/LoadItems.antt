@@ -118,7 +118,7 @@ large (suc count) first others =
     (append_assoc (given count first) (Some own ∷ []) others)
     ∙ large count first (Some own ∷ others) ∙ omega (arith, next)
 
--- the text gives its items: each line one, and the empty line behind the last LF none
+-- the text gives its items: each line one, and the empty line after the last LF none
 pub gives_items : (count first : ℕ) → count ≤ ITEM_LIMIT
     → AreItemsOf load_rules (items_in (given count first ++ None ∷ [])) (items_text count first)
 gives_items count first le = record {

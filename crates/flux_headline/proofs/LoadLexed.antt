@@ -9,12 +9,12 @@ use Rattle.flux_lexer.specs.Texts.{Part, Laid, token_of, tokens_of}
 use Rattle.flux_lexer.specs.steps.Fronts.{front_of}
 use Rattle.flux_lexer.proofs.Seen.{Sees, sees}
 
--- a token, and those behind it
+-- a token, and those after it
 abbrev pub token_before : Token → Option (List Token) → Option (List Token)
 token_before first None = None
 token_before first (Some tokens) = Some (first ∷ tokens)
 
--- the tokens from a front on, where something reads those behind it
+-- the tokens from a front on, where something reads those after it
 abbrev pub with_front : Front → ℕ → List ℕ → (ℕ → List ℕ → Option (List Token)) → Option (List Token)
 with_front (fronts.Skip n) at text more = more (at + n) (drop n text)
 with_front (fronts.Token kind n) at text more =

@@ -44,7 +44,7 @@ line_first first place rest = let number = number_at first place in
     ∙ slice_split_at is_line_end (body number) 10 rest
     (All-from_recursion (λ (b : ℕ). is_line_end b ≡ false) (body number) (one_line number (one_digit first place))) refl
 
--- the lines of the items, and of what is behind them
+-- the lines of the items, and of what comes after them
 pub lines_are : (count first : ℕ) (rest : List ℕ)
     → lines_of (items_text count first ++ rest) ≡ bodies count first ++ lines_of rest
 lines_are zero first rest = refl

@@ -22,7 +22,7 @@ use Rattle.flux_check.specs.Rows.{later_rows, size_rows}
 use Rattle.flux_check.specs.Judgement.{AreSound}
 use Rattle.flux_headline.specs.LoadDeclarations.{program_decls}
 
--- ---- an order of the nodes: `Load` and `Visit` stand last
+-- ---- an order of the nodes: `Load` and `Visit` are last
 
 abbrev no : ℕ → NodeNo
 no n = record { 0 = n }
@@ -111,7 +111,7 @@ is_order = record {
 pub acyclic : HasCycle (nodes_of program_decls) → ⊥
 acyclic = no_cycle (nodes_of program_decls) order is_order
 
--- ---- no row stands
+-- ---- no row applies
 
 few_words : words_of program_decls ≤ COUNT_LIMIT
 few_words = let many : words_of program_decls ≡ 40 = refl in omega (arith, many)

@@ -41,7 +41,7 @@ module _ (library : Libraries) (told : Told) (count first : ℕ) (runtime : Runt
   abbrev meaning : LibraryMeaning
   meaning = library there.docs
 
-  -- it reads nothing that is to be told
+  -- it reads nothing that has to be reported
   tells : TellsAll told (load count first runtime)
   tells = record { files = tt; docs = tt }
 

@@ -98,7 +98,7 @@ module _ (meaning : LibraryMeaning) (told : Files) where
   not_static help tells there line s = s.reads
   not_static other tells there line s = absurd there
 
-  -- behind a text that is there nothing is lost
+  -- after a text that is there nothing is lost
   sound_missing : (command : Command) → TellsFiles told command → LooksAt meaning told command
       → IsSoundOf meaning told command → (line : List ℕ) → IsMissing meaning command told line → ⊥
   sound_missing command tells there sound line m =

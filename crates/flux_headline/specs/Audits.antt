@@ -80,7 +80,7 @@ pub record IsAuditable (library : Libraries) (told : Told) (file items journal :
   pub text : List ℕ
   pub in_journal : Gives told.files journal JOURNAL_FILE_LIMIT (Found text)
 
--- then the program has answered 0 or 8, where all that it reads is told and no count rose, unless memory was short
+-- then the program has answered 0 or 8, where all that it reads is reported and no count rose, unless memory was short
 abbrev pub AuditsAreAnswered : Type 0
 AuditsAreAnswered = (library : Libraries) (words : List (List ℕ)) (before after : Seen) (status : Status)
     (file items journal : List ℕ) (dir : Option (List ℕ))

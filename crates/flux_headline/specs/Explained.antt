@@ -30,7 +30,7 @@ abbrev pub DoorFailed : Seen → Seen → Type 0
 DoorFailed before after =
     let own = before.door in let later = after.door in Rose own.faults later.faults
 
--- why a command comes to a status, with the text that it prints and the line that it says: reading
+-- why a command has a status, with the text that it prints and the line that it says: reading
 -- failed, writing failed, memory was short, or else the files and the folder decide it
 abbrev pub IsCause : Libraries → Command → Seen → Seen → Status → List ℕ → List ℕ → Type 0
 IsCause library command before after statuses.Read text line =
@@ -63,7 +63,7 @@ StatusesHaveCauses = (library : Libraries) (words : List (List ℕ)) (before aft
     → IsExplained library command before after status
     ⊎ HasServedWords library words before status after
 
--- what the files and the folder decide is answered, or 12, where all that the command reads is told,
+-- what the files and the folder decide is answered, or 12, where all that the command reads is reported,
 -- no count rose, and the door didn't fail
 abbrev pub CausesAreAnswered : Type 0
 CausesAreAnswered = (library : Libraries) (words : List (List ℕ)) (before after : Seen)

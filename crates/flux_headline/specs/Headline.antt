@@ -11,7 +11,7 @@
 -- its documents. `Holds` are classes with modes for each node; in a legal journal they are its locks:
 -- the classes that it declares, and of those that nodes below it declare the ones up to the last of
 -- its own in canonical order, each in its greatest mode. `OrMemory` allows one status more: 12, which
--- stands for want of memory; that memory was short isn't said. The laws speak of a call that has come
+-- means want of memory; that memory was short isn't said. The laws speak of a call that has come
 -- back, and hold for every library; that of `top` is `built_in`, of the file `BuiltIn` of
 -- `flux_commands`.
 --
@@ -27,7 +27,7 @@
 -- That it is whole says that each item's flow is in it, as one whole path up to its end.
 --
 -- That every other status but 12 comes for its cause alone is in `Explained`, and that what words,
--- files and folder decide is answered, or 12, where all is told and nothing failed; which counts of
+-- files and folder decide is answered, or 12, where all is reported and nothing failed; which counts of
 -- failures rise with which status is in `Top` of `flux_driver`.
 use Rattle.std.specs.Prelude.{◌≡◌, List, [], ℕ, length}
 use Rattle.flux_library.specs.Documents.{DocMap}
@@ -121,7 +121,7 @@ RunsAreTrue = (library : Libraries) (words : List (List ℕ)) (before after : Se
     → HasRun library before after file items options
 
 -- no reading of a file or of the folder failed, nor a write of `out`: their counts of failures didn't
--- rise, and none stands at the end of its type
+-- rise, and none is at the end of its type
 pub record NoneRose (before after : Seen) : Type 0 where
   pub store : let own = before.store in let later = after.store in Rose own.faults later.faults → ⊥
   pub folder : let own = before.folder in let later = after.folder in Rose own.faults later.faults → ⊥
@@ -134,7 +134,7 @@ abbrev pub AreFaultless : (library : Libraries) (told : Told) (file items : List
 AreFaultless library told file items options there = (fault : ItemFault)
     → IsFaultOf (rules_in (library there.docs) there.decls there.sound) fault there.items_text → ⊥
 
--- where the words spell `run`, all that it reads is told and there, the items' text has no fault, and
+-- where the words spell `run`, all that it reads is reported and there, the items' text has no fault, and
 -- none of these counts rose, the program has answered 0, or 12; of a real world, which doesn't tell
 -- what it holds, this says nothing
 abbrev pub RunsAreAnswered : Type 0

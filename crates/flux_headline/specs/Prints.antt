@@ -59,7 +59,7 @@ pub record CanLook (library : Libraries) (told : Told) (command : Command) : Typ
   pub none : AreDocs told.folders None docs
   pub there : LooksAt (library docs) told.files command
 
--- then the program has answered 0, where all that it reads is told and no count rose, unless memory was short
+-- then the program has answered 0, where all that it reads is reported and no count rose, unless memory was short
 abbrev pub LooksAreAnswered : Type 0
 LooksAreAnswered = (library : Libraries) (words : List (List ℕ)) (before after : Seen) (status : Status)
     (command : Command) → Spells words command → TellsAll before.told command

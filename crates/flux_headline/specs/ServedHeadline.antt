@@ -37,7 +37,7 @@ ServingIsTrue = (library : Libraries) (words : List (List ℕ)) (before after : 
     → Spells words (serve file serving) → HasDone library words before statuses.Done after
     → HasServedOut library before after file serving
 
--- where the words spell `serve`, all that it reads is told, the program can be served, and no count rose, nor the door's,
+-- where the words spell `serve`, all that it reads is reported, the program can be served, and no count rose, nor the door's,
 -- the program has answered 0, unless memory was short
 abbrev pub ServingIsAnswered : Type 0
 ServingIsAnswered = (library : Libraries) (words : List (List ℕ)) (before after : Seen) (status : Status)

@@ -50,7 +50,7 @@ pub record CanBeSimulated (library : Libraries) (told : Told) (file items : List
   pub faultless : (fault : ItemFault) → (let own = has.program_ in
       IsFaultOf (rules_in (library docs) has.decls own.sound) fault has.text) → ⊥
 
--- then the program has answered 0, where all that it reads is told and no count rose, unless memory was short
+-- then the program has answered 0, where all that it reads is reported and no count rose, unless memory was short
 abbrev pub SimulationsAreAnswered : Type 0
 SimulationsAreAnswered = (library : Libraries) (words : List (List ℕ)) (before after : Seen) (status : Status)
     (file items : List ℕ) (simulating : Simulating)

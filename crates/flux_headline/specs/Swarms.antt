@@ -57,7 +57,7 @@ SwarmsAreRefuted = (library : Libraries) (words : List (List ℕ)) (before after
     → HasRefuted library before after file items journal dir
 
 -- where what `audit` reads of these files is there, `swarm` has answered 0 or 8, where all that it
--- reads is told and no count rose, unless memory was short
+-- reads is reported and no count rose, unless memory was short
 abbrev pub SwarmsAreAnswered : Type 0
 SwarmsAreAnswered = (library : Libraries) (words : List (List ℕ)) (before after : Seen)
     (status : Status) (file items journal hash : List ℕ) (dir : Option (List ℕ))

@@ -104,7 +104,7 @@ pub fn serving_is_answered()
 {}
 
 /// Each status that `top` answers has its cause, and what the files and the folder of a command decide is what `top`
-/// answers, where all of it is told, no reading or writing fails, nor the door, and memory isn't short. Status 2 is for
+/// answers, where all of it is reported, no reading or writing fails, nor the door, and memory isn't short. Status 2 is for
 /// words that are no command, and for no others.
 pub fn statuses_are_explained()
     ensures causes { StatusesHaveCauses }

@@ -1,6 +1,6 @@
 //! The headline and its kin: what the clause of `top` says of each command, as theorems.
 //!
-//! `flux_driver` promises one clause of every call. Here stands what that comes to where the words spell a command and a status was
+//! `flux_driver` promises one clause of every call. This crate says what follows where the words spell a command and a status was
 //! answered: each law is the contract of a function that does nothing. `specs/Headline` is the headline, of `run`; the files beside
 //! it say the same of the other commands, and `specs/Explained` that every status has its cause.
 //!

@@ -3,7 +3,7 @@ use Rattle.std.proofs.Common.{◌≡◌, ◌<◌, ◌+◌, ℕ, zero, suc, inl, 
 use Rattle.std.specs.Option.{unwrap_or}
 use Rattle.std.proofs.lemmas.Bool.{cases_order}
 
--- what stands at a place, and `none` past the end
+-- what is at a place, and `none` past the end
 abbrev pub at_or : {X : Type 0} → X → List X → ℕ → X
 at_or none xs k = unwrap_or (slice_get xs k) none
 

@@ -58,7 +58,7 @@ joined_then from mid to xs ys first then = record {
   ];
 }
 
--- one more of a list whose elements stand for holds
+-- one more of a list whose elements give holds
 pub joined_next : {X : Type 0} (f : X → List Hold) (xs : List X) (i : ℕ) (d : X) (from mid to : List Hold) → i < length xs
     → AreJoined from (flat_map f (take i xs)) mid → AreJoined mid (f (get_or xs i d)) to → AreJoined from (flat_map f (take (i + 1) xs)) to
 joined_next f xs i d from mid to lt first then =

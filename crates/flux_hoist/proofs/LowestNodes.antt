@@ -19,7 +19,7 @@ use Rattle.flux_hoist.specs.steps.Lowest.{lower, node_at, lowest_among, IsLowest
 use Rattle.flux_hoist.proofs.Filled as filling
 use Rattle.flux_hoist.proofs.Reached.{past_path, past_own}
 
--- ---- the members of cases, and what comes behind them
+-- ---- the members of cases, and what comes after them
 
 pub among_cases : (table : List (Option NodeNo)) (first : Option NodeNo) (cases : List Case)
     → fold (λ found case. lowest_among table found case.members) first cases ≡ lowest_among table first (flat_map (λ case. case.members) cases)

@@ -28,7 +28,7 @@ sum_is table size total t (node ∷ nodes) is known =
     sum_is table size (capped (total + size_at table node.0)) (t + size node.0) nodes (capped_more total (size_at table node.0) t (size node.0) is (known node.0 (inl refl))) (λ led i. known led (inr i))
     ∙ ap capped (omega arith)
 
--- a node's size goes by those of the nodes that it leads to
+-- a node's size depends on those of the nodes that it leads to
 pub size_by-looks_down : (locks : Holds) → LooksDown (size_by locks)
 size_by-looks_down locks f g number node agree = ap (λ (n : ℕ). 2 * length (locks number) + 3 + n) (same (leads_to node) agree)
   where

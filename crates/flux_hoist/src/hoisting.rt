@@ -95,7 +95,7 @@ fn empty_sets(alloc: Global, count: usize) -> Result<List<ClassSet>, Memory>
 }
 
 /// For each node what it and all that it leads on to declare. Each node's set is joined from those of the nodes that it
-/// leads to, which stand before it in the order.
+/// leads to, which are before it in the order.
 fn reached(alloc: Global, nodes: &[Node], order: &[NodeNo]) -> Result<List<ClassSet>, Memory>
     requires ordered { IsOrder nodes.now order.now }
     ensures { IfOk result (AreReached nodes.now) }

@@ -44,7 +44,7 @@ fn mark(mode: Mode) -> &'static [u8]
     }
 }
 
-/// Adds a class and its mode at the end. After an `Err` a part of it may stand there.
+/// Adds a class and its mode at the end. After an `Err` a part of it may be there.
 pub(crate) fn append_hold(out: &mut Bytes, p: &Program, hold: Hold) -> Result<(), Memory>
     ensures { OnOk result (out.new ≡ out.old ++ printed_hold p.now hold) }
 {

@@ -97,7 +97,7 @@ fn zeros(alloc: Global, count: usize) -> Result<List<u32>, Memory>
     Ok(sizes)
 }
 
-/// Goes along an order in which each node stands after all that it leads to.
+/// Goes along an order in which each node is after all that it leads to.
 pub(crate) fn sizes_along(
     alloc: Global,
     nodes: &[Node],

@@ -1,4 +1,4 @@
--- Pieces with blanks between them: what stands at the front, and the values of a line one after another.
+-- Pieces with blanks between them: what is at the front, and the values of a line one after another.
 use Rattle.std.proofs.Common.{◌≡◌, ◌⊎◌, inl, inr, ℕ, Bool, true, false, eqb, List, [], ◌∷◌, ◌++◌, length, drop, codes, refl, sym, ap, ◌∙◌, subst, arith}
 use Rattle.std.specs.Char.{is_ascii_digit}
 use Rattle.std.proofs.lemmas.Bool.Decides.{nat_tests}
@@ -14,7 +14,7 @@ use Rattle.flux_items.specs.steps.Fronts.{past_blanks, Ends}
 use Rattle.flux_items.specs.steps.Values.{IsValueThen, Follow, Close}
 use Rattle.flux_items.proofs.Skipped.{and_left, blanked, past_front, past_other}
 
--- a piece stands behind blanks, and the others behind it
+-- a piece comes after blanks, and the others after it
 pub record Front (bytes piece : List ℕ) (pieces : List (List ℕ)) : Type 0 where
   pub rest : List ℕ
   pub front : past_blanks bytes ≡ piece ++ rest
@@ -30,7 +30,7 @@ laid_front b piece pieces bytes other laid = record {
 pub front_laid : (piece : List ℕ) (pieces : List (List ℕ)) (bytes rest : List ℕ) → past_blanks bytes ≡ piece ++ rest → AreLaid pieces rest → AreLaid (piece ∷ pieces) bytes
 front_laid piece pieces bytes rest e laid = let b = blanked bytes in (b.front, rest, b.blanks, b.laid ∙ ap (λ (l : List ℕ). b.front ++ l) e, laid)
 
--- no digit stands before a piece that begins with none
+-- no digit is before a piece that begins with none
 blank_no_digit : (b : ℕ) → is_blank b ≡ true → is_ascii_digit b ≡ false
 blank_no_digit b e = grind (arith, nat_tests)
 
@@ -81,7 +81,7 @@ spelled_first s v spells = begins_first s v (length s) (spelled_alone s v spells
 
 -- ---- values one after another, as they are laid
 
--- a value's spelling at the front, where no digit stands behind it
+-- a value's spelling at the front, where no digit comes after it
 value_then : (s : List ℕ) (v : Value) (pieces : List (List ℕ)) (text : List ℕ) (Then : List ℕ → Type 0) → Spells s v → AreLaid (s ∷ pieces) text
     → ((rest : List ℕ) → AreLaid pieces rest → NoDigitFirst rest × Then (past_blanks rest)) → IsValueThen v text Then
 value_then s v pieces text Then spells laid behind =
@@ -118,7 +118,7 @@ laid_close (s ∷ t ∷ spellings) (v ∷ w ∷ vs) text each laid =
 
 -- ---- and back
 
--- spellings of values, laid behind `(`
+-- spellings of values, laid after `(`
 pub record Spelling (vs : List Value) (text : List ℕ) : Type 0 where
   pub spellings : List (List ℕ)
   pub each : SpellEach spellings vs

@@ -1,4 +1,4 @@
--- What a line is, by its name and what is read behind it.
+-- What a line is, by its name and what is read after it.
 use Rattle.std.proofs.Common.{◌≡◌, ℕ, ◌<◌, List, length, map, Some, None, Result, Ok, Err, IfOk, refl, sym, ap, ◌∙◌, subst, arith}
 use Rattle.std.specs.List.{slice_get}
 use Rattle.std.proofs.lemmas.Option.{slice_get_within}
@@ -17,7 +17,7 @@ use Rattle.flux_items.specs.steps.Values.{Close}
 use Rattle.flux_items.specs.steps.Reading.{HasName, IsItemRead, IsUnknownRead, IsLineRead}
 use Rattle.flux_items.proofs.NamedLines.{same_name, spelled_named, named_spelled, named_not_over}
 
--- no name stands in the line
+-- no name is in the line
 pub bad_unnamed : (line : List ℕ) → (IsPassedOver line → ⊥) → ((name behind : List ℕ) → HasName line name behind → ⊥) → IsBadItem line
 bad_unnamed line read none = record { read = read; other = λ name values spelled. let n = spelled_named line name values spelled in none name n.behind n.has }
 
@@ -33,7 +33,7 @@ bad_values line name behind has none = record {
 same_kinds : (rules : ItemRules) (place : ℕ) (ks js : List Kind) → GivesKinds rules place ks → GivesKinds rules place js → js ≡ ks
 same_kinds rules place ks js one two = let e : Some ks ≡ Some js = sym one ∙ two in cc
 
--- behind a source's name
+-- after a source's name
 item_read : (rules : ItemRules) (line name behind : List ℕ) (place : ℕ) → HasName line name behind → IsNamed rules place name → (read : LineRead) → IsItemRead rules place behind read → IsLineRead rules line read
 item_read rules line name behind place has named reads.BadItem none = bad_values line name behind has none
 item_read rules line name behind place has named reads.ItemTypes h = record {
@@ -57,7 +57,7 @@ pub item_line_read : (rules : ItemRules) (line name behind : List ℕ) (place : 
 item_line_read rules line name behind place has named (Ok read) h = item_read rules line name behind place has named read h
 item_line_read rules line name behind place has named (Err e) h = tt
 
--- behind a name that no source has
+-- after a name that no source has
 unknown_read : (rules : ItemRules) (line name behind : List ℕ) → HasName line name behind → ((place : ℕ) → IsNamed rules place name → ⊥) → (read : LineRead) → IsUnknownRead behind read → IsLineRead rules line read
 unknown_read rules line name behind has none reads.BadItem h = bad_values line name behind has h
 unknown_read rules line name behind has none reads.UnknownSource h = record { name = name; values = h.0; spelled = named_spelled line name behind h.0 has h.1; unknown = none }

@@ -39,7 +39,7 @@ all_word (b ∷ rest) id =
     let start = and_left (is_word_start b) (list_all is_word_byte rest) id.word in
     rw (or_left (is_word_start b) (is_digit b) start) (and_right (is_word_start b) (list_all is_word_byte rest) id.word)
 
--- ---- a name ends where no byte of words stands
+-- ---- a name ends where there is no byte of words
 
 blank_no_word : (b : ℕ) → is_blank b ≡ true → is_word_byte b ≡ false
 blank_no_word b e = grind (arith, nat_tests)
@@ -64,7 +64,7 @@ prefix_all p (x ∷ xs) ys all none = rw (and_left (p x) (list_all p xs) all, pr
 abbrev word_of : List ℕ → ℕ
 word_of line = prefix_len is_word_byte (past_blanks line)
 
--- a line's name, and what stands behind it
+-- a line's name, and what follows it
 pub record NameParts (line name behind rest : List ℕ) : Type 0 where
   pub name_ : name ≡ take (word_of line) (past_blanks line)
   pub rest_ : rest ≡ drop (word_of line) (past_blanks line)
@@ -132,7 +132,7 @@ named_spelled line name behind values has close =
       laid = front_laid name (codes "(" ∷ closed_pieces s.spellings) line has.rest has.front (front_laid (codes "(") (closed_pieces s.spellings) has.rest behind has.open_ s.laid);
     }
 
--- ---- where no name stands
+-- ---- where there is no name
 
 pub no_open : (line text back rest : List ℕ) (k : ℕ) → text ≡ past_blanks line → k ≡ prefix_len is_word_byte text → back ≡ drop k text → rest ≡ past_blanks back
     → ((behind : List ℕ) → rest ≡ 40 ∷ behind → ⊥) → (name behind : List ℕ) → HasName line name behind → ⊥

@@ -163,7 +163,7 @@ each_once rules are (l ∷ lines) (x ∷ g) (y ∷ h) one two =
 items_once : (rules : ItemRules) → AreRules rules → (lines : List (List ℕ)) (is js : List Item) → GiveItems rules lines is → GiveItems rules lines js → is ≡ js
 items_once rules are lines is js one two = one.are ∙ ap (filter_map (λ item. item)) (each_once rules are lines one.given two.given one.each two.each) ∙ sym two.are
 
--- what stands before, at and behind a line gives what its items are made of
+-- what is before, at and after a line gives what its items are made of
 record Parted (rules : ItemRules) (before : List (List ℕ)) (line : List ℕ) (items : List Item) : Type 0 where
   first : List Item
   own : Option Item
@@ -221,7 +221,7 @@ no_fault_among rules are before line after lines items first fault is give withi
 pub no_items_and_fault : (rules : ItemRules) → AreRules rules → (text : List ℕ) (items : List Item) (fault : ItemFault) → AreItemsOf rules items text → IsFaultOf rules fault text → ⊥
 no_items_and_fault rules are text items fault all f = no_fault_among rules are f.before f.line f.after (lines_of text) items f.items fault f.lines all.give all.within f.give f.cause
 
--- of two places in one list the earlier stands before the later
+-- of two places in one list the earlier is before the later
 record Earlier (b : List (List ℕ)) (l : List ℕ) (c : List (List ℕ)) : Type 0 where
   more : List (List ℕ)
   is : c ≡ b ++ l ∷ more

@@ -1,4 +1,4 @@
--- What stands behind blanks, and the lines that are passed over.
+-- What follows blanks, and the lines that are passed over.
 use Rattle.std.proofs.Common.{◌≡◌, ◌↔◌, ◌⊎◌, inl, inr, ℕ, ◌&&◌, Bool, true, false, eqb, IsTrue, List, [], ◌∷◌, ◌++◌, length, drop, Option, Some, None, is_some, IfSome, IfNone, refl, sym, ap, ◌∙◌, subst, arith}
 use Rattle.std.proofs.lemmas.Bool.{false≢true}
 use Rattle.std.proofs.lemmas.Bool.Decides.{nat_tests}
@@ -25,7 +25,7 @@ dropped (b ∷ bytes) = one (is_blank b) refl (dropped bytes)
     one true e more = rw (e, one-add) more
     one false e more = rw e refl
 
--- behind a front of blanks
+-- after a front of blanks
 pub record Blanked (bytes : List ℕ) : Type 0 where
   pub front : List ℕ
   pub blanks : AreBlanks front
@@ -62,7 +62,7 @@ over_comment line rest e =
     let b = blanked line in
     inr (record { front = b.front; rest = rest; blanks = b.blanks; laid = b.laid ∙ ap (λ (l : List ℕ). b.front ++ l) e })
 
--- what is passed over has nothing behind its blanks, or a `#`
+-- what is passed over has nothing after its blanks, or a `#`
 pub over_is : (line : List ℕ) → IsPassedOver line → (past_blanks line ≡ []) ⊎ (past_blanks line ≡ 35 ∷ drop 1 (past_blanks line))
 over_is line (inl all) = inl (past_all line all)
 over_is line (inr c) =

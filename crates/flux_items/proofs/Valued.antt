@@ -21,7 +21,7 @@ bad_value text front at same cause value values close = cause.no_value value clo
 pub too_long : (text front : List ℕ) (at : ℕ) → front ≡ past_blanks text → HasCause (Err (faults.TooLong at)) front → NoneHere text
 too_long text front at same cause value values close = too_long_no_value front at value close.n cause (subst (λ (l : List ℕ). BeginsSpelled l value close.n) (sym same) close.begins)
 
--- a value that was read, and what stands behind it
+-- a value that was read, and what follows it
 pub value_read : (text front rest : List ℕ) (v : Value) (n : ℕ) (Then : List ℕ → Type 0) → front ≡ past_blanks text → HasCause (Ok (v, n)) front → rest ≡ past_blanks (drop n front) → Then rest → IsValueThen v text Then
 value_read text front rest v n Then same cause is then_ = record {
   n = n;
@@ -29,7 +29,7 @@ value_read text front rest v n Then same cause is then_ = record {
   then_ = subst Then (is ∙ ap (λ (l : List ℕ). past_blanks (drop n l)) same) then_;
 }
 
--- no other value stands there
+-- no other value is there
 record SameThen (v : Value) (text : List ℕ) (Then : List ℕ → Type 0) (w : Value) (n : ℕ) : Type 0 where
   value : v ≡ w
   then_ : Then (past_blanks (drop n (past_blanks text)))
@@ -56,7 +56,7 @@ first_values kinds text no_end = record { all = []; keeps = (refl, omega arith, 
     goes [] close = absurd (no_end close)
     goes (v ∷ vs) close = record { value = v; more = vs; are = refl; close = close }
 
--- a value with a comma behind it
+-- a value with a comma after it
 abbrev IsBeforeComma : Value → List ℕ → List ℕ → Type 0
 IsBeforeComma v rest behind = IsValueThen v rest (λ l. l ≡ 44 ∷ behind)
 

@@ -1,4 +1,4 @@
--- The faults of an items text, and where each stands.
+-- The faults of an items text, and where each is.
 use Rattle.std.specs.Prelude.{◌≡◌, ◌⊎◌, ℕ, ◌+◌, ◌<◌, List, [], ◌∷◌, ◌++◌, length, map, Result, Ok, Err}
 use Rattle.flux_values.specs.declared.values.Value.{Value}
 use Rattle.flux_values.specs.Values.{kind_of}
@@ -35,7 +35,7 @@ pub record HasOtherTypes (rules : ItemRules) (line : List ℕ) : Type 0 where
   pub named : IsNamed rules place name
   pub other : GivesKinds rules place (map kind_of values) → ⊥
 
--- the line spells an item that is one too many behind these, or takes the sizes past their limit
+-- the line spells an item that is one too many after these, or takes the sizes past their limit
 pub record IsTooMuch (rules : ItemRules) (items : List Item) (line : List ℕ) : Type 0 where
   pub item : Item
   pub spelled : IsItemLine rules line item

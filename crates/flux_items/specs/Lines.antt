@@ -6,7 +6,7 @@ use Rattle.std.specs.List.{list_all, slice_split}
 abbrev pub is_line_end : ℕ → Bool
 is_line_end b = b == 10
 
--- the lines: what stands before, between and behind the LFs; behind a last LF that is the empty line
+-- the lines: what is before, between and after the LFs; after a last LF that is the empty line
 abbrev pub lines_of : List ℕ → List (List ℕ)
 lines_of text = slice_split is_line_end text
 

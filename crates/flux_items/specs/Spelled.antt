@@ -5,7 +5,7 @@ use Rattle.flux_values.specs.Identifiers.{IsIdentifier}
 use Rattle.flux_values.specs.Spellings.{Spells}
 use Rattle.flux_items.specs.Lines.{AreBlanks}
 
--- pieces in order, with blanks or none before, between and behind them
+-- pieces in order, with blanks or none before, between and after them
 abbrev pub AreLaid : List (List ℕ) → List ℕ → Type 0
 AreLaid [] bytes = AreBlanks bytes
 AreLaid (piece ∷ pieces) bytes = (blanks : List ℕ) × (rest : List ℕ)
@@ -17,7 +17,7 @@ with_commas [] = []
 with_commas (piece ∷ []) = piece ∷ []
 with_commas (piece ∷ next ∷ pieces) = piece ∷ codes "," ∷ with_commas (next ∷ pieces)
 
--- what stands behind `(`: spellings with commas between them, and `)`
+-- what follows `(`: spellings with commas between them, and `)`
 abbrev pub closed_pieces : List (List ℕ) → List (List ℕ)
 closed_pieces spellings = with_commas spellings ++ codes ")" ∷ []
 

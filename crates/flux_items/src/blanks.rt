@@ -18,7 +18,7 @@ fn blank_length(text: &[u8]) -> usize
     text.iter().take_while(|byte| is_blank(**byte)).count()
 }
 
-/// What stands behind the blanks at the front.
+/// What follows the blanks at the front.
 pub fn skip_blanks(text: &[u8]) -> &[u8]
     ensures rest { result.now ≡ past_blanks text.now }
     ensures within { length result.now ≤ length text.now }
@@ -32,7 +32,7 @@ pub fn are_blanks(text: &[u8]) -> bool
     text.iter().all(|byte| is_blank(*byte))
 }
 
-/// What stands behind a mark at the front.
+/// What follows a mark at the front.
 pub fn behind(mark: u8, text: &[u8]) -> Option<&[u8]>
     ensures found { IfSome result (λ rest. text.now ≡ mark ∷ rest.now) }
     ensures none { IfNone result ((rest : List ℕ) → text.now ≡ mark ∷ rest → ⊥) }
@@ -43,7 +43,7 @@ pub fn behind(mark: u8, text: &[u8]) -> Option<&[u8]>
     }
 }
 
-/// Whether a line has blanks alone, or a `#` behind its blanks.
+/// Whether a line has blanks alone, or a `#` after its blanks.
 pub fn is_passed_over(line: &[u8]) -> bool
     ensures { IsTrue result ↔ IsPassedOver line.now }
 {

@@ -21,7 +21,7 @@ use std::alloc::Global;
 /// Lines end with LF, which the last may lack. A line of blanks (space, tab and CR) is passed over, and
 /// so is one whose first other byte is `#`. Each other line is a source's name, `(`, values in any
 /// spelling that `read_value` takes with commas between them, and `)`, with blanks before, between and
-/// behind these.
+/// after these.
 pub fn read_items(alloc: Global, bytes: &[u8], rules: &ItemRules) -> Result<List<Item>, ItemFault>
     requires { AreRules rules.now }
     // Each answer has its cause.

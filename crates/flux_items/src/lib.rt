@@ -2,7 +2,7 @@
 //!
 //! `read_items` gives exactly the items of the text, in order, or the fault of its first faulty line
 //! with that line's number. Which lines spell an item, which are passed over and where each fault
-//! stands is said by relations on the text's lines, in both directions; want of memory alone is free.
+//! applies is said by relations on the text's lines, in both directions; want of memory alone is free.
 #![tactic(auto)]
 
 mod blanks;

@@ -22,7 +22,7 @@ pub enum LineRead {
     ItemTypes,
 }
 
-/// The identifier before a `(`, and what stands behind it.
+/// The identifier before a `(`, and what follows it.
 fn split_name(line: &[u8]) -> Option<(&[u8], &[u8])>
     ensures found { IfSome result (λ parts. HasName line.now parts.0.now parts.1.now) }
     ensures none { IfNone result ((name behind : List ℕ) → HasName line.now name behind → ⊥) }
@@ -49,7 +49,7 @@ fn kinds_at(rules: &ItemRules, place: usize) -> &[Kind]
     }
 }
 
-/// The values behind a source's name.
+/// The values after a source's name.
 fn read_item(
     alloc: Global,
     rules: &ItemRules,
@@ -70,7 +70,7 @@ fn read_item(
     })
 }
 
-/// The values behind a name that no source has.
+/// The values after a name that no source has.
 fn read_unknown(alloc: Global, text: &[u8]) -> Result<LineRead, Memory>
     ensures { IfOk result (IsUnknownRead text.now) }
 {

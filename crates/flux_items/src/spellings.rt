@@ -10,14 +10,14 @@ use flux_spelling::read_value;
 use flux_values::{Kind, List, Memory, Value, ValueFault};
 use std::alloc::Global;
 
-/// One value, and what stands behind it.
+/// One value, and what follows it.
 #[derive(Drop)]
 pub enum Next<'a> {
-    /// No value, or something else behind it.
+    /// No value, or something else after it.
     Bad,
-    /// The last value: `)` and blanks alone stand behind it.
+    /// The last value: `)` and blanks alone come after it.
     Last(Value),
-    /// A value with a comma behind it, and what stands behind that.
+    /// A value with a comma after it, and what follows that.
     More(Value, &'a [u8]),
 }
 
@@ -41,7 +41,7 @@ fn ends(rest: &[u8]) -> bool
     }
 }
 
-/// The value at the front, and what stands behind it.
+/// The value at the front, and what follows it.
 pub fn read_next<'a>(alloc: Global, text: &'a [u8]) -> Result<Next<'a>, Memory>
     ensures { IfOk result (IsNext text.now) }
 {
@@ -100,7 +100,7 @@ impl<'a> Kept<'a> {
     }
 }
 
-/// The values behind `(`, up to the end of the line, where they are of these kinds.
+/// The values after `(`, up to the end of the line, where they are of these kinds.
 pub fn read_values(alloc: Global, kinds: &[Kind], text: &[u8]) -> Result<ValuesRead, Memory>
     ensures { IfOk result (AreRead kinds.now text.now) }
 {

@@ -17,7 +17,7 @@ fn is_word_byte(byte: u8) -> bool
     is_word_start(byte) || byte.is_ascii_digit()
 }
 
-/// How many bytes of words stand at the front.
+/// How many bytes of words are at the front.
 pub fn word_length(text: &[u8]) -> usize
     ensures value { result ≡ prefix_len is_word_byte text.now }
     ensures within { result ≤ length text.now }

@@ -1,4 +1,4 @@
--- No line end stands in the printed line of an entry.
+-- No line end is in the printed line of an entry.
 use Rattle.std.proofs.Common.{◌≡◌, ◌≢◌, ℕ, ◌<◌, ◌^◌, Bool, true, false, eqb, List, [], ◌∷◌, ◌++◌, Option, Some, None, codes, refl, sym, subst, arith}
 use Rattle.std.specs.List.{AllByRecursion, concat, flat_map, slice_get}
 use Rattle.std.specs.Char.{digit_value}

@@ -38,7 +38,7 @@ cut_found m i text is lt =
 pub cut_none : (m i : ℕ) (text : List ℕ) → i ≡ position_or_len (λ b. eqb b m) text → i ≡ length text → HasNone m text
 cut_none m i text is all = subst (HasNone m) (take_all i text (omega (arith, all))) (subst (λ (k : ℕ). HasNone m (take k text)) (sym is) (none_before m text))
 
--- a mark stands behind bytes that aren't marks in one way
+-- a text is cut in one way into bytes that aren't marks and a mark after them
 pub record SameCut (a b x y : List ℕ) : Type 0 where
   pub front : a ≡ b
   pub rest : x ≡ y
@@ -56,7 +56,7 @@ same_cut m (c ∷ a) (d ∷ b) x y none clean e =
     let s = same_cut m a b x y none.1 clean.1 tails in
     record { front = ap (λ (k : ℕ). k ∷ a) heads ∙ ap (λ (t : List ℕ). d ∷ t) s.front; rest = s.rest }
 
--- no mark stands where there is none
+-- no mark is where there is none
 pub no_cut : (m : ℕ) (a b y : List ℕ) → HasNone m a → a ≡ b ++ m ∷ y → ⊥
 no_cut m [] [] y none e = absurd cc
 no_cut m [] (c ∷ b) y none e = absurd cc
@@ -89,7 +89,7 @@ number_part bytes limit read n small begins part number is =
 pub one_number : (limit k j : ℕ) → limit < 2 ^ 64 → k ≤ limit → j ≤ limit → decimal k ≡ decimal j → k ≡ j
 one_number limit k j small first second e = let same = one_decimal limit k j [] [] small first second tt tt (append-nil (decimal k) ∙ e ∙ sym (append-nil (decimal j))) in same.0
 
--- ---- what stands behind a word
+-- ---- what follows a word
 
 pub found_front : (s p : List ℕ) (r : Option (Bor (List ℕ))) → MatchOption r ((rest : List ℕ) → s ≡ p ++ rest → ⊥) (λ x. s ≡ p ++ x.now) → IfSome r (λ x. s ≡ p ++ x.now)
 found_front s p None h = tt

@@ -16,7 +16,7 @@ length_one n h = ap length (decimal_digit n h)
 pub length_step : (n : ℕ) → 10 ≤ n → n < 2 ^ 64 → length (decimal n) ≡ length (decimal (n / 10)) + 1
 length_step n low h = ap length (decimal_step n low h) ∙ length-append _ _
 
--- a number's digits and what is laid behind them
+-- a number's digits and what is laid after them
 pub piece_is : (n start k : ℕ) (laid rest behind : List ℕ) → start ≤ 20 → length laid ≡ 20 + length rest
     → drop start laid ≡ decimal n ++ rest → take (20 + length behind - start) (drop start (put_mid 20 k laid behind)) ≡ decimal n ++ behind
 piece_is n start k laid rest behind early room written =

@@ -29,7 +29,7 @@ identifiers f (x ∷ xs) e =
     let one = both_true (is_word (f x)) (not (list_any (bytes_eq (f x)) reserved_words)) two.0 in
     (record { word = one.0; free = not_back (list_any (bytes_eq (f x)) reserved_words) one.1 }, identifiers f xs two.1)
 
--- each name is another than those behind it
+-- each name is another than those after it
 abbrev apart : List (List ℕ) → Bool
 apart [] = true
 apart (name ∷ names) = not (list_any (bytes_eq name) names) && apart names

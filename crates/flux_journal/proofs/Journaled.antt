@@ -31,7 +31,7 @@ each_clean m [] none k d lt = absurd (omega arith)
 each_clean m (b ∷ text) none zero d lt = none.0
 each_clean m (b ∷ text) none (suc k) d lt = each_clean m text none.1 k d (omega arith)
 
--- behind a line there is another, be it empty
+-- after a line there is another, be it empty
 keeps_first : (line : List ℕ) (pieces : List (List ℕ)) → 0 < length pieces → without_empty_last (line ∷ pieces) ≡ line ∷ without_empty_last pieces
 keeps_first line [] some = absurd (omega arith)
 keeps_first [] (piece ∷ pieces) some = refl
@@ -125,7 +125,7 @@ read_bad p text rest line behind entries first number so is_first none = record 
   place = so.place;
 }
 
--- what was told where the entries failed is the answer
+-- what was answered where the entries failed is the answer
 pub entries_fail : (p : Program) (lines : List (List ℕ)) (first : ℕ) (fault : JournalFault) (r : Result Journal JournalFault) → IsErrAnd r (λ f. f ≡ fault) → AreEntriesRead p lines first (Err fault) → AreEntriesRead p lines first r
 entries_fail p lines first fault (Ok journal) is h = absurd is
 entries_fail p lines first fault (Err f) is h = subst (λ g. AreEntriesRead p lines first (Err g)) (sym is) h
@@ -135,7 +135,7 @@ entries_fail p lines first fault (Err f) is h = subst (λ g. AreEntriesRead p li
 abbrev head_word : List ℕ
 head_word = codes "flux journal 2 flows "
 
--- what stands behind the first word of a head line
+-- what follows the first word of a head line
 abbrev head_counts : ℕ → ℕ → List ℕ
 head_counts flows events = decimal flows ++ 32 ∷ (codes "events " ++ decimal events)
 
@@ -313,7 +313,7 @@ not_both : (p : Program) (text : List ℕ) (number : ℕ) (journal : Journal) �
 not_both p text number journal (inl head) reads = head.other reads.head
 not_both p text number journal (inr b) reads = good_at p b.before b.line b.after journal.entries (subst (λ (l : List (List ℕ)). AreEntryLines p l journal.entries) b.lines reads.lines) b.bad
 
--- of two places in one list the earlier stands before the later
+-- of two places in one list the earlier is before the later
 record Earlier (b : List (List ℕ)) (l : List ℕ) (c : List (List ℕ)) : Type 0 where
   more : List (List ℕ)
   is : c ≡ b ++ l ∷ more

@@ -37,7 +37,7 @@ all_clean : (m : ℕ) → is_word_byte m ≡ false → (bytes : List ℕ) → li
 all_clean m free [] e = tt
 all_clean m free (b ∷ bytes) e = let both = both_true (is_word_byte b) (list_all is_word_byte bytes) e in (other_byte b m (eqb b m) refl both.0 free, all_clean m free bytes both.1)
 
--- free byte that isn't a word's stands in an identifier
+-- free byte that isn't a word's is in an identifier
 pub identifier_clean : (m : ℕ) → is_word_byte m ≡ false → (name : List ℕ) → IsIdentifier name → HasNone m name
 identifier_clean m free [] is = tt
 identifier_clean m free (b ∷ bytes) is =

@@ -27,7 +27,7 @@ use Rattle.flux_journal.proofs.Called.{at_place, next_once, no_next_closed, valu
 
 -- ---- words
 
--- nothing stands behind a word that isn't there
+-- nothing comes after a word that isn't there
 pub not_behind : {X : Type 0} (word text : List ℕ) (Then : X → List ℕ → List ℕ → Type 0) → IsNotBehind word text → (x : X) (tail : List ℕ) → Behind word (Then x tail) text → ⊥
 not_behind word text Then none x tail b = none b.rest b.laid
 
@@ -52,7 +52,7 @@ more_pushed old now new text rest front behind v so laid begins is = record {
   each = each_push BeginsNext next_once so.more v text rest behind so.each (record { rest = front; laid = laid; then_ = begins });
 }
 
--- no value stands behind a comma
+-- no value comes after a comma
 pub more_bad : (old now : List Value) (text rest front : List ℕ) → AreAdded old now text rest → rest ≡ codes ", " ++ front → BeginsNone BeginsValue front → NoMore text
 more_bad old now text rest front so laid none more tail each = elim (each_alike BeginsNext next_once so.more more text rest (codes ")" ++ tail) so.each each) [
   | inl on ↦ let o = over BeginsNext next_once on.more rest (codes ")" ++ tail) no_next on.each in at_place 0 44 41 (codes ", " ++ front) (codes ")" ++ tail) refl refl (omega arith) (sym laid ∙ o.1)
@@ -62,7 +62,7 @@ more_bad old now text rest front so laid none more tail each = elim (each_alike 
     no_next : (v : Value) (behind : List ℕ) → BeginsNext rest v behind → ⊥
     no_next v behind next = none v behind (subst (λ (t : List ℕ). BeginsValue t v behind) (behind_word (codes ", ") next.rest front rest next.laid laid) next.then_)
 
--- behind a first value
+-- after a first value
 pub closed_no_value : (text : List ℕ) → IsNotBehind (codes ")") text → BeginsNone BeginsValue text → BeginsNone BeginClosed text
 closed_no_value text open_ none [] tail closed = open_ tail closed
 closed_no_value text open_ none (v ∷ vs) tail closed = none v closed.rest closed.part
@@ -98,7 +98,7 @@ cell_none p named text front behind cut none cell tail b =
 pub cell_no_space : (p : Program) (text : List ℕ) → HasNone 32 text → BeginsNone (BeginsCell p) text
 cell_no_space p text clean cell tail b = no_cut 32 text cell tail clean (b.laid ∙ append_assoc cell (32 ∷ []) tail)
 
--- what stands behind ` put ` has its parts
+-- what follows ` put ` has its parts
 module _ (p : Program) (named : IsNamed p) (text mid : List ℕ) (cell : List ℕ) (begins : BeginsCell p text cell mid) where
   pub set_no_name : BeginsNone BeginsName mid → (put : Put) (tail : List ℕ) → BeginsSet p text put tail put.value → ⊥
   set_no_name none put tail set = by_value put.value set
@@ -148,7 +148,7 @@ module _ (p : Program) (named : IsNamed p) (text mid : List ℕ) (cell : List �
           let same = cell_once p named text cell put.cell mid b.rest begins.is_cell h.0 begins.laid b.laid in
           none put.name tail (subst (λ (t : List ℕ). BeginsName t put.name tail) (sym same.rest) b.then_)
 
--- behind its mark a change has its parts
+-- after its mark a change has its parts
 pub bad_set : (p : Program) (text front : List ℕ) → text ≡ codes " put " ++ front → ((put : Put) (tail : List ℕ) → BeginsSet p front put tail put.value → ⊥) → IsBadPut p text
 bad_set p text front laid none = record { marked = λ no_. no_.no_put front laid; none = λ put tail begins. by_value put tail begins.cell put.value begins.change (λ v. none put tail) }
   where
@@ -167,7 +167,7 @@ bad_removed p text front laid none = record { marked = λ no_. no_.no_cut front 
         let same = behind_word (codes " cut ") change.rest front text change.laid laid in
         no_cut_ None (is, subst (λ (t : List ℕ). Behind (put.cell ++ codes " ") (λ front_. BeginsValue front_ (values.Text put.name) tail) t) same change.then_)
 
--- no changes stand before an emission where one is bad
+-- no changes are before an emission where one is bad
 pub puts_bad : (p : Program) → IsNamed p → (text rest : List ℕ) (puts : List Put) → BeginEach (BeginsPut p) text puts rest → IsBadPut p rest → NoPuts p text
 puts_bad p named text rest puts so bad others tail emits each emission = elim (each_alike (BeginsPut p) (put_once p named) puts others text rest tail so each) [
   | inl on ↦ more on.more on.each
@@ -236,7 +236,7 @@ module _ (p : Program) (named : IsNamed p) (node : NodeNo) (text : List ℕ) whe
       let one = values_once args made.args text mid (codes " " ++ call.result_text) begins call.args in
       none call.result_text one.rest
 
-  -- what stands where a result has to
+  -- what is in the place of a result
   result_there : (args : List Value) (mid rest : List ℕ) → BeginValues text args mid → mid ≡ codes " " ++ rest → (made : CallMade) (call : IsCallText p text made) → BeginsResult rest made.answer.result call.puts_text
   result_there args mid rest begins laid made call =
       let one = values_once args made.args text mid (codes " " ++ call.result_text) begins call.args in
@@ -246,7 +246,7 @@ module _ (p : Program) (named : IsNamed p) (node : NodeNo) (text : List ℕ) whe
   pub call_no_result : (args : List Value) (mid rest : List ℕ) → BeginValues text args mid → mid ≡ codes " " ++ rest → BeginsNone BeginsResult rest → (made : CallMade) → IsCallAt p node text made → ⊥
   call_no_result args mid rest begins laid none made is = let call = is.0 in none made.answer.result call.puts_text (result_there args mid rest begins laid made call)
 
-  -- what stands where changes have to
+  -- what is in the place of changes
   puts_there : (args : List Value) (mid rest left : List ℕ) (given : CallResult) → BeginValues text args mid → mid ≡ codes " " ++ rest → BeginsResult rest given left → (made : CallMade) (call : IsCallText p text made) → BeginEach (BeginsPut p) left made.answer.puts call.emission_text
   puts_there args mid rest left given begins laid result_ made call =
       let one = result_once rest given made.answer.result left call.puts_text result_ (result_there args mid rest begins laid made call) in

@@ -5,7 +5,7 @@ use Rattle.std.proofs.lemmas.Grind.{flat_map-append}
 use Rattle.std.proofs.lemmas.List.{reverse-append, take-append-drop}
 use Rattle.flux_journal.specs.steps.Paged.{text_of}
 
--- a page of the lines from a place on stands before the later ones: behind the lines that are left, the text is as long as before
+-- a page of the lines from a place on comes before the later ones: after the lines that are left, the text is as long as before
 pub printed_last : {A : Type 0} (line : A → List ℕ) (all left : List A) (from : ℕ) (page : List ℕ) (later more : List (List ℕ))
     → left ≡ take from all → page ≡ flat_map line (drop from all) → more ≡ later ++ page ∷ []
     → flat_map line left ++ text_of (reverse more) ≡ flat_map line all ++ text_of (reverse later)

@@ -11,12 +11,12 @@ use Rattle.flux_spelling.proofs.Decimals.{one_decimal}
 use Rattle.flux_spelling.proofs.Fronts.{IsHead, begins_head}
 use Rattle.flux_journal.specs.Spelled.{BeginEach, BeginsValue, BeginsCode}
 
--- the same was given, with the same behind it
+-- the same was given, with the same after it
 pub record Same {X : Type 0} (x y : X) (a b : List ℕ) : Type 0 where
   pub given : x ≡ y
   pub rest : a ≡ b
 
--- what stands behind a word
+-- what follows a word
 pub behind_word : (word a b text : List ℕ) → text ≡ word ++ a → text ≡ word ++ b → a ≡ b
 behind_word word a b text first second = append_cancel_left word a b (sym first ∙ second)
 

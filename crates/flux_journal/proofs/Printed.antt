@@ -39,7 +39,7 @@ use Rattle.flux_journal.proofs.Journaled.{line_first, reads_by}
 
 -- ---- values
 
--- what may stand behind a value in a list
+-- what may follow a value in a list
 ends_more : (v : Value) (vs : List Value) (tail : List ℕ) → EndsBefore v (more vs ++ (codes ")" ++ tail))
 ends_more (values.Int n) [] tail = refl
 ends_more (values.Int n) (w ∷ vs) tail = refl
@@ -121,7 +121,7 @@ change_begins p put (Some v) tail is value ends =
       };
     }
 
--- what stands behind a result, or behind a change
+-- what follows a result, or a change
 change_ends : (put : Put) (v : Option Value) (tail : List ℕ) → NoDigitFirst (printed_change put v ++ tail)
 change_ends put None tail = refl
 change_ends put (Some v) tail = refl

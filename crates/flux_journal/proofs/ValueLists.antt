@@ -6,7 +6,7 @@ use Rattle.flux_values.specs.declared.values.Value.{Value}
 use Rattle.flux_values.specs.Texts.{printed_value}
 use Rattle.flux_journal.specs.steps.Listed.{listed}
 
--- values behind a first one
+-- values after a first one
 abbrev pub more : List Value → List ℕ
 more [] = []
 more (v ∷ vs) = codes ", " ++ (printed_value v ++ more vs)

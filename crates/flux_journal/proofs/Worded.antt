@@ -1,4 +1,4 @@
--- An event's text by its word and what stands behind it.
+-- An event's text by its word and what follows it.
 use Rattle.std.proofs.Common.{◌≡◌, ℕ, true, not, eqb, cond, List, [], ◌∷◌, ◌++◌, Option, Some, None, Result, Ok, Err, codes, refl, sym, ap, ◌∙◌, subst}
 use Rattle.std.specs.List.{list_all}
 use Rattle.std.specs.Str.{bytes_eq}
@@ -60,7 +60,7 @@ same_word v w e = let both : Some v ≡ Some w = sym (again v) ∙ ap read_back 
 
 -- ---- events
 
--- what stands behind an event's word
+-- what follows an event's word
 pub record HasRest (p : Program) (text : List ℕ) (event : Event) : Type 0 where
   pub rest : List ℕ
   pub laid : text ≡ word_text (word_of event) ++ 32 ∷ rest
@@ -112,7 +112,7 @@ event_no_word p text front behind cut none event is =
     let same = same_cut 32 front (word_text (word_of event)) behind r.rest cut.none (word_clean (word_of event)) (sym cut.laid ∙ r.laid) in
     none (word_of event) same.front
 
--- what is read behind a word
+-- what is read after a word
 pub event_read : (p : Program) (text front behind : List ℕ) (w : Word) → IsCut 32 text front behind → front ≡ word_text w → (r : Result Event _) → IsRestRead p w behind r → IsWholeRead (IsEventText p text) r
 event_read p text front behind w cut is (Ok event) read =
     rest_back p text behind event read.1 (cut.laid ∙ ap (λ (t : List ℕ). t ++ 32 ∷ behind) (is ∙ ap word_text (sym read.0)))

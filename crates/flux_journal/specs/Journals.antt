@@ -34,7 +34,7 @@ lines_of text = without_empty_last (slice_split is_line_end text)
 abbrev pub is_headed : List ℕ → Bool
 is_headed text = starts_with nat_eq text head_mark
 
--- how many lines stand before the events'
+-- how many lines are before the events'
 abbrev pub head_count : Bool → ℕ
 head_count true = 1
 head_count false = 0

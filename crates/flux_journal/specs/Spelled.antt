@@ -18,15 +18,15 @@ use Rattle.flux_model.specs.Texts.{node_name}
 use Rattle.flow_model.specs.Texts.{printed_event}
 use Rattle.flux_journal.specs.Entries.{IsNodeOf, IsKeyOf, IsOutcome, IsCellOf, IsTextOf}
 
--- ---- what begins a text, and what stands behind it
+-- ---- what begins a text, and what follows it
 
--- a word, and behind it what has to be
+-- a word, and after it what has to follow
 pub record Behind (word : List ℕ) (Then : List ℕ → Type 0) (text : List ℕ) : Type 0 where
   pub rest : List ℕ
   pub laid : text ≡ word ++ rest
   pub then_ : Then rest
 
--- a part that gives something, and behind it what has to be
+-- a part that gives something, and after it what has to follow
 pub record Before {X : Type 0} (Part : List ℕ → X → List ℕ → Type 0) (Then : List ℕ → Type 0)
     (text : List ℕ) (given : X) : Type 0 where
   pub rest : List ℕ
@@ -41,14 +41,14 @@ BeginEach Part text (x ∷ xs) rest = Before Part (λ behind. BeginEach Part beh
 
 -- ---- a call
 
--- a spelling of a value; behind that of an Int stands no digit
+-- a spelling of a value; after that of an Int is no digit
 pub record BeginsValue (text : List ℕ) (value : Value) (rest : List ℕ) : Type 0 where
   pub spelling : List ℕ
   pub spells : Spells spelling value
   pub ends : EndsBefore value rest
   pub laid : text ≡ spelling ++ rest
 
--- a value behind a comma and a space
+-- a value after a comma and a space
 abbrev pub BeginsNext : List ℕ → Value → List ℕ → Type 0
 BeginsNext text value rest = Behind (codes ", ") (λ front. BeginsValue front value rest) text
 
@@ -93,7 +93,7 @@ IsEmission text [] = text ≡ []
 IsEmission text (b ∷ bytes) = Behind (codes " emits ")
     (λ front. SpellsText front (b ∷ bytes) × IsTextOf EMISSION_LIMIT (b ∷ bytes)) text
 
--- what stands behind the node's name
+-- what follows the node's name
 pub record IsCallText (p : Program) (text : List ℕ) (made : CallMade) : Type 0 where
   pub result_text : List ℕ
   pub puts_text : List ℕ
@@ -105,7 +105,7 @@ pub record IsCallText (p : Program) (text : List ℕ) (made : CallMade) : Type 0
 
 -- ---- lines
 
--- a line's text behind the flow's number
+-- a line's text after the flow's number
 abbrev pub IsEventText : Program → List ℕ → Event → Type 0
 IsEventText p text (Take key mode) = IsKeyOf p key × (text ≡ printed_event p (Take key mode))
 IsEventText p text (Wait key mode) = IsKeyOf p key × (text ≡ printed_event p (Wait key mode))

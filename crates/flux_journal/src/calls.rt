@@ -1,4 +1,4 @@
-//! Calls: what stands behind the node's name.
+//! Calls: what follows the node's name.
 
 ghost use Rattle.std.specs.Prelude.{◌≡◌, IfOk};
 ghost use Rattle.flux_model.specs.Names.{IsNamed};
@@ -88,7 +88,7 @@ impl Cursor<'_> {
         }
     }
 
-    /// Goes past what stands behind ` put `.
+    /// Goes past what follows ` put `.
     fn set(&mut self, alloc: Global, program: &Program) -> Result<Put, LineFault>
         requires { IsNamed program.now }
         ensures { IsPartRead (λ text put rest. BeginsSet program.now text put rest put.value)
@@ -105,7 +105,7 @@ impl Cursor<'_> {
         })
     }
 
-    /// Goes past what stands behind ` cut `.
+    /// Goes past what follows ` cut `.
     fn removed(&mut self, alloc: Global, program: &Program) -> Result<Put, LineFault>
         requires { IsNamed program.now }
         ensures { IsPartRead (λ text put rest. BeginsRemoved program.now text put rest put.value)
@@ -192,7 +192,7 @@ fn call_made(
     Ok(CallMade { node, args, answer })
 }
 
-/// The call of a node, of what stands behind the node's name.
+/// The call of a node, of what follows the node's name.
 pub fn read_call(
     alloc: Global,
     program: &Program,

@@ -33,7 +33,7 @@ impl Cursor<'_> {
         }
     }
 
-    /// Goes past a word that has to stand here.
+    /// Goes past a word that has to be here.
     pub fn expect(&mut self, word: &[u8]) -> Result<(), LineFault>
         ensures { IsWordRead word.now self.old.rest.now self.new.rest.now result }
     {

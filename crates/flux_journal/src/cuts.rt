@@ -1,4 +1,4 @@
-//! Texts cut at a byte, behind a word, and read as a number.
+//! Texts cut at a byte, after a word, and read as a number.
 
 ghost use Rattle.std.specs.Prelude.{◌≡◌, ◌≤◌, ◌++◌, ◌==◌, ℕ, List, IfSome, IfNone, length};
 ghost use Rattle.std.specs.List.{position_or_len};
@@ -6,7 +6,7 @@ ghost use Rattle.flux_journal.specs.steps.Cuts.{IsCut, HasNone, IsNumber};
 
 use flux_spelling::read_decimal;
 
-/// How many bytes stand before the first mark, or in all.
+/// How many bytes are before the first mark, or in all.
 fn length_before(mark: u8, text: &[u8]) -> usize
     ensures value { result ≡ position_or_len (λ b. b == mark) text.now }
     ensures within { result ≤ length text.now }
@@ -18,7 +18,7 @@ fn length_before(mark: u8, text: &[u8]) -> usize
     place
 }
 
-/// What stands before and behind the first mark.
+/// What is before and after the first mark.
 pub fn cut(mark: u8, text: &[u8]) -> Option<(&[u8], &[u8])>
     ensures found { IfSome result (λ parts. IsCut mark text.now parts.0.now parts.1.now) }
     ensures none { IfNone result (HasNone mark text.now) }
@@ -30,7 +30,7 @@ pub fn cut(mark: u8, text: &[u8]) -> Option<(&[u8], &[u8])>
     Some((&text[..place], &text[place + 1..]))
 }
 
-/// What stands behind a word at the front.
+/// What follows a word at the front.
 pub fn behind<'a>(word: &[u8], text: &'a [u8]) -> Option<&'a [u8]>
     ensures found { IfSome result (λ rest. text.now ≡ word.now ++ rest.now) }
     ensures none { IfNone result ((rest : List ℕ) → text.now ≡ word.now ++ rest → ⊥) }

@@ -8,7 +8,7 @@ use crate::quotes::append_quoted;
 use flux_values::{Bytes, Memory, Value};
 use std::alloc::Global;
 
-/// How many bytes a piece has room for: a number's twenty digits, and what stands behind them.
+/// How many bytes a piece has room for: a number's twenty digits, and what follows them.
 const PIECE_LENGTH: usize = 64;
 
 /// Adds a number in decimal digits at the end.
@@ -20,7 +20,7 @@ pub fn append_number(out: &mut Bytes, number: u64) -> Result<(), Memory>
     out.append(&digits[start..])
 }
 
-/// Adds a number in decimal digits, and bytes behind it, at the end: as one piece where the bytes are few.
+/// Adds a number in decimal digits, and bytes after it, at the end: as one piece where the bytes are few.
 pub fn append_number_with(out: &mut Bytes, number: u64, behind: &[u8]) -> Result<(), Memory>
     ensures { OnOk result (out.new ≡ out.old ++ (decimal number ++ behind.now)) }
 {
@@ -35,14 +35,14 @@ pub fn append_number_with(out: &mut Bytes, number: u64, behind: &[u8]) -> Result
     out.append(&piece[start..end])
 }
 
-/// Adds a value's spelling at the end. After an `Err` a part of it may stand there.
+/// Adds a value's spelling at the end. After an `Err` a part of it may be there.
 pub fn append_value(alloc: Global, out: &mut Bytes, value: &Value) -> Result<(), Memory>
     ensures { OnOk result (out.new ≡ out.old ++ printed_value value.now) }
 {
     append_value_with(alloc, out, value, b"")
 }
 
-/// Adds a value's spelling, and bytes behind it, at the end. After an `Err` a part of them may stand there.
+/// Adds a value's spelling, and bytes after it, at the end. After an `Err` a part of them may be there.
 #[inline(always)]
 pub fn append_value_with(
     alloc: Global,

@@ -82,7 +82,7 @@ pub fn read_journal(alloc: Global, program: &Program, bytes: &[u8]) -> Result<Jo
         → IsOrMemory faults.Memory (Ok journal) result }
     ensures bad { (line : ℕ) → IsBadLine program.now bytes.now line
         → IsOrMemory faults.Memory (Err (faults.BadLine line)) result }
-    // A bad head is told without taking memory.
+    // A bad head is answered without taking memory.
     ensures head { (IsWellHeaded bytes.now → ⊥) → result ≡ Err (faults.BadLine 1) }
     // The printed texts of a journal of the program's entries are read as that journal.
     ensures again { (journal : Journal) → AreEntriesOf program.now journal.entries

@@ -1,4 +1,4 @@
-//! What stands in the lines of keys that are taken, waited for and dropped, by the class of the key.
+//! What is in the lines of keys that are taken, waited for and dropped, by the class of the key.
 
 ghost use Rattle.std.specs.Prelude.{◌≡◌, ◌++◌, [], IfOk, OnOk, map};
 ghost use Rattle.flux_journal.specs.steps.KeyPhrases.{key_behind, key_text, key_text_in, class_text_in, key_phrases_with, class_phrases_of};
@@ -7,7 +7,7 @@ use flux_model::{Class, Mode};
 use flux_values::{Bytes, List, Memory};
 use std::alloc::Global;
 
-/// How a key's line goes on behind its flow's number: a word, the key, in which mode it is taken or waited for, and LF.
+/// How a key's line goes on after its flow's number: a word, the key, in which mode it is taken or waited for, and LF.
 #[derive(Clone, Copy)]
 pub enum KeyPhrase {
     Take(Mode),
@@ -16,7 +16,7 @@ pub enum KeyPhrase {
 }
 
 impl KeyPhrase {
-    /// What stands behind the key.
+    /// What follows the key.
     pub fn behind(self) -> &'static [u8]
         ensures { result.now ≡ key_behind self }
     {
@@ -116,7 +116,7 @@ fn print_key(alloc: Global, phrase: KeyPhrase, numbered: bool, name: &[u8]) -> R
     Ok(out)
 }
 
-/// Adds a word and a class's name, and `@` where a number comes, or else what stands behind the key.
+/// Adds a word and a class's name, and `@` where a number comes, or else what follows the key.
 pub fn append_key_phrase(
     out: &mut Bytes,
     phrase: KeyPhrase,

@@ -111,7 +111,7 @@ impl<'a> Reader<'a> {
         Some((node, outcome))
     }
 
-    /// The event of a word and what stands behind it, unless it is a call.
+    /// The event of a word and what follows it, unless it is a call.
     fn plain(&self, word: Word, text: &[u8]) -> Option<Event>
         requires ready { IsReady self.now.program.now self.now.names }
         requires plain { word ≢ Word.Call }
@@ -157,7 +157,7 @@ impl<'a> Reader<'a> {
         }
     }
 
-    /// The event of a word and what stands behind it.
+    /// The event of a word and what follows it.
     fn behind_word(&self, word: Word, text: &[u8]) -> Result<Event, LineFault>
         requires { IsReady self.now.program.now self.now.names }
         ensures { IsRestRead self.now.program.now word text.now result }

@@ -7,7 +7,7 @@ ghost use Rattle.flux_journal.specs.steps.Parts.{IsCodeText, IsExitText, IsEndTe
 use crate::cuts::{behind, read_number};
 use flow_model::Outcome;
 
-/// The code behind `fail `.
+/// The code after `fail `.
 fn read_failure(bytes: &[u8]) -> Option<u16>
     ensures found { IfSome result (IsCodeText bytes.now) }
     ensures none { IfNone result ((code : ℕ) → IsCodeText bytes.now code → ⊥) }

@@ -41,7 +41,7 @@ impl Pages {
         }
     }
 
-    /// A first page, and those behind it, of which the last one comes first.
+    /// A first page, and those after it, of which the last one comes first.
     pub(crate) fn from_last(
         alloc: Global,
         first: Bytes,

@@ -1,4 +1,4 @@
-//! The text of a journal in pages. They are made from the last one on, and a page's entries are let go once it stands: a
+//! The text of a journal in pages. They are made from the last one on, and a page's entries are dropped once it is made: a
 //! run's last entries have the most to let go.
 
 ghost use Rattle.std.specs.Prelude.{◌≡◌, ◌<◌, ◌≤◌, ◌++◌, length, take, drop, reverse, OnOk, IfOk};
@@ -43,7 +43,7 @@ pub fn print_pages_2(
     print_behind(alloc, head.as_bytes(), program, &mut journal.entries)
 }
 
-/// A head, and the lines of entries behind it. The entries of the first page are left.
+/// A head, and the lines of entries after it. The entries of the first page are left.
 fn print_behind(
     alloc: Global,
     head: &[u8],
@@ -60,7 +60,7 @@ fn print_behind(
     Pages::from_last(alloc, first, later)
 }
 
-/// The pages behind the first one, from the last one on. The first page's entries are left.
+/// The pages after the first one, from the last one on. The first page's entries are left.
 fn print_later(
     alloc: Global,
     phrases: &Phrases,

@@ -1,4 +1,4 @@
-//! What stands in the lines of a program's nodes and of its keys, laid out once for a whole journal.
+//! What is in the lines of a program's nodes and of its keys, laid out once for a whole journal.
 
 ghost use Rattle.std.specs.Prelude.{◌≡◌, ◌++◌, [], IfOk, OnOk, map, codes, slice_get};
 ghost use Rattle.std.specs.Fmt.{decimal};
@@ -18,7 +18,7 @@ use std::marker::Model;
 /// A journal is worth the laying out where it has so many lines for each node, or for each class.
 const LINES_FOR_EACH: usize = 8;
 
-/// How a node's line goes on behind its flow's number.
+/// How a node's line goes on after its flow's number.
 #[derive(Clone, Copy)]
 pub enum Phrase {
     /// ` enter NAME` and LF.

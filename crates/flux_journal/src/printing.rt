@@ -373,7 +373,7 @@ fn append_result(
     }
 }
 
-/// Adds values with commas between them, and what stands behind the last.
+/// Adds values with commas between them, and what follows the last.
 #[inline(always)]
 fn append_listed(
     alloc: Global,
@@ -392,7 +392,7 @@ fn append_listed(
     }
 }
 
-/// Adds values, each with a comma behind it.
+/// Adds values, each with a comma after it.
 fn append_before(alloc: Global, out: &mut Bytes, values: &[Value]) -> Result<(), Memory>
     ensures { OnOk result (out.new ≡ out.old
         ++ flat_map (λ value. printed_value value ++ codes ", ") values.now) }
@@ -424,7 +424,7 @@ fn append_put(alloc: Global, out: &mut Bytes, put: &Put) -> Result<(), Memory>
     }
 }
 
-/// Adds a word, a put's cell and name, and what stands behind them.
+/// Adds a word, a put's cell and name, and what follows them.
 fn append_change(out: &mut Bytes, word: &[u8], put: &Put, behind: &[u8]) -> Result<(), Memory>
     ensures { OnOk result (out.new ≡ out.old ++ (word.now ++ put.now.cell ++ codes " "
         ++ printed_text put.now.name ++ behind.now)) }

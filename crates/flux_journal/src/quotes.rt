@@ -1,5 +1,5 @@
-//! Texts added between quotes. A short one whose bytes stand for themselves is laid out on the stack with
-//! what stands on its two sides, and added as one piece.
+//! Texts added between quotes. A short one whose bytes mean themselves is laid out on the stack with
+//! what is on its two sides, and added as one piece.
 
 ghost use Rattle.std.specs.Prelude.{◌≡◌, ◌≤◌, ◌+◌, ◌++◌, OnOk, length, take};
 ghost use Rattle.std.specs.List.{list_all};
@@ -9,16 +9,16 @@ ghost use Rattle.flux_journal.specs.steps.Quotes.{is_plain_byte, quoted};
 use flux_spelling::append_text;
 use flux_values::{Bytes, Memory};
 
-/// How many bytes a piece has room for: a text, its two quotes, and what stands on each side of them.
+/// How many bytes a piece has room for: a text, its two quotes, and what is on each side of them.
 const PIECE_LENGTH: usize = 64;
 
 /// How many bytes a text in a piece has at most.
 const TEXT_LENGTH: usize = 40;
 
-/// How many bytes stand on each side at most.
+/// How many bytes are on each side at most.
 const SIDE_LENGTH: usize = 11;
 
-/// Adds a text's spelling with bytes before and behind it. After an `Err` a part of them may stand there.
+/// Adds a text's spelling with bytes before and after it. After an `Err` a part of them may be there.
 #[tactic(auto, using(crate::proofs::Quoted::plain_is))]
 pub fn append_quoted(
     out: &mut Bytes,
@@ -36,7 +36,7 @@ pub fn append_quoted(
     out.append(behind)
 }
 
-/// Whether each byte of a text stands for itself between quotes.
+/// Whether each byte of a text means itself between quotes.
 fn is_plain(text: &[u8]) -> bool
     ensures { result ≡ list_all is_plain_byte text.now }
 {
@@ -49,7 +49,7 @@ fn is_plain_byte(byte: u8) -> bool
     matches!(byte, 32..=126) && byte != b'"' && byte != b'\\'
 }
 
-/// Adds bytes between quotes as they are, with bytes before and behind: as one piece where all are few.
+/// Adds bytes between quotes as they are, with bytes before and after: as one piece where all are few.
 fn append_plain(out: &mut Bytes, before: &[u8], text: &[u8], behind: &[u8]) -> Result<(), Memory>
     ensures { OnOk result (out.new ≡ out.old ++ (before.now ++ quoted text.now ++ behind.now)) }
 {

@@ -8,7 +8,7 @@ ghost use Rattle.flux_journal.specs.steps.Lines.{IsFirstLine, IsHeadFor};
 use crate::cuts::{behind, cut, read_number};
 use std::marker::Model;
 
-/// The first line of a text, and what stands behind its LF.
+/// The first line of a text, and what follows its LF.
 pub fn split_line(text: &[u8]) -> (&[u8], &[u8])
     requires { 0 < length text.now }
     ensures { IsFirstLine text.now result.0.now result.1.now }

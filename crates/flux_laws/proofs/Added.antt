@@ -99,7 +99,7 @@ module _ (setup : Setup) (entries : List Entry) (legal : IsLegal setup entries) 
         by (inl none) (inr nowhere) = absurd (unblocked waiting.0 (blocks none (λ own behind there. absurd (nowhere (own, behind, there)))))
         by (inl none) (inl (own, place, there)) = placed (cases_lt place (length before))
           where
-            -- two waits don't stand at one place
+            -- two waits aren't at one place
             elsewhere : length before ≡ place → ⊥
             elsewhere same =
                 let one = same-place there.before before there.after rest (record { flow = record { 0 = flow.0 }; event = Wait key own }) (record { flow = waiting; event = Wait key their })

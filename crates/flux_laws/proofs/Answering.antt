@@ -169,7 +169,7 @@ module _ (answer : Answer) (more : List Answer) where
   uses-handled walks uses arms values Over ended = uses-done ended
   uses-handled walks uses arms values (Bad code) ended = uses-handler walks uses (handler_for arms code) code values ended.left
 
-  -- no answers stand in drops and takes
+  -- there are no answers in drops and takes
   none_in-drops : (key : ClassNo → Key) (holds : List Hold) → answers_in (map (λ hold. events.Drop (key hold.class)) holds) ≡ []
   none_in-drops key [] = refl
   none_in-drops key (hold ∷ holds) = none_in-drops key holds

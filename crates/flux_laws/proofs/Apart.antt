@@ -1,4 +1,4 @@
--- Where no take stands against what another flow holds, no two flows ever hold a key in conflict.
+-- Where no take is made against what another flow holds, no two flows ever hold a key in conflict.
 use Rattle.std.proofs.Common.{◌≡◌, ◌≢◌, ℕ, Bool, true, false, if◌then◌else◌, ◌⊎◌, inl, inr, List, [], ◌∷◌, ◌++◌, sym, ap, subst, ◌∙◌, append_assoc}
 use Rattle.std.proofs.lemmas.Bool.{cases_eq}
 use Rattle.std.proofs.lemmas.List.{append-nil}
@@ -67,7 +67,7 @@ held-more entries entry flow key mode is = by (cases_eq entry.flow.0 flow)
     by (inl same) = told same (subst (λ (f : ℕ). In mode (modes_held (entries ++ entry ∷ []) f key) → In mode (modes_held entries f key) ⊎ (entry.event ≡ Take key mode)) same (held-own entries entry key mode) is)
     by (inr apart) = inl (subst (In mode) (modes_held-other entries entry.flow entry.event flow key apart) is)
 
--- a take by an entry, if it is one, stands against nothing that another flow holds
+-- a take by an entry, if it is one, is made against nothing that another flow holds
 abbrev pub TakeExcludes : List Entry → Entry → Type 0
 TakeExcludes entries entry = (key : Key) (mode : Mode) → entry.event ≡ Take key mode
     → (other : ℕ) → other ≢ entry.flow.0 → holds_against entries other key mode ≡ false
@@ -96,7 +96,7 @@ apart-all entries (entry ∷ more) apart excludes = rw together (apart-all (entr
     next : AreApart (entries ++ entry ∷ [])
     next = apart-more entries entry (λ key mode is. excludes entries more entry.flow key mode (ap (λ (event : Event). entries ++ record { flow = entry.flow; event = event } ∷ more) is)) apart
 
--- what stands in a journal's front stands in the journal
+-- what is in a journal's front is in the journal
 pub stands-front : (before after a b : List Entry) (flow : FlowNo) (event : Event) → Stands before a flow event b → Stands (before ++ after) a flow event (b ++ after)
 stands-front before after a b flow event stands = ap (λ es. es ++ after) stands ∙ append_assoc a (record { flow = flow; event = event } ∷ b) after
 

@@ -20,7 +20,7 @@ use Rattle.flux_laws.proofs.Reaching.{Leads, no-return}
 abbrev pub IsFrom : (ℕ → List NodeNo) → ℕ → ℕ → Type 0
 IsFrom more m x = (x ≡ m) ⊎ IsIn x (more m)
 
--- nodes, each with more behind it
+-- nodes, each with more after it
 abbrev pub spread : (ℕ → List NodeNo) → List NodeNo → List NodeNo
 spread more nodes = flat_map (λ node. node ∷ more node.0) nodes
 

@@ -31,7 +31,7 @@ OrNot P = P ⊎ (P → ⊥)
 -- ---- blocks
 
 module _ (entries : List Entry) (other flow : ℕ) (key : Key) (mode : Mode) where
-  -- the other stands there in conflict, and this flow doesn't, or behind it
+  -- the other waits there in conflict, and this flow doesn't, or after it
   stands_before_or_not : OrNot (StandsBefore entries other flow key mode)
   stands_before_or_not = by (stands_or_not entries other key)
     where

@@ -28,7 +28,7 @@ use Rattle.flux_laws.proofs.Living.{emptied}
 use Rattle.flux_laws.proofs.Trails.{trail-start}
 use Rattle.flux_laws.proofs.Reaching.{IsPlace, Leads, sure-nested}
 
--- a flow's walk comes to a place
+-- a flow's walk reaches a place
 flow-place : (setup : Setup) → IsNumbered setup.program → (HasCycle setup.program.nodes → ⊥) → HaveSources setup.program setup.items
     → (flow : ℕ) → flow < length setup.items → (answers : List Answer) → let walked = flow_walk setup flow answers in IsPlace walked.stop
 flow-place setup numbered acyclic sources flow lt answers =
@@ -96,7 +96,7 @@ pub nothing-left : (key : ClassNo → Key) (declares : ℕ → List Hold) (rest 
 nothing-left key declares [] runs = refl
 nothing-left key declares (event ∷ rest) runs = absurd runs.0
 
--- where the stack is empty behind a walk with its end, the walk is finished
+-- where the stack is empty after a walk with its end, the walk is finished
 finished-at : (list : List Event) (stop : Stop) → Leaves at_start (run at_start list) stop → run at_start (list ++ ending stop) ≡ [] → HasEnded stop
 finished-at list (finished ended) leaves empty = tt
 finished-at list (before_call node args) leaves empty = let e = sym (ap (run at_start) (append-nil list)) ∙ empty in rw e at leaves

@@ -1,4 +1,4 @@
--- The last entry of a legal journal may stand next behind those before it.
+-- The last entry of a legal journal may be next after those before it.
 use Rattle.std.proofs.Common.{◌≡◌, ◌<◌, ◌⊎◌, inl, inr, ℕ, true, false, List, [], ◌∷◌, ◌++◌, length, refl, sym, ap, subst, ◌∙◌, append_assoc, arith}
 use Rattle.std.proofs.lemmas.List.{append-nil, append_cancel_left}
 use Rattle.flux_values.specs.declared.values.Value.{Value}

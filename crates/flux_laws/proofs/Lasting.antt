@@ -42,7 +42,7 @@ last_or_none (entry ∷ entries) flow = by (last_or_none entries flow)
     by (inl none) = here none (cases_eq entry.flow.0 flow)
     by (inr has) = inr (last-behind entry entries flow has)
 
--- a flow has entries where one of its own stands
+-- a flow has entries where there is one of its own
 pub some-stands : (before after : List Entry) (flow : FlowNo) (event : Event) → events_by flow.0 (before ++ record { flow = flow; event = event } ∷ after) ≡ [] → ⊥
 some-stands before after flow event none = by (events_by flow.0 before) (sym split ∙ none)
   where
@@ -78,7 +78,7 @@ last-unique entries flow a b place other one two =
     let same = one-last flow a b one.before one.after two.before two.after (sym one.stands ∙ two.stands) one.last two.last in
     (same.0, sym one.at ∙ same.1 ∙ two.at)
 
--- one entry stands at a place
+-- one entry is at a place
 pub same-place : (before other after rest : List Entry) (a b : Entry) → before ++ a ∷ after ≡ other ++ b ∷ rest → length before ≡ length other → a ≡ b
 same-place [] [] after rest a b e same = cc
 same-place [] (x ∷ other) after rest a b e same = absurd (omega (arith, same))
@@ -103,7 +103,7 @@ stands-by entries flow key (Exit node outcome) place last = inr (λ own other e.
 stands-by entries flow key (Drop k) place last = inr (λ own other e. cc)
 stands-by entries flow key (End outcome) place last = inr (λ own other e. cc)
 
--- a flow stands at a key or not
+-- a flow waits at a key or not
 pub stands_or_not : (entries : List Entry) (flow : ℕ) (key : Key) → StandsSomewhere entries flow key ⊎ (StandsSomewhere entries flow key → ⊥)
 stands_or_not entries flow key = by (last_or_none entries flow)
   where

@@ -39,7 +39,7 @@ end-stays key declares (begun ∷ st) list last runs = empty-stays key declares 
 end-stays key declares (taken k mode ∷ st) list last runs = absurd last
 end-stays key declares (opened node ∷ st) list last runs = absurd last
 
--- nothing runs on an empty stack, so nothing stands behind `end`
+-- nothing runs on an empty stack, so nothing comes after `end`
 pub ended-empty : (key : ClassNo → Key) (declares : ℕ → List Hold) (st : Stack) (list : List Event) (outcome : Outcome) → Runs key declares st list → In (End outcome) list → run st list ≡ []
 ended-empty key declares st [] outcome runs is = absurd is
 ended-empty key declares st (event ∷ list) outcome (on, allowed, runs) (inr is) = ended-empty key declares (step st event) list outcome runs is
@@ -119,7 +119,7 @@ module _ (setup : Setup) (entries : List Entry) (legal : IsLegal setup entries) 
       item = events-item (length setup.items) entries other legal.flows
           (λ none. some-stands stands.before stands.after (record { 0 = other }) (Wait key mode) (let there = stands.stands in rw there at none))
 
-  -- who blocks holds the key or stands there
+  -- who blocks holds the key or waits there
   pub blocker-live : (flow other : ℕ) → WaitsFor setup entries flow other → IsLive setup entries other
   blocker-live flow other waits = by (let b = waits.blocked in b.cause)
     where

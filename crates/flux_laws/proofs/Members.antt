@@ -69,7 +69,7 @@ get-within [] k lt = absurd (omega (arith, lt))
 get-within (y ∷ xs) zero lt = (y, refl)
 get-within (y ∷ xs) (suc k) lt = get-within xs k (omega (arith, lt))
 
--- a list with one more at its end, and a place in it: the place is that end, or stands before it
+-- a list with one more at its end, and a place in it: the place is that end, or is before it
 pub record InFront {X : Type 0} (xs : List X) (y : X) (before : List X) (x : X) (after : List X) : Type 0 where
   pub rest : List X
   pub after_is : after ≡ rest ++ y ∷ []
@@ -81,7 +81,7 @@ pub record IsEnd {X : Type 0} (xs : List X) (y : X) (before : List X) (x : X) (a
   pub same : y ≡ x
   pub none : after ≡ []
 
--- the place is the end, or stands before it
+-- the place is the end, or is before it
 pub end_or_front : {X : Type 0} (xs : List X) (y : X) (before : List X) (x : X) (after : List X) → xs ++ y ∷ [] ≡ before ++ x ∷ after
     → IsEnd xs y before x after ⊎ InFront xs y before x after
 end_or_front [] y [] x after e = inl (record { whole = refl; same = cc; none = cc })
@@ -102,13 +102,13 @@ pub record IsBehind {X : Type 0} (front whole : List X) : Type 0 where
   pub rest : List X
   pub is : whole ≡ front ++ rest
 
--- the second list goes on behind the first
+-- the second list goes on after the first
 pub record IsFurther {X : Type 0} (front whole : List X) : Type 0 where
   pub next : X
   pub rest : List X
   pub is : whole ≡ front ++ next ∷ rest
 
--- one of them goes on behind the other, or they are the same
+-- one of them goes on after the other, or they are the same
 pub fronts : {X : Type 0} (a b c d : List X) → a ++ b ≡ c ++ d → IsBehind a c ⊎ IsFurther c a
 fronts [] b c d e = inl (record { rest = c; is = refl })
 fronts (x ∷ a) b [] d e = inr (record { next = x; rest = a; is = refl })

@@ -1,5 +1,5 @@
--- A flow's next event: it is neither a wait nor a call, and the flow has an item; and how the flow stands on its walk
--- behind it.
+-- A flow's next event: it is neither a wait nor a call, and the flow has an item; and where the flow is on its walk
+-- after it.
 use Rattle.std.proofs.Common.{◌≡◌, ◌<◌, ◌+◌, ℕ, List, [], ◌∷◌, ◌++◌, length, Option, Some, None, refl, sym, ap, ◌∙◌, append_assoc, arith}
 use Rattle.std.specs.List.{flat_map, slice_get}
 use Rattle.std.proofs.lemmas.List.{append-nil, length-append}
@@ -141,7 +141,7 @@ call-item setup entries flow node args is = walk-item setup flow (own_answers en
     unlike : nowhere ≡ before_call node args → ⊥
     unlike e = cc
 
--- ---- behind the next event
+-- ---- after the next event
 
 -- a flow that made its next event follows its walk
 pub follows-next : (setup : Setup) → AreLocks setup.program setup.locks → (entries : List Entry) (flow : FlowNo) (event : Event) → IsNext setup entries flow.0 event
@@ -154,7 +154,7 @@ follows-next setup are entries flow event is =
     own_answers-more entries flow.0 event ∙ ap (λ as_. own_answers entries flow.0 ++ as_) p.quiet ∙ append-nil (own_answers entries flow.0) in
     record { rest = is.rest; prefix = rw (events_are, answers_are) (is.next ∙ sym (append_assoc (own_events entries flow.0) (event ∷ []) is.rest)) }
 
--- a wait leaves a flow on its walk
+-- after a wait a flow is still on its walk
 pub follows-wait : (setup : Setup) (entries : List Entry) (flow : FlowNo) (key : Key) (mode : Mode) → FollowsWalk setup entries flow.0
     → FollowsWalk setup (entries ++ record { flow = flow; event = Wait key mode } ∷ []) flow.0
 follows-wait setup entries flow key mode follows =

@@ -47,7 +47,7 @@ by_another flow other event apart = ap (λ (b : Bool). cond b (event ∷ []) [])
 
 -- ---- what is held and open
 
--- modes held behind events one after another
+-- modes held after events one after another
 held_after-append : (key : Key) (modes : List Mode) (a b : List Event) → held_after key modes (a ++ b) ≡ held_after key (held_after key modes a) b
 held_after-append key modes [] b = refl
 held_after-append key modes (Take k mode ∷ a) b = held_after-append key (if same_key k key then mode ∷ modes else modes) a b
@@ -96,7 +96,7 @@ modes_held-other entries flow event other key apart =
     ap (held_after key []) (events_by-append other entries (record { flow = flow; event = event } ∷ []) ∙ ap (λ es. events_by other entries ++ es) (by_another flow other event apart))
     ∙ held_after-append key [] (events_by other entries) []
 
--- ---- where an event stands
+-- ---- where an event is
 
 in-unless_wait : (event other : Event) → In other (unless_wait event) → event ≡ other
 in-unless_wait (Wait key mode) other is = absurd is
@@ -124,7 +124,7 @@ in-from_own event (first ∷ list) is = by (in-either (unless_wait first) (flat_
     by (inl here) more = inl (in-unless_wait first event here)
     by (inr there) more = inr (more there)
 
--- a flow's event stands among the entries
+-- a flow's event is among the entries
 pub stands-in : (entries : List Entry) (flow : ℕ) (event : Event) → In event (events_by flow entries)
     → (before : List Entry) × (after : List Entry) × Stands entries before (record { 0 = flow }) event after
 stands-in [] flow event is = absurd is

@@ -36,7 +36,7 @@ parts_make_legal setup entries parts = record {
 
 -- ---- one entry more
 
--- another flow's entry leaves a flow on its walk
+-- after another flow's entry a flow is still on its walk
 pub follows-other : (setup : Setup) (entries : List Entry) (flow : FlowNo) (event : Event) (other : ℕ) → (flow.0 ≡ other → ⊥)
     → FollowsWalk setup entries other → FollowsWalk setup (entries ++ record { flow = flow; event = event } ∷ []) other
 follows-other setup entries flow event other apart follows =
@@ -49,7 +49,7 @@ follows-other setup entries flow event other apart follows =
     ∙ ap (λ es. own_answers entries other ++ flat_map answer_in es) none ∙ append-nil (own_answers entries other) in
     record { rest = follows.rest; prefix = rw (events_same, answers_same) follows.prefix }
 
--- where a conflicting wait stands, the entry passes only where it may
+-- where there is a conflicting wait, the entry passes only where it may
 abbrev pub EntryPasses : List Entry → Entry → Type 0
 EntryPasses entries entry = (before rest : List Entry) (flow : FlowNo) (key : Key) (mode their : Mode) → Stands entries before flow (Wait key mode) rest
     → entry.event ≡ Take key their → entry.flow.0 ≢ flow.0 → events_by flow.0 rest ≡ [] → conflict their mode ≡ true

@@ -1,4 +1,4 @@
--- In numbered programs without cycles a walk never comes to where there is no node.
+-- In numbered programs without cycles a walk never reaches a place where there is no node.
 use Rattle.std.proofs.Common.{◌≡◌, ◌<◌, ◌≤◌, ◌+◌, inl, inr, ℕ, zero, suc, List, [], ◌∷◌, ◌++◌, map, length, Option, Some, None, refl, arith}
 use Rattle.std.specs.List.{slice_get, flat_map, AllByRecursion}
 use Rattle.flux_values.specs.declared.values.Value.{Value}

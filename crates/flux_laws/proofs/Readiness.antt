@@ -29,7 +29,7 @@ module _ (key : ClassNo → Key) (keyed : (class : ClassNo) → (key class).clas
   abbrev pub MayHold : Stack → Hold → Type 0
   MayHold st hold = MayTake st (key hold.class) hold.mode
 
-  -- what is covered stays so behind takes
+  -- what is covered stays so after takes
   covers-takes : (st : Stack) (holds : List Hold) (k : Key) (mode : Mode) → Covers st k mode → Covers (with_takes key st holds) k mode
   covers-takes st [] k mode covers = covers
   covers-takes st (hold ∷ holds) k mode covers =
@@ -93,7 +93,7 @@ module _ (p : Program) (locks : Holds) (closed : IsClosed p locks) (key : ClassN
       ((hold : Hold) → In hold (locks number) → MayTake st (key hold.class) hold.mode)
       × ((led : ℕ) → IsIn led (leads_in p.nodes number) → Ready st depth led)
 
-  -- so they are below a node behind its own takes
+  -- so they are below a node after its own takes
   raised : (st : Stack) (top node : ℕ) → IsBelow p top node → (hold : Hold) → In hold (locks node) → MayTake st (key hold.class) hold.mode
       → MayTake (opened (record { 0 = top }) ∷ with_takes key st (locks top)) (key hold.class) hold.mode
   raised st top node below hold is (inl covers) =

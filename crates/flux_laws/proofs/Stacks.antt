@@ -95,7 +95,7 @@ module _ (key : ClassNo → Key) (declares : ℕ → List Hold) where
   Allowed st (Drop k) = IsTaken k st
   Allowed st (End outcome) = IsBegun st
 
-  -- each event may be made where it stands
+  -- each event may be made where it is
   abbrev pub Runs : Stack → List Event → Type 0
   Runs st [] = Unit {0}
   Runs st (event ∷ events) = IsOn st × Allowed st event × Runs (step st event) events
@@ -105,7 +105,7 @@ pub run-append : (st : Stack) (a b : List Event) → run st (a ++ b) ≡ run (ru
 run-append st [] b = refl
 run-append st (e ∷ a) b = run-append (step st e) a b
 
--- each may be made where it stands
+-- each may be made where it is
 pub runs-append : (key : ClassNo → Key) (declares : ℕ → List Hold) (st : Stack) (a b : List Event) → Runs key declares st a → Runs key declares (run st a) b → Runs key declares st (a ++ b)
 runs-append key declares st [] b first more = more
 runs-append key declares st (e ∷ a) b (on, allowed, first) more = (on, allowed, runs-append key declares (step st e) a b first more)
@@ -136,7 +136,7 @@ nodes_in (begun ∷ st) = nodes_in st
 nodes_in (taken other mode ∷ st) = nodes_in st
 nodes_in (opened node ∷ st) = node ∷ nodes_in st
 
--- a drop of the key that was taken last leaves what was held before
+-- after a drop of the key that was taken last, what was held before is held
 dropped : (k key other : Key) (mode : Mode) (modes : List Mode) → other ≡ key
     → (if same_key key k then without_first (if same_key other k then mode ∷ modes else modes) else (if same_key other k then mode ∷ modes else modes)) ≡ modes
 dropped k key other mode modes same = rw same (by (same_key key k))

@@ -1,4 +1,4 @@
--- Flows that stand at a key: what they do next.
+-- Flows that wait at a key: what they do next.
 use Rattle.std.proofs.Common.{◌≡◌, ℕ, List, [], ◌∷◌, ◌++◌, sym, ap, ◌∙◌}
 use Rattle.std.specs.List.{flat_map}
 use Rattle.std.proofs.lemmas.List.{append_cancel_left, append-nil}
@@ -19,7 +19,7 @@ next-unique setup entries flow a b one other =
     let same : a ∷ one.rest ≡ b ∷ other.rest = append_cancel_left (own_events entries flow) (a ∷ one.rest) (b ∷ other.rest) (sym one.next ∙ other.next) in
     cc
 
--- entries behind which a flow has the same events and answers leave its next event as it was
+-- entries after which a flow has the same events and answers leave its next event as it was
 next-same : (setup : Setup) (before after : List Entry) (flow : ℕ) (event : Event) → own_events after flow ≡ [] → own_answers after flow ≡ []
     → IsNext setup before flow event → IsNext setup (before ++ after) flow event
 next-same setup before after flow event none no_answers is =
@@ -29,14 +29,14 @@ next-same setup before after flow event none no_answers is =
     own_answers-append flow before after ∙ ap (λ es. own_answers before flow ++ es) no_answers ∙ append-nil (own_answers before flow) in
     record { rest = is.rest; next = rw (events_same, answers_same) is.next }
 
--- the events of a wait and of nothing behind it
+-- the events of a wait and of nothing after it
 wait-only : (flow : ℕ) (key : Key) (mode : Mode) (after : List Entry) → events_by flow after ≡ []
     → events_by flow (record { flow = record { 0 = flow }; event = Wait key mode } ∷ after) ≡ Wait key mode ∷ []
 wait-only flow key mode after none =
     events_by-append flow (record { flow = record { 0 = flow }; event = Wait key mode } ∷ []) after
     ∙ ap (λ es. es ++ events_by flow after) (by_itself flow (Wait key mode)) ∙ ap (λ es. Wait key mode ∷ es) none
 
--- a flow that stands at a key in a mode takes it in that mode next
+-- a flow that waits at a key in a mode takes it in that mode next
 pub standing-next : (setup : Setup) (entries : List Entry) (flow : ℕ) (key : Key) (mode : Mode) (place : ℕ) → WaitsAreRight setup entries
     → StandsAt entries flow key mode place → IsNext setup entries flow (Take key mode)
 standing-next setup entries flow key mode place right stands =

@@ -90,7 +90,7 @@ module _ (setup : Setup) (kinds : ℕ → NodeKinds) (sound : IsSound setup.mean
   -- ---- what a call of another flow puts
 
   module _ (flow : ℕ) (node : NodeNo) (args : List Value) (is : CallIsNext setup entries flow node args) (name : List ℕ) (key : Key) (on : cell_key setup flow node.0 name ≡ Some key) where
-    -- a put of a call that is next stands under another key
+    -- a put of a call that is next is under another key
     module _ (other : ℕ) (apart : flow ≢ other) (made : CallMade) (next : CallIsNext setup entries other made.node made.args) (sig : Sig)
         (protected : AllByRecursion (IsProtected setup.program made.node.0) sig.cells) where
       put-apart : (put : Put) → IsWrite sig.cells put → cell_key setup other made.node.0 put.cell ≡ Some key → ⊥
@@ -113,7 +113,7 @@ module _ (setup : Setup) (kinds : ℕ → NodeKinds) (sound : IsSound setup.mean
               (λ same _. absurd (put-apart put write (at ∙ ap Some same)))
               (λ different _. ap (λ (b : Bool). cond b (changed (cells key) put.name put.value) (cells key)) different)
 
--- ---- cells behind one entry more
+-- ---- cells after one entry more
 
 after-append : (setup : Setup) (cells : Cells) (a b : List Entry) → after_entries setup cells (a ++ b) ≡ after_entries setup (after_entries setup cells a) b
 after-append setup cells [] b = refl
@@ -123,7 +123,7 @@ module _ (setup : Setup) (kinds : ℕ → NodeKinds) (sound : IsSound setup.mean
     (items : AllByRecursion (IsItemFor setup.program kinds) setup.items) where
   module _ (entries : List Entry) (legal : IsLegal setup entries) (flow : ℕ) (node : NodeNo) (args : List Value) (is : CallIsNext setup entries flow node args)
       (other : FlowNo) (apart : flow ≢ other.0) where
-    -- a call of another flow leaves the cells that this flow's call reads
+    -- a call of another flow doesn't change the cells that this flow's call reads
     module _ (made : CallMade) (next : CallIsNext setup entries other.0 made.node made.args) (name : List ℕ) (key : Key) (on : cell_key setup flow node.0 name ≡ Some key) where
       IsLeft : Type 0
       IsLeft = after_puts setup other.0 made.node.0 (cells_after setup entries) (let answer = made.answer in answer.puts) key ≡ cells_after setup entries key

@@ -53,7 +53,7 @@ module _ (setup : Setup) (are : AreLocks setup.program setup.locks) (entries : L
       by (inl covers) = let (there, there_is, enough) = covered-held setup are entries flow on key mode covers in absurd (free (holds-some entries flow key there there_is))
       by (inr above) = above held own (stack-from_held (stack_after entries flow) held own (rw (modes-stack setup are entries flow on held) at is))
 
-  -- a flow's class is less than that of another; or both are at one key, where the other stands before it
+  -- a flow's class is less than that of another; or both are at one key, where the other waits before it
   record IsBehind (flow other : ℕ) (key : Key) : Type 0 where
     mode : Mode
     place : ℕ

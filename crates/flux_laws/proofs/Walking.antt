@@ -1,4 +1,4 @@
--- Walks keep the stack: nested takes and drops are balanced, and each event may be made where it stands.
+-- Walks keep the stack: nested takes and drops are balanced, and each event may be made where it is.
 use Rattle.std.proofs.Common.{◌≡◌, ℕ, inl, inr, List, [], ◌∷◌, ◌++◌, map, reverse, Option, Some, None, refl, ap, ◌∙◌}
 use Rattle.std.specs.List.{flat_map}
 use Rattle.flux_values.specs.declared.values.Value.{Value}
@@ -34,7 +34,7 @@ Leaves end now (before_call node args) = IsOpened node now
 Leaves end now nowhere = IsOn now
 
 module _ (key : ClassNo → Key) (declares : ℕ → List Hold) where
-  -- a walk runs on a stack, and leaves another
+  -- a walk runs on a stack, and gives another
   pub record IsFine (start end : Stack) (walked : Walked) : Type 0 where
     pub runs : Runs key declares start walked.events
     pub leaves : Leaves end (run start walked.events) walked.stop

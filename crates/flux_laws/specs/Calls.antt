@@ -39,7 +39,7 @@ abbrev pub FitsNode : LibraryMeaning → Option Node → List Value → Type 0
 FitsNode meaning None args = ⊥
 FitsNode meaning (Some node) args = FitsBody meaning node.body args
 
--- the cells that a call of a node reads for a flow behind these entries
+-- the cells that a call of a node reads for a flow after these entries
 abbrev pub cells_of_body : Setup → ℕ → ℕ → List Entry → Body → List CellMap
 cells_of_body setup flow node entries (Concrete name) =
     cells_for setup flow node (cells_after setup entries) (setup.meaning.node name)

@@ -33,7 +33,7 @@ pub record MayCall (setup : Setup) (entries : List Entry) (flow : FlowNo) (made 
   pub next : CallIsNext setup entries flow.0 made.node made.args
   pub right : IsNodeAnswer setup flow.0 (cells_after setup entries) (slice_get setup.program.nodes made.node.0) made
 
--- an entry that may stand next
+-- an entry that may be next
 abbrev pub IsMove : Setup → List Entry → FlowNo → Event → Type 0
 IsMove setup entries flow (Wait key mode) = MayStand setup entries flow key mode
 IsMove setup entries flow (Call made) = MayCall setup entries flow made
@@ -50,7 +50,7 @@ IsMove setup entries flow (End outcome) = MayStep setup entries flow (End outcom
 abbrev pub NothingIsLegal : Type 0
 NothingIsLegal = (setup : Setup) → AreLocks setup.program setup.locks → IsLegal setup []
 
--- with one entry more that may stand next, a legal journal stays legal: by an event that isn't blocked, a wait, a call
+-- with one entry more that may be next, a legal journal stays legal: by an event that isn't blocked, a wait, a call
 -- with the right answer, and by each move
 abbrev pub EventIsLegal : Type 0
 EventIsLegal = (setup : Setup) (entries : List Entry) (flow : FlowNo) (event : Event) → IsLegal setup entries
@@ -73,7 +73,7 @@ MovesAreLegal = (setup : Setup) (entries : List Entry) (flow : FlowNo) (event : 
 abbrev pub FrontsAreLegal : Type 0
 FrontsAreLegal = (setup : Setup) (entries more : List Entry) → IsLegal setup (entries ++ more) → IsLegal setup entries
 
--- and each entry of a legal journal may stand next behind those before it
+-- and each entry of a legal journal may be next after those before it
 abbrev pub EntriesAreMoves : Type 0
 EntriesAreMoves = (setup : Setup) (entries : List Entry) (flow : FlowNo) (event : Event)
     → IsLegal setup (entries ++ record { flow = flow; event = event } ∷ []) → IsMove setup entries flow event

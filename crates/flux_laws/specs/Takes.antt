@@ -42,7 +42,7 @@ FirstTakesAreGreatest = (setup : Setup) (entries : List Entry) → AreLocks setu
     → modes_held entries flow key ≡ later ++ first ∷ []
     → (mode : Mode) → Contains later mode → at_least first mode ≡ true
 
--- where waits are right, a flow that stands at a key in a mode takes it in that mode next
+-- where waits are right, a flow that waits at a key in a mode takes it in that mode next
 abbrev pub StandersTakeNext : Type 0
 StandersTakeNext = (setup : Setup) (entries : List Entry) → WaitsAreRight setup entries
     → (flow : ℕ) (key : Key) (mode : Mode) (place : ℕ) → StandsAt entries flow key mode place

@@ -38,7 +38,7 @@ pub fn fronts_are_legal()
     ensures { FrontsAreLegal }
 {}
 
-/// Each entry of a legal journal is a move behind those before it.
+/// Each entry of a legal journal is a move after those before it.
 pub fn entries_are_moves()
     ensures { EntriesAreMoves }
 {}

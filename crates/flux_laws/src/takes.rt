@@ -17,7 +17,7 @@ pub fn first_takes_are_greatest()
     ensures { FirstTakesAreGreatest }
 {}
 
-/// A flow that stands at a key in a mode takes it in that mode next.
+/// A flow that waits at a key in a mode takes it in that mode next.
 pub fn standers_take_next()
     ensures { StandersTakeNext }
 {}

@@ -14,7 +14,7 @@ use Rattle.flux_lexer.proofs.Turns.{SoFar}
 up_to : (text : List ℕ) (tokens : List Token) (at : ℕ) → SoFar text tokens at → length text ≤ PROGRAM_LIMIT → IsLaidUpTo at (drop at text) text
 up_to text tokens at s few = record { few = few; parts = s.parts; laid = s.laid; place = omega (arith, s.within, length-drop at text) }
 
--- where nothing begins the rest, fault 2 stands
+-- where nothing begins the rest, fault 2 applies
 pub stands_bad : (text : List ℕ) (tokens : List Token) (at : ℕ) → SoFar text tokens at → at < length text → length text ≤ PROGRAM_LIMIT → front_of (drop at text) ≡ fronts.Bad → Stands BadByte at text
 stands_bad text tokens at s lt few bad = inr (inl (
   refl,
@@ -27,7 +27,7 @@ stands_bad text tokens at s lt few bad = inr (inl (
   },
 ))
 
--- where the rest is a comment that nothing closes, fault 3 stands
+-- where the rest is a comment that nothing closes, fault 3 applies
 pub stands_unclosed : (text : List ℕ) (tokens : List Token) (at : ℕ) → SoFar text tokens at → length text ≤ PROGRAM_LIMIT → IsUnclosed (drop at text) → Stands UnclosedComment at text
 stands_unclosed text tokens at s few u = inr (inr (refl, record { rest = drop at text; laid = up_to text tokens at s few; unclosed = u }))
 

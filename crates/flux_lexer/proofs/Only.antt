@@ -84,7 +84,7 @@ same_rest text at place r s a b nr ns = (same_laid 0 a.parts b.parts r s text a.
 same_place : (text : List ℕ) (at place : ℕ) (r s : List ℕ) → IsLaidUpTo at r text → IsLaidUpTo place s text → BeginsNone r → BeginsNone s → at ≡ place
 same_place text at place r s a b nr ns = omega (arith, a.place, b.place, ap length (same_rest text at place r s a b nr ns))
 
--- one fault stands, at one place
+-- one fault applies, at one place
 pub stands_only : (text : List ℕ) (k l : FaultKind) (at place : ℕ) → Stands k at text → Stands l place text → (k ≡ l) × (at ≡ place)
 stands_only text k l at place (inl s) (inl t) = (s.0 ∙ sym t.0, s.1.0 ∙ sym t.1.0)
 stands_only text k l at place (inl s) (inr (inl t)) = absurd (omega (arith, s.1.1, t.1.laid.few))
@@ -116,7 +116,7 @@ pub record Refuses (text : List ℕ) (result : Result (List Token) CheckFault) :
   pub tokens : (tokens : List Token) → AreTokensOf tokens text → IsTokensOrMemory tokens result
   pub stands : (kind : FaultKind) (at : ℕ) → Stands kind at text → IsFaultOrMemory kind at result
 
--- where a fault stands, the answer with it says that
+-- where a fault applies, the answer with it says that
 pub refuses : (text : List ℕ) (kind : FaultKind) (at : ℕ) (fault : CheckFault) → Stands kind at text → fault ≡ Static (record { kind = kind; at = at; path = [] }) → Refuses text (Err fault)
 refuses text kind at fault s e = subst (λ (f : CheckFault). Refuses text (Err f)) (sym e) (record {
   fault = (refl, s);

@@ -22,13 +22,13 @@ abbrev pub closes : ℕ → List ℕ → Bool
 closes b [] = false
 closes b (c ∷ bytes) = b == 42 && c == 47
 
--- how many bytes stand before the first `*/`, if there is one
+-- how many bytes are before the first `*/`, if there is one
 abbrev pub close_of : List ℕ → Option ℕ
 close_of [] = None
 close_of (b ∷ bytes) =
     if closes b bytes then Some 0 else option_map (λ n. suc n) (close_of bytes)
 
--- how many bytes stand before the first LF, or the end
+-- how many bytes are before the first LF, or the end
 abbrev pub line_length : List ℕ → ℕ
 line_length bytes = prefix_len (λ b. not (b == 10)) bytes
 
@@ -53,6 +53,6 @@ Begins (token kind) n text = IsToken kind n text
 abbrev pub BeginsNone : List ℕ → Type 0
 BeginsNone text = (piece : Piece) (n : ℕ) → Begins piece n text → ⊥
 
--- the text is a comment that nothing closes: a `/*` with no `*/` behind it, which holds the rest
+-- the text is a comment that nothing closes: a `/*` with no `*/` after it, which holds the rest
 abbrev pub IsUnclosed : List ℕ → Type 0
 IsUnclosed text = (rest : List ℕ) × (text ≡ 47 ∷ 42 ∷ rest) × (close_of rest ≡ None)

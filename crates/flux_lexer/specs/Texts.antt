@@ -67,7 +67,7 @@ pub record IsUnclosedComment (at : ℕ) (text : List ℕ) : Type 0 where
   pub laid : IsLaidUpTo at rest text
   pub unclosed : IsUnclosed rest
 
--- one of the three stands at a place
+-- one of the three is at a place
 abbrev pub Stands : FaultKind → ℕ → List ℕ → Type 0
 Stands kind at text =
     ((kind ≡ TooLong) × IsTooLong at text)
@@ -96,7 +96,7 @@ IsFaultOrMemory kind at (Ok answered) = ⊥
 IsFaultOrMemory kind at (Err Memory) = ⊤
 IsFaultOrMemory kind at (Err (Static fault)) = (fault.kind ≡ kind) × (fault.at ≡ at)
 
--- whatever fault stands is answered, unless memory is short
+-- whatever fault applies is answered, unless memory is short
 abbrev pub GivesFault : List ℕ → Result (List Token) CheckFault → Type 0
 GivesFault text result =
     (kind : FaultKind) (at : ℕ) → Stands kind at text → IsFaultOrMemory kind at result

@@ -66,7 +66,7 @@ fn line_length(text: &[u8]) -> usize
     text.iter().take_while(|byte| **byte != b'\n').count()
 }
 
-/// How many bytes stand before the first `*/`.
+/// How many bytes are before the first `*/`.
 fn find_close(text: &[u8]) -> Option<usize>
     ensures value { result ≡ close_of text.now }
     ensures within { IfSome result (λ n. n ≤ length text.now) }

@@ -55,7 +55,7 @@ pub enum TokenKind {
     Arrow,
 }
 
-/// A token with its place in the text: its first byte and the byte behind its last, from 0.
+/// A token with its place in the text: its first byte and the byte after its last, from 0.
 #[derive(Clone, Copy, PartialEq, Eq)]
 pub struct Token {
     pub kind: TokenKind,

@@ -86,7 +86,7 @@ pub told_new : {A : Type 0} (o : Option A) → is_some o ≡ false → IsTrue tr
 told_new None e = (λ t. refl, λ none. refl)
 told_new (Some a) e = absurd (let no : true ≡ false = e in cc)
 
--- a want of memory leaves the documents as they were
+-- after a want of memory the documents are as they were
 pub refused : {A E : Type 0} (r : Result A E) (es fs : Tree) (m n : DocMap) → named es ≡ m.named → n.named ≡ named fs → fs ≡ es → OnErr r (n ≡ m)
 refused (Ok a) es fs m n old new same = tt
 refused (Err e) es fs m n old new same = same_docs n m (new ∙ ap named same ∙ old)

@@ -1,7 +1,7 @@
 //! The library of nodes: what programs may name, and what it answers.
 //!
 //! `Library` gives as calls what `Meaning` says of a library, and `Docs` keeps the documents of one.
-//! What libraries share stands here once: the spellings of types (`types`), signatures, answers and
+//! What libraries share is here once: the spellings of types (`types`), signatures, answers and
 //! sessions.
 #![tactic(auto)]
 

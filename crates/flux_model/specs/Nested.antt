@@ -1,4 +1,4 @@
--- What a rule gives for nodes, where it goes by what it gives for the nodes that they lead to.
+-- What a rule gives for nodes, where it depends on what it gives for the nodes that they lead to.
 use Rattle.std.specs.Prelude.{◌≡◌, ℕ, zero, suc, length, List, Option, Some, None}
 use Rattle.std.specs.List.{slice_get}
 use Rattle.flux_model.specs.declared.programs.Node.{Node}

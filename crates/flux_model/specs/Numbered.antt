@@ -34,7 +34,7 @@ abbrev pub parts_of : Body → ℕ
 parts_of (Concrete library) = 0
 parts_of (Abstract cases) = length cases + length (members_of (Abstract cases))
 
--- classes stand in canonical order, each once; each number points into the program's lists; there are at
+-- classes are in canonical order, each once; each number points into the program's lists; there are at
 -- most 1,048,576 classes, nodes, sources and predicates each, and cases and members of a node together
 pub record IsNumbered (p : Program) : Type 0 where
   pub few : length p.nodes ≤ COUNT_LIMIT

@@ -5,14 +5,14 @@ use Rattle.flux_model.specs.declared.programs.Node.{Node}
 use Rattle.flux_model.specs.Leading.{leads_in}
 use Rattle.flux_model.specs.Children.{IsIn}
 
--- each is one of the nodes, none of those before it, and stands after all that it leads to
+-- each is one of the nodes, none of those before it, and is after all that it leads to
 abbrev pub ComeAfter : List Node → List NodeNo → List NodeNo → Type 0
 ComeAfter nodes before [] = ⊤
 ComeAfter nodes before (node ∷ order) = (node.0 < length nodes) × (IsIn node.0 before → ⊥)
     × ((led : ℕ) → IsIn led (leads_in nodes node.0) → IsIn led before)
     × ComeAfter nodes (node ∷ before) order
 
--- each node stands once, after all that it leads to
+-- each node is there once, after all that it leads to
 pub record IsOrder (nodes : List Node) (order : List NodeNo) : Type 0 where
   pub each : (number : ℕ) → number < length nodes → IsIn number order
   pub after : ComeAfter nodes [] order

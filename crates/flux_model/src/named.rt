@@ -26,7 +26,7 @@ impl Drop for Sites {
     }
 }
 
-/// A program, and where its names stand.
+/// A program, and where its names are.
 #[derive(Drop)]
 pub struct Named {
     pub program: Program,

@@ -1,4 +1,4 @@
--- Classes in canonical order: a class more, in any order of coming; what stands in the order, and where.
+-- Classes in canonical order: a class more, in any order of coming; what is in the order, and where.
 use Rattle.std.proofs.Common.{◌≡◌, ◌≤◌, ◌+◌, ℕ, zero, suc, ◌||◌, Bool, true, false, not, List, [], ◌∷◌, ◌++◌, length, map, slice_get, Some, refl, sym, ap, ◌∙◌, arith}
 use Rattle.std.specs.List.{list_any, AllByRecursion}
 use Rattle.std.specs.List.Sorted.{IsStrictlySortedBy}
@@ -257,7 +257,7 @@ above_get low [] number class above e = absurd cc
 above_get low (c ∷ classes) zero class above e = let same : c ≡ class = cc in rw (← same) above.0
 above_get low (c ∷ classes) (suc number) class above e = above_get low classes number class above.1 e
 
--- so they stand in canonical order, each once
+-- so they are in canonical order, each once
 pub canonical : (classes : List Class) → AreInOrder classes → AreCanonical classes
 canonical [] order low high first second lt e f = absurd cc
 canonical (c ∷ classes) order low zero first second lt e f = absurd (omega arith)

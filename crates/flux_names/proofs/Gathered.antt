@@ -371,7 +371,7 @@ sites_more lines n =
     ∙ range_more (λ m. flat_map handler_sites_in (get_or lines m [])) 0 n
     ∙ ap (λ (m : ℕ). handler_sites_from lines n ++ flat_map handler_sites_in (get_or lines m [])) (let same : 0 + n ≡ n = omega arith in same)
 
--- the names of a line are known, and those behind it
+-- the names of a line are known, and those after it
 pub known_lines : (names : List (List ℕ)) (decls : List Decl) (i : ℕ) (d : Decl) → i < length decls → d ≡ get_or decls i d → unknown_in names (drop i decls) ≡ []
     → (not_among names (used_names d) ≡ []) × (unknown_in names (drop (i + 1) decls) ≡ [])
 known_lines names decls i d lt is e =

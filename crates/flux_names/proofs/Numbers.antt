@@ -1,4 +1,4 @@
--- Where no row stands the program is numbered.
+-- Where no row applies the program is numbered.
 use Rattle.std.proofs.Common.{◌≡◌, ◌≤◌, ◌<◌, ◌+◌, ℕ, Bool, true, false, if◌then◌else◌, List, [], ◌∷◌, ◌++◌, length, map, Option, Some, None, refl, sym, subst, arith}
 use Rattle.std.specs.List.{list_any, filter_map, cons_option, flat_map, enumerate_from, AllByRecursion}
 use Rattle.std.specs.Str.{bytes_eq}

@@ -1,4 +1,4 @@
--- Where no row stands: each row has no words.
+-- Where no row applies: each row has no words.
 use Rattle.std.proofs.Common.{◌≡◌, ℕ, ◌||◌, ◌&&◌, Bool, true, false, List, [], ◌∷◌, ◌++◌, map, Option, Some, None, refl, sym, ap, subst, ◌∙◌}
 use Rattle.std.specs.List.{list_any, filter_map, cons_option, flat_map, AllByRecursion}
 use Rattle.std.specs.Option.{is_none}
@@ -61,7 +61,7 @@ sound meaning decls none =
       codes = none_soonest (bad_codes decls) r28.0;
     }
 
--- ---- names that stand once
+-- ---- names that are there once
 
 -- the rows of fault 5, one by one
 pub record StandOnce (decls : List Decl) : Type 0 where

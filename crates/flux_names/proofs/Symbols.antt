@@ -1,4 +1,4 @@
--- Names in tables: what a table knows, that its names are distinct, and where each stands.
+-- Names in tables: what a table knows, that its names are distinct, and where each is.
 use Rattle.std.proofs.Common.{◌≡◌, ◌<◌, ◌+◌, ℕ, suc, ◌||◌, Bool, true, false, not, cond, if◌then◌else◌, List, [], ◌∷◌, ◌++◌, length, get_or, set, map, Option, Some, None, refl, sym, ap, ◌∙◌, arith}
 use Rattle.std.specs.Bool.{⊤}
 use Rattle.std.specs.List.{list_any, filter, flat_map, position_or_len}
@@ -131,7 +131,7 @@ module _ {K : Type 0} (eq : K → K → Bool) (is : IsSameness eq) where
       one true e more = let same : key ≡ k = is.same key k e in rw e (ap (λ (l : List V). g (f k) ∷ l) (untouched f g key keys (rw same apart.0)))
       one false e more = rw e (let next : 1 + position_or_len (eq key) keys ≡ suc (position_or_len (eq key) keys) = omega arith in rw next (ap (λ (l : List V). f k ∷ l) more))
 
-  -- each key stands at its place, and a key that is known has a place
+  -- each key is at its place, and a key that is known has a place
   pub at_its_place : (key : K) (keys : List K) (d : K) → list_any (eq key) keys ≡ true → get_or keys (position_or_len (eq key) keys) d ≡ key
   at_its_place key [] d e = absurd cc
   at_its_place key (k ∷ keys) d e = one (eq key k) refl (at_its_place key keys d)

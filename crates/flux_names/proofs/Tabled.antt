@@ -32,7 +32,7 @@ misused_tabled meaning decls =
     (λ d. same_among (names_by (source_node meaning) decls) (source_nodes meaning decls) (known_names_by (source_node meaning) decls) (inner_names d))
     decls
 
--- the first row that stands, by the least places of all
+-- the first row that applies, by the least places of all
 pub faults_are : (meaning : LibraryMeaning) (decls : List Decl) (p5 p6 p7 p8 p9 p10 p11 p12 p13 p14 p28 : Option ℕ)
     → p5 ≡ soonest None (twice_named decls) → p6 ≡ soonest None (unknown_nodes decls) → p7 ≡ soonest None (unknown_types meaning decls) → p8 ≡ soonest None (not_in_library meaning decls)
     → p9 ≡ soonest None (unlike_library meaning decls) → p10 ≡ soonest None (unknown_predicates meaning decls) → p11 ≡ soonest None (unknown_sessions meaning decls) → p12 ≡ soonest None (not_sources meaning decls)

@@ -8,7 +8,7 @@ use Rattle.flux_syntax.specs.Least.{first_fault}
 use Rattle.flux_syntax.specs.ProgramOfText.{named_of}
 use Rattle.flux_names.specs.Rows.{rows}
 
--- no row stands, and the program is that of the declarations; it is numbered
+-- no row applies, and the program is that of the declarations; it is numbered
 pub record IsResolved (meaning : LibraryMeaning) (decls : List Decl) (named : Named) : Type 0 where
   pub sound : first_fault (rows meaning decls) ≡ None
   pub is : named ≡ named_of decls

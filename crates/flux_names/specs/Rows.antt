@@ -1,4 +1,4 @@
--- The faults of names, 5 to 14 and 28: for each its row, the words at which it stands.
+-- The faults of names, 5 to 14 and 28: for each its row, the words at which it applies.
 use Rattle.std.specs.Prelude.{ℕ, ◌==◌, nat_le, ◌&&◌, ◌||◌, not, map, Bool, true, false, if◌then◌else◌, List, [], ◌∷◌, ◌++◌, drop, Option, Some, None}
 use Rattle.std.specs.List.{list_any, list_all, filter, filter_map, flat_map}
 use Rattle.std.specs.Option.{is_none}
@@ -32,7 +32,7 @@ abbrev pub sessioned : Decl → Option Word
 sessioned (Session source function) = Some source
 sessioned other = None
 
--- where no source may stand: the target of a source line, the members of a flow, both names of a
+-- where no source may be: the target of a source line, the members of a flow, both names of a
 -- `handle` line, and the node of an `atomic` line
 abbrev pub inner_names : Decl → List Word
 inner_names (Source name target) = target ∷ []

@@ -58,7 +58,7 @@ impl<'a> Classes<'a> {
         Ok(self.keys.insert(key)?)
     }
 
-    /// The classes as they stand in a program.
+    /// The classes as they are in a program.
     pub fn copied(&self, alloc: Global) -> Result<List<Class>, Memory>
         ensures { IfOk result (λ classes. classes ≡ self.now) }
     {

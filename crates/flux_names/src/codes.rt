@@ -125,7 +125,7 @@ impl<'a> Codes<'a> {
     }
 }
 
-/// The least place of a number that is no code, or stands twice for a node.
+/// The least place of a number that is no code, or is there twice for a node.
 pub fn bad_code(alloc: Global, decls: &[Decl]) -> Result<Place, Memory>
     ensures { IfOk result (λ p. p ≡ soonest None (bad_codes decls.now)) }
 {

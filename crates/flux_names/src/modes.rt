@@ -21,7 +21,7 @@ fn compare(class: &Class, constraint: &Constraint) -> Ordering
     name.then(class.session.cmp(&constraint.session))
 }
 
-/// Where the class of a constraint stands.
+/// Where the class of a constraint is.
 fn find_place(classes: &[Class], constraint: &Constraint) -> Result<usize, usize>
     requires { IsStrictlySortedBy class_cmp classes.now }
     ensures { IsPlaceOf classes.now constraint.now result }

@@ -61,7 +61,7 @@ fn with_words(place: Place, words: &[&Word]) -> Place
     place
 }
 
-/// With the words behind so many.
+/// With the words after so many.
 pub fn with_words_behind(place: Place, words: &[&Word], count: usize) -> Place
     ensures { result ≡ soonest place (drop count (words_now words.now)) }
 {

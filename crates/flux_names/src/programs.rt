@@ -1,4 +1,4 @@
-//! The program of declarations, and where its names stand.
+//! The program of declarations, and where its names are.
 
 ghost use Rattle.std.specs.Prelude.{◌≡◌, ◌≤◌, ◌++◌, [], IfOk, OnOk, length, map, drop, slice_index_or};
 ghost use Rattle.std.specs.List.{filter_map, flat_map};
@@ -293,7 +293,7 @@ fn named_by(
     Ok(Named { program, sites })
 }
 
-/// The program of declarations without faults of names, and where its names stand.
+/// The program of declarations without faults of names, and where its names are.
 pub fn named_of(alloc: Global, symbols: &Symbols, decls: &[Decl]) -> Result<Named, Memory>
     requires names { symbols.now.nodes.names ≡ names_of decls.now }
     requires words { symbols.now.nodes.words ≡ first_words decls.now }

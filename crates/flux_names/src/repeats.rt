@@ -1,4 +1,4 @@
-//! The row on names that stand twice.
+//! The row on names that are there twice.
 
 ghost use Rattle.std.specs.Prelude.{◌≡◌, [], None, IfOk, OnOk};
 ghost use Rattle.flux_syntax.specs.Words.{and_name};
@@ -81,7 +81,7 @@ fn with_repeated(alloc: Global, place: Place, sort: Sort, decls: &[Decl]) -> Res
     seen.see_all(sort, decls, place)
 }
 
-/// The least place of a name that stands twice.
+/// The least place of a name that is there twice.
 pub fn twice_named(alloc: Global, decls: &[Decl]) -> Result<Place, Memory>
     ensures { IfOk result (λ p. p ≡ soonest None (twice_named decls.now)) }
 {

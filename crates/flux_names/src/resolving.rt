@@ -23,7 +23,7 @@ use flux_syntax::{Decl, Names, fault_at};
 use flux_values::{List, Memory};
 use std::alloc::Global;
 
-/// The first of the rows that stands, with its place.
+/// The first of the rows that applies, with its place.
 fn first_standing(rows: &[(FaultKind, Place)]) -> Option<(FaultKind, u32)>
     ensures { result ≡ first_standing rows.now }
 {
@@ -44,7 +44,7 @@ fn too_many(symbols: &Symbols) -> Place
     with_words_behind(place, symbols.classes.words.as_slice(), CLASS_LIMIT)
 }
 
-/// The least row that stands, at its least place, by the names in which rows look words up.
+/// The least row that applies, at its least place, by the names in which rows look words up.
 fn find_by<L: Library>(
     alloc: Global,
     symbols: &Symbols,
@@ -86,7 +86,7 @@ fn find_by<L: Library>(
     ]))
 }
 
-/// The least row that stands, at its least place.
+/// The least row that applies, at its least place.
 fn find_fault<'a, L: Library>(
     alloc: Global,
     symbols: &Symbols<'a>,
@@ -138,7 +138,7 @@ fn resolve_by<'a, L: Library>(
 }
 
 /// The program of declarations with the places of its names, or the least of the faults 5 to 14, or 28
-/// where none of these stands. A fault's place is that of a word of the declarations; it has no path.
+/// where none of these applies. A fault's place is that of a word of the declarations; it has no path.
 pub fn resolve<L: Library>(
     alloc: Global,
     decls: &List<Decl>,

@@ -39,7 +39,7 @@ pub enum Row {
     UnknownSession,
     /// The node of a `source` line isn't a source, or a `session` line's has no `source` line.
     NotASource,
-    /// A source stands where another node is wanted.
+    /// A source is where another node is wanted.
     SourceMisused,
 }
 
@@ -56,7 +56,7 @@ pub struct Known<'r, 'a> {
     pub lines: &'r Names<'a>,
 }
 
-/// With the words of a declaration at which a row stands.
+/// With the words of a declaration at which a row applies.
 fn with_row<L: Library>(
     alloc: Global,
     library: &L,
@@ -80,7 +80,7 @@ fn with_row<L: Library>(
     }
 }
 
-/// The least place at which a row stands in declarations.
+/// The least place at which a row applies in declarations.
 pub fn least<L: Library>(
     alloc: Global,
     library: &L,

@@ -15,7 +15,7 @@ use flux_syntax::{Decl, Names, Param, Word};
 use flux_values::{Kind, Memory, Role, Sig};
 use std::alloc::Global;
 
-/// The library's part of a name: what stands before the first `_`, or all of it.
+/// The library's part of a name: what is before the first `_`, or all of it.
 pub fn library_name(name: &[u8]) -> &[u8]
     ensures value { result.now ≡ library_name name.now }
     ensures within { length result.now ≤ length name.now }

@@ -9,7 +9,7 @@ use crate::places::{Place, with_listed, with_pick, with_picks};
 use crate::sorts::Sort;
 use flux_syntax::{Decl, Names};
 
-/// With the names where no source may stand, of those that are among names, or aren't.
+/// With the names where no source may be, of those that are among names, or aren't.
 pub fn with_inner(place: Place, names: &Names, among: bool, decl: &Decl) -> Place
     ensures { result ≡ soonest place (picked among names.now (inner_names decl.now)) }
 {

@@ -15,6 +15,6 @@ next_call calls = min (calls.made + 1) (2 ^ 64 - 1)
 abbrev pub one_more : Calls → Calls
 one_more calls = record { fails = calls.fails; made = next_call calls }
 
--- the number of the next call stands among those that are to fail
+-- the number of the next call is among those that are to fail
 abbrev pub IsToFail : Calls → Type 0
 IsToFail calls = list_any (λ n. n == next_call calls) calls.fails ≡ true

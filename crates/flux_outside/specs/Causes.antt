@@ -8,11 +8,11 @@ use Rattle.flux_outside.specs.declared.faults.StoreFault.TheVariants as faults
 abbrev pub one_fault_more : ℕ → ℕ
 one_fault_more faults = min (faults + 1) (2 ^ 64 - 1)
 
--- a count of faults rose, or stands at its type's end
+-- a count of faults rose, or is at its type's end
 abbrev pub Rose : ℕ → ℕ → Type 0
 Rose before now = min (before + 1) (2 ^ 64 - 1) ≤ now
 
--- the count never falls; it rose where the call failed, and where it didn't fail it stands as before
+-- the count never falls; it rose where the call failed, and where it didn't fail it is as before
 pub record HasCause {T : Type 0} (before now : ℕ) (result : Result T Failed) : Type 0 where
   pub later : before ≤ now
   pub failed : OnErr result (Rose before now)

@@ -18,12 +18,12 @@ abbrev pub next_of : List FileBytes → ℕ → NextDoc
 next_of [] max = NoMore
 next_of (doc ∷ docs) max = if nat_le (length doc.body) max then Doc doc.name doc.body else Longer
 
--- what is left behind it: a document that wasn't given stays
+-- what is left after it: a document that wasn't given stays
 abbrev pub left_behind : List FileBytes → ℕ → List FileBytes
 left_behind [] max = []
 left_behind (doc ∷ docs) max = if nat_le (length doc.body) max then docs else doc ∷ docs
 
--- a call that was refused leaves all documents
+-- a call that was refused changes no document
 abbrev pub IsNextOf : List FileBytes → ℕ → Result NextDoc StoreFault → Option (List FileBytes) → Type 0
 IsNextOf docs max (Ok next) after = (next ≡ next_of docs max) × (after ≡ Some (left_behind docs max))
 IsNextOf docs max (Err fault) after = after ≡ Some docs

@@ -23,7 +23,7 @@ answer_for Missing = Ok files.Missing
 answer_for Memory = Err faults.Memory
 answer_for Failed = Err faults.Failed
 
--- the count of faults rose where the system failed, and else stands as before
+-- the count of faults rose where the system failed, and else is as before
 abbrev pub CountsReason : ℕ → ℕ → NotOpened → Type 0
 CountsReason before now Missing = now ≡ before
 CountsReason before now Memory = now ≡ before

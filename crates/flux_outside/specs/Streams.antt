@@ -3,7 +3,7 @@ use Rattle.std.specs.Prelude.{◌≡◌, ◌≢◌, ℕ, ◌⊎◌, List, [], �
 use Rattle.std.specs.Option.{option_map}
 use Rattle.flux_outside.specs.Causes.{Rose}
 
--- a stream: what was written on it, where that is told, and how often it has failed
+-- a stream: what was written on it, where that is reported, and how often it has failed
 pub record Stream : Type 0 where
   pub written : Option (List ℕ)
   pub faults : ℕ

@@ -1,4 +1,4 @@
--- What is told of answers of std: files that were opened, folders, their entries, and errors.
+-- What is read of answers of std: files that were opened, folders, their entries, and errors.
 use Rattle.std.specs.Prelude.{◌≡◌, Bool, true, false, List, ℕ, [], Option, Some, None}
 use Rattle.std.specs.declared.io.ErrorKind.{ErrorKind}
 use Rattle.std.specs.declared.io.ErrorKind.TheVariants.{NotFound, NotADirectory, OutOfMemory, Interrupted}

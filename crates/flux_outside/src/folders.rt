@@ -22,10 +22,10 @@ pub enum NextDoc {
 
 /// Gives the documents of a folder.
 pub trait Folder {
-    /// The documents of each folder by its name, in order, where they are told.
+    /// The documents of each folder by its name, in order, where they are reported.
     ghost folders: { Self → Option (List ℕ → Option (List FileBytes)) };
 
-    /// The documents left of the folder that was opened last, where they are told.
+    /// The documents left of the folder that was opened last, where they are reported.
     ghost left: { Self → Option (List FileBytes) };
 
     /// The names that it was asked for, in order.

@@ -1,9 +1,9 @@
 //! What the program meets outside: files that it reads and streams that it writes.
 //!
 //! Each outside object is a trait with a count of faults. The count never falls, and a call answers that it
-//! failed only where the count rose in that call, or stands at its type's end: code that is generic over the
+//! failed only where the count rose in that call, or is at its type's end: code that is generic over the
 //! trait can't raise the count, so it can't claim a fault that didn't happen. What an object holds or took is
-//! told where it is known: over memory it is, over real files and streams it isn't.
+//! reported where it is known: over memory it is, over real files and streams it isn't.
 #![tactic(auto)]
 
 mod asked;

@@ -45,7 +45,7 @@ impl MemorySink {
     ghost use Rattle.flux_outside.specs.Memory.{sink_bytes, sink_faults, IsNewSink};
 
     /// A sink that takes at most `piece` bytes a call and `room` bytes in all, for which it reserves memory.
-    /// The calls whose numbers stand in `fails`, counted from 1, fail; so does a call that would pass the room.
+    /// The calls whose numbers are in `fails`, counted from 1, fail; so does a call that would pass the room.
     pub fn new(
         alloc: Global,
         room: usize,
@@ -129,7 +129,7 @@ impl MemoryStore {
     ghost use Rattle.flux_outside.specs.Stores.{file_of};
     ghost use Rattle.flux_outside.specs.Memory.{first_of, store_files, store_asked, store_faults, IsNewStore};
 
-    /// A store of these files. The calls whose numbers stand in `fails`, counted from 1, fail.
+    /// A store of these files. The calls whose numbers are in `fails`, counted from 1, fail.
     pub fn new(files: List<FileBytes>, fails: List<u64>) -> MemoryStore
         ensures files { store_files result ≡ first_of files }
         ensures faultless { store_faults result ≡ 0 }

@@ -39,7 +39,7 @@ impl MemoryFolder {
     ghost use Rattle.std.specs.Str.{bytes_eq};
     ghost use Rattle.flux_outside.specs.MemoryFolders.{folder_docs, folder_left, folder_asked, folder_faults, IsNewFolder};
 
-    /// A folder `dir` of these documents, which isn't open. The calls whose numbers stand in `fails`, counted from 1, fail.
+    /// A folder `dir` of these documents, which isn't open. The calls whose numbers are in `fails`, counted from 1, fail.
     pub fn new(dir: Bytes, docs: List<FileBytes>, fails: List<u64>) -> MemoryFolder
         ensures docs { folder_docs result dir ≡ Some docs }
         ensures left { folder_left result ≡ [] }

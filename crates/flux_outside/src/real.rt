@@ -20,7 +20,7 @@ use std::rt::Files;
 const BLOCK: usize = 8192;
 
 /// A stream of std that hands each write to the system before it answers. So no byte that it took can be lost later without
-/// a fault, as one that stands in a buffer can.
+/// a fault, as one that is in a buffer can.
 pub trait Unbuffered: Write {}
 
 impl Unbuffered for Stdout {}

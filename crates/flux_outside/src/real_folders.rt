@@ -34,7 +34,7 @@ pub struct RealFolder<R: Files + AllocGlobal + Clone + Drop> {
     root: Vec<u8>,
     /// Whether the folder itself is still to be read.
     fresh: bool,
-    /// The subfolders that are still to be read, by their names with a `/` behind.
+    /// The subfolders that are still to be read, by their names with a `/` at the end.
     pending: List<Bytes>,
     /// How many subfolders were found.
     found: usize,
@@ -62,7 +62,7 @@ impl<R: Files + AllocGlobal + Clone + Drop> Drop for RealFolder<R> {
 /// A folder whose entries are being read.
 #[derive(Drop)]
 struct Listing<R: Files + AllocGlobal + Clone + Drop> {
-    /// What stands before the names of its entries.
+    /// What is before the names of its entries.
     prefix: Bytes,
     entries: ReadDir<R, Global>,
 }
@@ -108,7 +108,7 @@ fn doc_of(name: Bytes, file: File) -> Option<NextDoc>
     }
 }
 
-/// One name behind another.
+/// One name after another.
 fn joined(alloc: Global, front: &[u8], back: &[u8]) -> Result<Bytes, Memory>
     ensures { IfOk result (λ name. name ≡ front.now ++ back.now) }
 {
@@ -189,7 +189,7 @@ impl<R: Files + AllocGlobal + Clone + Drop> RealFolder<R> {
         Ok(path)
     }
 
-    /// One step. Refused, the walk stands where it stood: no entry is lost but one that the system didn't give.
+    /// One step. Refused, the walk is where it was: no entry is lost but one that the system didn't give.
     fn step(&mut self, alloc: Global) -> Result<Step, StoreFault>
         ensures stands { OnErr result (self.new ≡ record self.old { files = self.new.files; listing = self.new.listing }) }
         ensures prefix { OnErr result (option_map (λ listing. listing.prefix) self.new.listing
@@ -300,7 +300,7 @@ impl<R: Files + AllocGlobal + Clone + Drop> Folder for RealFolder<R> {
     fn open(&mut self, dir: &[u8]) -> Result<bool, Failed>
         ensures asked { AskedFor self.old.asked.names self.new.asked.names dir.now }
         ensures cause { HasCause self.old.files.faults self.new.files.faults result }
-        // Where no folder was opened, the walk stands where it stood.
+        // Where no folder was opened, the walk is where it was.
         ensures stands { OnErr result (self.new ≡ record self.old { files = self.new.files; asked = self.new.asked }) }
         ensures absent { result ≡ Ok false → self.new ≡ record self.old { files = self.new.files; asked = self.new.asked } }
         ensures opened { result ≡ Ok true → (self.new.root.items ≡ dir.now) × (self.new.fresh ≡ true) × (self.new.pending ≡ []) }

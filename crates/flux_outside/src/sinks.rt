@@ -8,7 +8,7 @@ use crate::faults::Failed;
 
 /// Takes bytes in order.
 pub trait Sink {
-    /// All bytes written so far, where they are told.
+    /// All bytes written so far, where they are reported.
     ghost written: { Self → Option (List ℕ) };
 
     /// How often the sink has failed.

@@ -19,7 +19,7 @@ pub enum File {
 
 /// Gives files by name.
 pub trait Store {
-    /// The contents of each file by its name, where they are told.
+    /// The contents of each file by its name, where they are reported.
     ghost files: { Self → Option (List ℕ → Option (List ℕ)) };
 
     /// The names that it was asked for, in order.

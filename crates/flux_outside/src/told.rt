@@ -111,7 +111,7 @@ pub fn count_told(answer: io::Result<usize>) -> Counted
     }
 }
 
-/// The fault that an error stands for.
+/// The fault that an error means.
 pub fn fault_of(kind: ErrorKind) -> StoreFault
     ensures { result ≡ fault_of kind }
 {

@@ -54,7 +54,7 @@ module _ (plan : Plan) (matches : Matches) (frames : List Frame) (values : List 
   by_step : (own : Instr) → instr ≡ own → (act : Act) (place : ℕ) → obeyed matches exit top below values outcome own ≡ acts act (going_to place top below values outcome) → Behind place
   by_step own same act place made = (act, step_top ∙ ap (obeyed matches exit top below values outcome) same ∙ made ∙ ap (acts act) (cursor_top place))
 
-  -- behind most events the frame goes on
+  -- after most events the frame goes on
   pub goes_on_behind : ((class : ClassNo) × (mode : Mode) × (instr ≡ Take class mode)) ⊎ ((instr ≡ Enter) ⊎ ((instr ≡ Exit) ⊎ ((class : ClassNo) × (instr ≡ Drop class)))) → Behind (top.place + 1)
   goes_on_behind (inl (class, mode, same)) = by_step (Take class mode) same (takes class mode) (top.place + 1) refl
   goes_on_behind (inr (inl same)) = by_step Enter same (enters top.node) (top.place + 1) refl
@@ -109,7 +109,7 @@ module _ (plan : Plan) (meaning : LibraryMeaning) (names : List (List ℕ)) (fra
       ∙ ap (λ (to : ℕ). acts (chooses number) (going_to to top under values outcome)) at
       ∙ ap (acts (chooses number)) (cursor_top plan (patterns_match meaning names) frames values outcome top is exit instr stands place)
 
-  -- behind a choice stands the arm's place
+  -- after a choice the place is the arm's
   pub chosen_behind : (number place : ℕ) → Some (number, place) ≡ found_place (first_arm (fitting meaning names values) 1 arms)
       → (act : Act) × (step plan.segments (patterns_match meaning names) chosen_state ≡ acts act (cursor frames place values outcome))
   chosen_behind number place found = (chooses number, chosen_here number place found)
@@ -129,12 +129,12 @@ module _ (plan : Plan) (verified : IsVerified plan) (matches : Matches) (frames 
   abbrev before : State
   before = record { frames = reverse frames; values = values; outcome = outcome }
 
-  -- behind an event the innermost frame is placed
+  -- after an event the innermost frame is placed
   pub behind_placed : (place : ℕ) → ArePlaced plan (reverse frames) → IsBehind frames values outcome (step plan.segments matches before) (Some place) → IsCursorPlaced plan frames place
   behind_placed place placed (act, made) =
       subst (ArePlaced plan) (frames_alike place (reverse frames) values outcome) (acts_keeps plan verified matches before (cursor frames place values outcome) act placed made)
 
-  -- the event and what silent steps behind it lead to
+  -- the event and what silent steps after it lead to
   pub moves_on : (place : ℕ) (landing : Landing) (new : State) → IsBehind frames values outcome (step plan.segments matches before) (Some place)
       → Lands plan matches frames (cursor frames place values outcome) values landing → new ≡ landed landing frames values → MovesOn plan matches before new
   moves_on place landing new (act, made) lands is = record {

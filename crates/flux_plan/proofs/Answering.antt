@@ -26,7 +26,7 @@ use Rattle.flux_plan.proofs.Placing.{GoesOn, placed_goes, shape_goes, shaped}
 use Rattle.flux_plan.proofs.Framing.{moved_last}
 use Rattle.flux_plan.proofs.Acting.{top_first}
 
--- where a call comes next, `Call` stands there
+-- where a call comes next, `Call` is there
 is_call : (frame : Frame) (instr : Instr) → IsSome (called_by frame (Some instr)) → instr ≡ Call
 is_call frame Call some = refl
 is_call frame other some = absurd cc
@@ -38,7 +38,7 @@ calls_here plan frames top exit instr is stands some =
     let found = subst (λ (s : Option Segment). IsSome (called_by top (slice_get (code_of s) top.place))) stands.is own in
     is_call top instr (subst (λ (i : Option Instr). IsSome (called_by top i)) stands.at found)
 
--- behind `Call` stands `Exit`
+-- after `Call` comes `Exit`
 record NextIsExit (next : Reading) : Type 0 where
   classes : List ClassNo
   is : next ≡ between [] classes
@@ -78,7 +78,7 @@ module _ (plan : Plan) (verified : IsVerified plan) (node place : ℕ) (placed :
       let next = next_exit placed.segment.exit place placed.reading here.instr here.next here.goes same in
       behind next.classes (here.after ∙ ap (λ (r : Reading). Some r) next.is)
 
--- the place of the innermost frame behind a call
+-- the place of the innermost frame after a call
 pub behind_call : (plan : Plan) → IsVerified plan → (node place exit : ℕ) (instr : Instr) → IsPlaced plan node place → StandsAt plan node place exit instr → instr ≡ Call → exit ≡ place + 1
 behind_call plan verified node place exit instr placed stands same =
     let own : placed.segment ≡ stands.segment = let h = placed.is in let k = stands.is in cc in
@@ -110,7 +110,7 @@ answered_last old new result top index exit is long next taken =
     ∙ taken_as old new top (reverse (take (length frames - 1) frames)) exit result next taken
     ∙ sym (ap (λ (fs : List Frame). answered_over fs old.values old.outcome result) turn)
 
--- behind an answered call the flow is at rest
+-- after an answered call the flow is at rest
 exit_acts : (matches : Matches) (exit : ℕ) (frame : Frame) (below : List Frame) (values : List Value) (outcome : Outcome) → IsSome (next_by (step_of matches exit frame below values outcome (Some Exit)))
 exit_acts matches exit frame below values outcome = refl
 

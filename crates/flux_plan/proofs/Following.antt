@@ -37,7 +37,7 @@ use Rattle.flux_plan.specs.Moves.{next_act, next_by, next_in, IsEvent, called_by
 use Rattle.flux_plan.specs.Flows.{IsAt}
 use Rattle.flux_plan.proofs.RunLemmas.{behind, so_far, IsStill, run-answers, run-settled, run-front, comes-then}
 
--- the events that stand for what comes next; a call stands only with its answer
+-- the events of what comes next; a call has one only with its answer
 abbrev pub events_for : (ClassNo → Key) → Next → List Event
 events_for key (nexts.Take class mode) = events.Take (key class) mode ∷ []
 events_for key (nexts.Enter node) = events.Enter node ∷ []
@@ -346,7 +346,7 @@ module _ (setup : Setup) (plan : Plan) (entries : List Entry) (flow : ℕ) (posi
             (subst (λ (l : List Answer). HasReached plan given.key given.matches item.values l own position) (sym same_answers) is_at.has);
       }
 
-  -- its place behind the event that comes next
+  -- its place after the event that comes next
   pub at-advanced : (later : List Entry) (next : Next) (new : Position) → next_in plan given.matches position ≡ Some next → Advances plan given.matches position new
       → own_answers later flow ≡ answers → own_events later flow ≡ own ++ events_for given.key next → IsAt setup plan later flow new
   at-advanced later next new is made same_answers same_events =
@@ -362,7 +362,7 @@ module _ (setup : Setup) (plan : Plan) (entries : List Entry) (flow : ℕ) (posi
             (subst (λ (l : List Answer). HasReached plan given.key given.matches item.values l (own ++ events_for given.key next) new) (sym same_answers) has);
       }
 
-  -- its place behind the call that comes next
+  -- its place after the call that comes next
   pub at-answered : (later : List Entry) (node : NodeNo) (answer : Answer) (new : Position) → called_in plan position ≡ Some node → IsAnswered plan position answer new
       → own_answers later flow ≡ answers ++ answer ∷ [] → own_events later flow ≡ own ++ events.Call (record { node = node; args = values_at position; answer = answer }) ∷ [] → IsAt setup plan later flow new
   at-answered later node answer new is made same_answers same_events =

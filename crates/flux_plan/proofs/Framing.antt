@@ -10,7 +10,7 @@ use Rattle.flux_plan.specs.declared.stacks.Frame.{Frame}
 use Rattle.flux_plan.specs.Machine.{State, at_place}
 use Rattle.flux_plan.specs.steps.Turns.{with_place, cursor, cursor_on, entered_over}
 
--- what is inserted, without what comes behind it
+-- what is inserted, without what comes after it
 pub take-insert : {X : Type 0} (xs ys zs : List X) (n : ℕ) (x : X) → n ≤ length xs → ys ≡ insert xs n x → zs ≡ take (n + 1) ys → zs ≡ take n xs ++ x ∷ []
 take-insert xs ys zs n x le is all =
     let split : insert xs n x ≡ (take n xs ++ x ∷ []) ++ drop n xs = sym (append_assoc (take n xs) (x ∷ []) (drop n xs)) in

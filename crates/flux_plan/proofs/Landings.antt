@@ -59,7 +59,7 @@ reverse_last {X} frames top some is =
     ap reverse whole ∙ reverse-append (take n frames) (top ∷ [])
 
 module _ (plan : Plan) (verified : IsVerified plan) (matches : Matches) where
-  -- a silent step leaves placed frames
+  -- after a silent step frames are placed
   pub silent_keeps : (state next : State) → ArePlaced plan state.frames → step plan.segments matches state ≡ silent next → ArePlaced plan next.frames
   silent_keeps state next placed made = subst (Keeps plan state) made (step_keeps plan verified matches state placed)
 
@@ -121,7 +121,7 @@ module _ (plan : Plan) (verified : IsVerified plan) (matches : Matches) where
       next_turned : reverse lower ≡ next ∷ reverse (take (length lower - 1) lower)
       next_turned = reverse_last lower next (omega (arith, fewer, more)) next_is
 
-      -- the frame below goes on where it stands
+      -- the frame below goes on where it is
       stays : (all : List Value) (after : Outcome) → cursor lower next.place all after ≡ record { frames = below; values = all; outcome = after }
       stays all after =
           ap (λ (fs : List Frame). cursor_on next.place fs all after) next_turned

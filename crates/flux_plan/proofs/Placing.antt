@@ -1,4 +1,4 @@
--- In a verified plan a placed frame has an instruction, and each step leaves placed frames.
+-- In a verified plan a placed frame has an instruction, and after each step frames are placed.
 use Rattle.std.proofs.Common.{◌≡◌, ◌≢◌, inl, inr, ℕ, zero, suc, ◌+◌, ◌^◌, ◌<◌, ◌≤◌, List, [], ◌∷◌, ◌++◌, length, Option, Some, None, refl, sym, ◌∙◌, subst, arith}
 use Rattle.std.specs.Prelude.{⊤}
 use Rattle.std.specs.List.{slice_get, flat_map, AllByRecursion}
@@ -23,7 +23,7 @@ use Rattle.flux_plan.proofs.Readings.{reading_at-next, Goes, take, enter, call, 
 
 -- ---- in a segment whose shape goes on at each place
 
--- what stands at a place, and what has been read with it
+-- what is at a place, and what has been read with it
 pub record GoesOn (segment : Segment) (place : ℕ) (reading : Reading) : Type 0 where
   pub instr : Instr
   pub is : slice_get segment.code place ≡ Some instr
@@ -59,7 +59,7 @@ module _ (segment : Segment) (shaped : (place : ℕ) → IsMisshapen segment pla
   AreAhead place (arm ∷ arms) classes = (place ≤ arm.to)
       × (reading_at segment arm.to ≡ Some (between (arm ∷ arms) classes)) × AreAhead place arms classes
 
-  -- the arms that are still to come, and `Exit` behind them, stand further on
+  -- the arms that are still to come, and `Exit` after them, are further on
   pub record Ahead (place : ℕ) (arms : List Arm) (classes : List ClassNo) : Type 0 where
     pub at_exit : reading_at segment segment.exit ≡ Some (between [] classes)
     pub further : place ≤ segment.exit
@@ -176,7 +176,7 @@ module _ (plan : Plan) (verified : IsVerified plan) where
     handlers_placed [] all = tt
     handlers_placed (arm ∷ arms) all = (all arm.node.0 (inl refl), handlers_placed arms (λ led is. all led (inr is)))
 
-    -- where `Handle` stands, `EndHandle` and `Return` follow
+    -- where `Handle` is, `EndHandle` and `Return` follow
     past_handling : reading_at placed.segment (place + 1) ≡ Some handling → IsPlaced plan node (place + 2)
     past_handling before = more on.instr on.next on.goes on.after
       where
@@ -234,7 +234,7 @@ pub opens : (exit place : ℕ) (instr : Instr) (next : Reading) → Goes exit pl
 opens exit place instr next (take below) = tt
 opens exit place instr next enter = tt
 
--- behind `Call` stands `Exit`
+-- after `Call` comes `Exit`
 abbrev pub IsAfterCall : Instr → Instr → Type 0
 IsAfterCall Call instr = instr ≡ Exit
 IsAfterCall other instr = ⊤

@@ -41,7 +41,7 @@ start_placed plan verified = by (slice_get plan.segments plan.target.0) refl
     }
 
 module _ (plan : Plan) (verified : IsVerified plan) (key : ClassNo → Key) (matches : Matches) where
-  -- where a run comes to from placed frames, the frames are placed
+  -- where a run gets to from placed frames, the frames are placed
   abbrev Leads : Ran → Type 0
   Leads ran = (events : List Event) (next : State) (left : List Answer) → ran ≡ record { events = events; standing = on_the_way next left } → ArePlaced plan next.frames
 

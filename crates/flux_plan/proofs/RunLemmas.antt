@@ -10,7 +10,7 @@ use Rattle.flux_plan.specs.Machine.{State, Step, silent, acts, calls, ended, stu
 use Rattle.flux_plan.specs.Moves.{after_silence, settled}
 use Rattle.flux_plan.specs.Runs.{event_of, Standing, at_end, at_call, nowhere, on_the_way, Ran, after_event, run, run_step, run_call}
 
--- a run behind events
+-- a run after events
 abbrev pub behind : List Event → Ran → Ran
 behind before ran = record { events = before ++ ran.events; standing = ran.standing }
 
@@ -24,7 +24,7 @@ behind-event before event ran = behind-behind before (event ∷ []) ran
 abbrev pub so_far : List Event → State → List Answer → Ran
 so_far before state left = record { events = before; standing = on_the_way state left }
 
--- a run stands still
+-- a run halts
 abbrev pub IsStill : Standing → Type 0
 IsStill at_end = Unit {0}
 IsStill (at_call node args) = Unit {0}
@@ -72,7 +72,7 @@ module _ (segments : List Segment) (key : ClassNo → Key) (matches : Matches) w
       by ended goes b h = absurd (let x : at_end ≡ on_the_way next left = ap (λ (r : Ran). r.standing) h in cc)
       by stuck goes b h = absurd (let x : nowhere ≡ on_the_way next left = ap (λ (r : Ran). r.standing) h in cc)
 
-  -- a run that stands still stays so with more steps
+  -- a run that halts stays so with more steps
   pub run-still : (n m : ℕ) (state : State) (answers : List Answer) (before : List Event) (standing : Standing) → IsStill standing
       → Run n state answers ≡ record { events = before; standing = standing } → Run (n + m) state answers ≡ record { events = before; standing = standing }
   run-still zero m state answers before standing still e =
@@ -149,14 +149,14 @@ module _ (segments : List Segment) (key : ClassNo → Key) (matches : Matches) w
       by ended is more = (0, refl)
       by stuck is more = (0, refl)
 
-  -- a run that came so far is the front of one that stands still
+  -- a run that came so far is the front of one that halts
   pub run-front : (n m : ℕ) (state : State) (answers : List Answer) (before all : List Event) (next : State) (left : List Answer) (standing : Standing)
       → Run n state answers ≡ so_far before next left → IsStill standing → Run m state answers ≡ record { events = all; standing = standing }
       → (k : ℕ) × (behind before (Run k next left) ≡ record { events = all; standing = standing })
   run-front n m state answers before all next left standing e still whole =
       (m, sym (run-add n m state answers before next left e) ∙ ap (λ (i : ℕ). Run i state answers) (omega arith) ∙ run-still m n state answers all standing still whole)
 
-  -- a run comes from a state to another, with these events; it stands still with these
+  -- a run gets from a state to another, with these events; it halts with these
   abbrev pub Comes : State → List Answer → List Event → State → List Answer → Type 0
   Comes state answers before next left = (n : ℕ) × (Run n state answers ≡ so_far before next left)
 

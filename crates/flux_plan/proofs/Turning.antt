@@ -16,7 +16,7 @@ use Rattle.flux_plan.specs.Faulty.{IsVerified, IsSized}
 use Rattle.flux_plan.specs.steps.Turns.{StandsAt, found_place, fitting}
 use Rattle.flux_plan.proofs.Placing.{placed_fits}
 
--- the step of a frame is that of the instruction that stands there
+-- the step of a frame is that of the instruction that is there
 pub step_at : (plan : Plan) (matches : Matches) (place exit : ℕ) (instr : Instr) (frame : Frame) (below : List Frame) (values : List Value) (outcome : Outcome)
     → StandsAt plan frame.node.0 place exit instr
     → step plan.segments matches (going_to place frame below values outcome) ≡ obeyed matches exit (at_place frame place) below values outcome instr
@@ -40,6 +40,6 @@ none_chosen plan meaning names place exit arms frame below values outcome stands
   stands.led.1,
 )
 
--- two places behind `Handle` fit 32 bits
+-- two places after `Handle` fit 32 bits
 pub handle_fits : (plan : Plan) → IsVerified plan → IsSized plan → (node place exit : ℕ) (arms : List HandleArm) → StandsAt plan node place exit (Handle arms) → place + 2 < 2 ^ 32
 handle_fits plan verified sized node place exit arms stands = placed_fits plan verified node (place + 2) stands.led.1 sized

@@ -10,7 +10,7 @@ use Rattle.flux_plan.specs.declared.plans.Instr.TheVariants.{Choose, Go}
 use Rattle.flux_plan.specs.Reading.{Reading, whole, read_more, reading_at}
 use Rattle.flux_plan.specs.Leading.{led_by, Reaches, IsOnCycle, IsOpen}
 
--- the shape can't go on with what stands at a place, or the code ends there too early
+-- the shape can't go on with what is at a place, or the code ends there too early
 abbrev pub CantGoOn : ℕ → ℕ → Reading → Option Instr → Type 0
 CantGoOn exit place reading None = reading ≢ whole
 CantGoOn exit place reading (Some instr) = read_more exit place reading instr ≡ None

@@ -85,7 +85,7 @@ chosen exit frame below values outcome None = silent (going_to exit frame below 
 chosen exit frame below values outcome (Some (number, arm)) =
     acts (chooses number) (going_to arm.to frame below values outcome)
 
--- while all is well, a node is entered with the values, and this frame goes on behind it; with another outcome it goes to
+-- while all is well, a node is entered with the values, and this frame goes on after it; with another outcome it goes to
 -- `exit`
 abbrev pub gone : ℕ → Frame → List Frame → List Value → NodeNo → Outcome → Step
 gone exit frame below values node Good =
@@ -108,7 +108,7 @@ handles frame below values arms Over =
 handles frame below values arms (Bad code) =
     handled frame below values code (handler_for arms code)
 
--- behind a handler that came out well all is over
+-- after a handler that came out well all is over
 abbrev pub over_after : Outcome → Outcome
 over_after Good = Over
 over_after Over = Over

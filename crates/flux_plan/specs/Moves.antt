@@ -1,5 +1,5 @@
 -- One flow's place in a plan: what comes next there, and which place follows. Places are at rest: the machine's silent
--- steps lie behind them.
+-- steps are done already.
 use Rattle.std.specs.Prelude.{◌≡◌, ℕ, zero, suc, List, [], ◌∷◌, Option, Some, None, IsSome, ⊤}
 use Rattle.std.specs.List.{slice_get}
 use Rattle.flux_values.specs.declared.values.Value.{Value}
@@ -28,7 +28,7 @@ next_act (exits node outcome) = Exit node outcome
 next_act (drops class) = Drop class
 next_act (ends outcome) = End outcome
 
--- what comes next by a step; a silent step leaves that to those behind it
+-- what comes next by a step; for a silent step it is by those after it
 abbrev pub next_by : Step → Option Next
 next_by (silent state) = None
 next_by (acts act state) = Some (next_act act)
@@ -121,7 +121,7 @@ pub record Advances (plan : Plan) (matches : Matches) (old new : Position) : Typ
   pub new_ : state_in plan new ≡ settled plan.segments matches steps after
   pub rests : IsSome (next_in plan matches new)
 
--- the call that comes next at a place has been answered; the place behind it is at rest, whatever patterns match
+-- the call that comes next at a place has been answered; the place after it is at rest, whatever patterns match
 abbrev pub answered_in : Plan → Position → Answer → Position
 answered_in plan position answer = at (answered (state_in plan position) answer)
 

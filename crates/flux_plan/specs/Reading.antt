@@ -80,7 +80,7 @@ in_closing Return = Some whole
 in_closing other = None
 
 -- what has been read with the instruction at a place, where the segment has this `exit`; none where the shape can't go on
--- with that. The places of `Exit` and of arms are compared where these stand
+-- with that. The places of `Exit` and of arms are compared where the code has them
 abbrev pub read_more : ℕ → ℕ → Reading → Instr → Option Reading
 read_more exit place (taking classes) instr = in_takes classes instr
 read_more exit place (entered classes) instr = in_body classes instr

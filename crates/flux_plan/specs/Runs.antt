@@ -26,7 +26,7 @@ event_of key (exits node outcome) = events.Exit node outcome
 event_of key (drops class) = events.Drop (key class)
 event_of key (ends outcome) = events.End outcome
 
--- where a run stands: it has ended; it is before a call of a node on values, and no answer is left for that; the plan has
+-- where a run is: it has ended; it is before a call of a node on values, and no answer is left for that; the plan has
 -- no instruction there; or it is on its way, with these answers left
 pub data Standing : Type 0 where
   at_end : Standing
@@ -34,7 +34,7 @@ pub data Standing : Type 0 where
   nowhere : Standing
   on_the_way : State → List Answer → Standing
 
--- the events of a run, and where it stands then
+-- the events of a run, and where it is then
 pub record Ran : Type 0 where
   pub events : List Event
   pub standing : Standing
@@ -60,7 +60,7 @@ run_step more key state answers (calls node) = run_call more state node answers
 run_step more key state answers ended = stands at_end
 run_step more key state answers stuck = stands nowhere
 
--- so many steps from a state on, or fewer where it comes to stand before
+-- so many steps from a state on, or fewer where it halts before
 abbrev pub run : List Segment → (ClassNo → Key) → Matches → ℕ → State → List Answer → Ran
 run segments key matches zero state answers = stands (on_the_way state answers)
 run segments key matches (suc steps) state answers =
@@ -68,7 +68,7 @@ run segments key matches (suc steps) state answers =
 
 -- ---- plans of walks
 
--- a run stands still where a walk stops
+-- a run halts where a walk stops
 abbrev pub still : Stop → Standing
 still (walks.finished end_) = at_end
 still (walks.before_call node args) = at_call node args
@@ -78,7 +78,7 @@ still walks.nowhere = nowhere
 abbrev pub run_of : Walked → Ran
 run_of walked = record { events = with_end walked; standing = still walked.stop }
 
--- after some number of steps the plan has made exactly the events of a walk, and stands where that stops
+-- after some number of steps the plan has made exactly the events of a walk, and is where that stops
 pub record RunsAs (plan : Plan) (given : Given) (values : List Value) (answers : List Answer) (walked : Walked)
     : Type 0 where
   pub steps : ℕ

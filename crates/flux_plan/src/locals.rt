@@ -141,7 +141,7 @@ impl Local {
         }
     }
 
-    /// The values of an answer, to be at hand behind its call.
+    /// The values of an answer, to be at hand after its call.
     pub fn carried(&self, answer: &SharedAnswer) -> Result<Carried, Memory>
         ensures { IfOk result (λ values. values ≡ good_values answer.now.result) }
     {

@@ -26,7 +26,7 @@ pub struct Machine<'a, L: Library> {
     pub library: &'a L,
 }
 
-/// What is entered behind silent steps.
+/// What is entered after silent steps.
 #[derive(Clone, Copy)]
 pub enum Entering {
     Nothing,

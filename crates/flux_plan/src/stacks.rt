@@ -157,7 +157,7 @@ impl Stack {
         }
     }
 
-    /// The place of the innermost frame behind the event that comes next; none where the flow ends.
+    /// The place of the innermost frame after the event that comes next; none where the flow ends.
     #[inline(always)]
     fn behind<L: Library>(&self, machine: &Machine<'_, L>) -> Option<u32>
         requires verified { IsVerified machine.now.plan.now }
@@ -191,7 +191,7 @@ impl Stack {
         }
     }
 
-    /// Makes the event that comes next, and the silent steps behind it.
+    /// Makes the event that comes next, and the silent steps after it.
     #[inline(always)]
     pub fn advance<L: Library>(&mut self, machine: &Machine<'_, L>) -> Result<(), Memory>
         requires verified { IsVerified machine.now.plan.now }
@@ -265,7 +265,7 @@ impl Stack {
         }
     }
 
-    /// Takes the answer of the call that comes next, with its values. Behind it stands `Exit`.
+    /// Takes the answer of the call that comes next, with its values. After it comes `Exit`.
     pub fn answer(&mut self, plan: &Plan, answer: &SharedAnswer, values: Carried)
         requires values { values ≡ good_values answer.now.result }
         requires verified { IsVerified plan.now }

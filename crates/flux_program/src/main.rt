@@ -44,7 +44,7 @@ fn arguments(rt: &HostRuntime) -> io::Result<Vec<String>> {
     Ok(env::args(rt)?.collect(rt.alloc())?)
 }
 
-/// The words behind the program's own name.
+/// The words after the program's own name.
 fn words_of(alloc: Global, arguments: &[String]) -> Result<List<Bytes>, Memory>
     ensures { IfOk result (λ words. words ≡ map string_bytes (drop 1 arguments.now)) }
 {

@@ -11,7 +11,7 @@ use Rattle.flow_orders.specs.Runs.{IsOneRunACall, NeverMoreRuns, sum_of_costs}
 use Rattle.flow_orders.specs.Rule.{IsByTheRule}
 use Rattle.flow_orders.specs.Idle.{NeverIdleForNothing}
 
--- what the calls of so many nodes cost: what is given for them in order, and 1 for each node behind that; what is given
+-- what the calls of so many nodes cost: what is given for them in order, and 1 for each node after that; what is given
 -- for no node is passed over
 abbrev pub costs_for : ℕ → List ℕ → List ℕ
 costs_for zero given = []

@@ -1,4 +1,4 @@
--- What serving has done, told of what is seen of the links.
+-- What serving has done, by what is seen of the links.
 use Rattle.std.proofs.Common.{◌≡◌, ℕ, ◌+◌, List, [], ◌∷◌, ◌++◌, length, map, Option, Some, None, IfSome, refl, sym, ap, ◌∙◌, subst, inl, inr, ◌⊎◌}
 use Rattle.std.specs.Option.{option_map}
 use Rattle.std.proofs.lemmas.List.{map-append, length-map}
@@ -181,7 +181,7 @@ module _ {L : Type 0} (see : L → Seen) where
   stopped_seen service opening count number before after Memory (inl s) = inl (undriven_seen before after s)
   stopped_seen service opening count number before after Memory (inr s) = inr (batch_seen s.0, has_driven service opening count number s.0 before after Stands s.1)
 
-  -- behind the same batches
+  -- after the same batches
   stopped_there : (service : Service) (batches : List (Batch L)) (mid after : Sight L) (end : ServeEnd) → HasStopped see service (cells_at_end service empty_cells 0 batches) (length batches) (number_at_end 0 batches) mid after end
       → HasStopped itself service (cells_at_end service empty_cells 0 (map batch_seen batches)) (length (map batch_seen batches)) (number_at_end 0 (map batch_seen batches)) (as_seen see mid) (as_seen see after) end
   stopped_there service batches mid after end s =

@@ -1,4 +1,4 @@
--- What serving at once has done: told of what is seen of the links, and when counts of failures rose.
+-- What serving at once has done: by what is seen of the links, and when counts of failures rose.
 use Rattle.std.proofs.Common.{◌≡◌, inl, inr, ℕ, List, [], ◌∷◌, map, sym, ap, ◌∙◌, subst}
 use Rattle.std.proofs.lemmas.List.{length-map}
 use Rattle.flux_model.specs.declared.items.Item.{Item}

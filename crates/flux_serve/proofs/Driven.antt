@@ -24,7 +24,7 @@ use Rattle.flux_serve.proofs.Unwritten.{unwritten_request}
 
 -- ---- driven
 
--- what is known of a batch behind its replies
+-- what is known of a batch after its replies
 pub record Parts {L : Type 0} (see : L → Seen) (service : Service) (opening : Cells) (number : ℕ) (before after : Sight L) (requests : List (ReadLink L)) (run : Run) : Type 0 where
   pub to_come : Option (List (List L))
   pub taken_back : Option (List L)

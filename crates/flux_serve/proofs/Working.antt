@@ -57,7 +57,7 @@ module _ {L : Type 0} (seat : SeatState L) (turn : SharedTurn L) (is : IsTurnOf 
 
 -- ---- links
 
--- at a place of a list it doesn't matter what stands for an element elsewhere
+-- at a place of a list it doesn't matter what is in place of an element elsewhere
 pub other-default : {X : Type 0} → (xs : List X) (place : ℕ) (one other : X) → place < length xs → slice_index_or xs place one ≡ slice_index_or xs place other
 other-default [] place one other below = absurd (omega (arith, below))
 other-default (x ∷ xs) zero one other below = refl
@@ -125,7 +125,7 @@ module _ {K : Type 0} (see : K → Seen) where
           subst P (sym (get_or-set_other mid at place new none (λ e. apart (sym e))))
           (reply-so-later two three reply (slice_index_or mid place none) begins (first place none below reply is))
 
-  -- all links of a worker, behind its work
+  -- all links of a worker, after its work
   pub keeps-are : (seen later : List Entry) (old new : List (PendingReply K)) → length new ≡ length old → KeepReplies see seen later old new → AreRepliesSoFar see later old new
   keeps-are seen later old new same keep = replies-each see later old new same (λ place none below. keep place none below (slice_index_or old place none) (inl refl))
 
@@ -160,7 +160,7 @@ module _ {X : Type 0} (P : ℕ → X → X → Type 0) (xs : List X) (at : ℕ) 
           let Q : X → Type 0 = λ y. P place none y in
           subst Q (sym (get_or-set_other xs at place x none (λ e. apart (sym e)))) (each place none (omega (arith, below, length-set xs at x)))
 
--- an element behind the one that was set
+-- an element after the one that was set
 pub set-behind : {X : Type 0} → (xs : List X) (at : ℕ) (x : X) (place : ℕ) (none : X) → at < place
     → slice_index_or (set xs at x) place none ≡ slice_index_or xs place none
 set-behind xs at x place none behind = get_or-set_other xs at place x none (λ e. let no : place ≡ at = e in absurd (omega (arith, no, behind)))
@@ -194,6 +194,6 @@ module _ {L K : Type 0} where
       let O : VecDeque (PendingReply K) Global → Type 0 = λ d. AreRepliesSoFar see entries d.items replies'.items in
       subst O same (subst N (sym was.replies_) are)
 
-  -- a queue has its seat behind the work, too
+  -- a queue has its seat after the work, too
   pub has-worked : (see : K → Seen) (shared : SharedState L) (old new : WorkerQueue (SeatState L) K) → HasWorked see shared old new → HasSeat shared new
   has-worked see shared old new has = record { seat = has.seat; seat_ = has.seat_; shared_ = has.shared_ }

@@ -42,7 +42,7 @@ AreAnsweredSoFar see entries flow (request ∷ rest) (back ∷ backs) =
 
 -- a batch that was broken off: its links are the first of the door's next batch, one to 64; they were
 -- read, answered so far by one legal journal of its items, which isn't whole, and given back; the log and
--- the door's count stand
+-- the door's count are as before
 pub record IsBegun {L : Type 0} (see : L → Seen) (service : Service) (opening : Cells) (number : ℕ)
     (batch : Batch L) (before after : Sight L) : Type 0 where
   pub formed : AreGathered before.to_come after.to_come before.late after.late batch.came

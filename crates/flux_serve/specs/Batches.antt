@@ -57,7 +57,7 @@ pub record IsDriven {L : Type 0} (see : L → Seen) (service : Service) (opening
   pub replies : let journal = batch.journal in
       AreAnswered see journal.entries 0 batch.requests batch.back []
 
--- ---- behind a batch
+-- ---- after a batch
 
 -- the cells
 abbrev pub cells_behind : {L : Type 0} → Service → Cells → ℕ → Batch L → Cells

@@ -15,7 +15,7 @@ use Rattle.flux_serve.specs.declared.batches.ServeEnd.TheVariants.{Log, Memory}
 use Rattle.flux_serve.specs.Batches.{Service, Batch, IsDriven, batch_text}
 use Rattle.flux_serve.specs.Batches.{cells_behind, number_behind, empty_cells}
 
--- a door and a log: the links to come and those taken back, where they are told, the door's counts,
+-- a door and a log: the links to come and those taken back, where they are reported, the door's counts,
 -- and the log
 pub record Sight (L : Type 0) : Type 0 where
   pub to_come : Option (List (List L))
@@ -56,14 +56,14 @@ AreServed {L} see service opening count number before after (batch ∷ batches) 
     × AreServed see service (cells_behind service opening number batch) (count + 1)
     (number_behind number batch) mid after batches
 
--- the cells behind batches
+-- the cells after batches
 abbrev pub cells_at_end : {L : Type 0} → Service → Cells → ℕ → List (Batch L) → Cells
 cells_at_end service opening number [] = opening
 cells_at_end service opening number (batch ∷ batches) =
     cells_at_end service (cells_behind service opening number batch) (number_behind number batch)
     batches
 
--- the number of the next link behind batches
+-- the number of the next link after batches
 abbrev pub number_at_end : {L : Type 0} → ℕ → List (Batch L) → ℕ
 number_at_end number [] = number
 number_at_end number (batch ∷ batches) = number_at_end (number_behind number batch) batches
@@ -80,7 +80,7 @@ AreUnwritten see [] (back ∷ backs) = ⊥
 AreUnwritten see (link ∷ links) [] = ⊥
 
 -- a batch that wasn't driven: the first links of the door's next batch, at most 64; or none, where
--- the door gave nothing; the log and the door's count stand
+-- the door gave nothing; the log and the door's count are as before
 pub record IsUndriven {L : Type 0} (see : L → Seen) (before after : Sight L) : Type 0 where
   pub came : List L
   pub backs : List L
@@ -92,11 +92,11 @@ pub record IsUndriven {L : Type 0} (see : L → Seen) (before after : Sight L) :
   pub steady : after.faults ≡ before.faults
   pub log_ : after.log ≡ before.log
 
--- the log stands
+-- the log is as before
 abbrev pub Stands : Stream → Stream → List ℕ → Type 0
 Stands before after text = after ≡ before
 
--- how the batch behind those that were served ended
+-- how the batch after those that were served ended
 abbrev pub HasStopped : {L : Type 0} → (L → Seen) → Service → Cells → ℕ → ℕ → Sight L → Sight L
     → ServeEnd → Type 0
 HasStopped see service opening count number before after Closed =
@@ -131,7 +131,7 @@ HasEnded see service wanted batches before after Memory = (length batches < want
     × HasStopped see service (cells_at_end service empty_cells 0 batches) (length batches)
     (number_at_end 0 batches) before after Memory
 
--- serving: batches that were served, and how it ended behind them
+-- serving: batches that were served, and how it ended after them
 pub record HasServed {L : Type 0} (see : L → Seen) (service : Service) (wanted : ℕ)
     (before after : Sight L) (end : ServeEnd) : Type 0 where
   pub batches : List (Batch L)

@@ -12,7 +12,7 @@ use Rattle.flux_cells.specs.Kept.{Kept, cells_of}
 use Rattle.flux_batches.specs.Links.{IsLinkItem}
 use Rattle.flux_serve.specs.Batches.{Service, batch_setup}
 
--- a journal that is legal and whole for these items from these cells, and the cells that it leaves
+-- a journal that is legal and whole for these items from these cells, and the cells after it
 pub record IsRun (service : Service) (opening : Kept) (items : List Item) (run : Journal × Kept)
     : Type 0 where
   pub legal : let journal = run.0 in

@@ -43,7 +43,7 @@ pub enum ServeEnd {
     Memory,
 }
 
-/// What a batch came to: its items, its journal, the cells at its end, and the number of the link behind its links.
+/// What a batch ended with: its items, its journal, the cells at its end, and the number of the link after its links.
 #[derive(Drop)]
 pub struct Run {
     pub items: List<Item>,
@@ -211,7 +211,7 @@ fn write_batch<O: Sink>(
     }
 }
 
-/// The same: gives what the next batch begins with, the cells at its end and the number of the link behind its links.
+/// The same: gives what the next batch begins with, the cells at its end and the number of the link after its links.
 pub fn log_batch<O: Sink>(
     alloc: Global,
     program: &Program,

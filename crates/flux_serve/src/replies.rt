@@ -19,7 +19,7 @@ pub struct PendingReply<K> {
     pub written: bool,
 }
 
-/// The flow of the next link with an item, behind one.
+/// The flow of the next link with an item, after one.
 pub fn flow_behind(flow: u32, sent: &Sent) -> u32
     requires { flow < 64 }
     ensures flow { result ≡ flow_behind flow sent.now }

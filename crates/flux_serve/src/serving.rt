@@ -1,4 +1,4 @@
-//! Batches whose links are answered behind each.
+//! Batches whose links are answered after each.
 
 ghost use Rattle.std.specs.Prelude.{◌≡◌, ◌+◌, ◌^◌, ◌<◌, ◌≤◌, length, IfOk, IfErr};
 ghost use Rattle.std.specs.List.{AllByRecursion};

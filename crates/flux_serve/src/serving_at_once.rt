@@ -25,7 +25,7 @@ use std::sync::Wait;
 use std::thread::Threads;
 
 /// Serves as `serve` does, by so many workers, from 1 to 16, each in a thread of its own where one can be made. Worker i has
-/// the flows whose number leaves i modulo the number of workers. It steps these, runs their calls, and writes a flow's reply as
+/// the flows whose number modulo the number of workers is i. It steps these, runs their calls, and writes a flow's reply as
 /// soon as the flow has its `end`, while other flows of the batch still run. Where memory runs out in a batch, it may have
 /// answered some of its links.
 pub fn serve_at_once<

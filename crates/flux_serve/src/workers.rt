@@ -76,7 +76,7 @@ fn call<L: Library, G: Gate, R: Wait>(
     (shared.give(turn), stage_behind(goes))
 }
 
-/// How a flow stands whose answer was handed in.
+/// The stage of a flow whose answer was handed in.
 fn stage_behind(goes: bool) -> Stage {
     if goes { Stage::Went } else { Stage::Halted }
 }
@@ -101,7 +101,7 @@ fn visit_open<L: Library, K: Link, G: Gate, R: Wait>(
     (seat, Stage::Ended)
 }
 
-/// How a worker stands behind one of its visits, with how it stood before.
+/// The stage of a worker after one of its visits, with the stage before.
 fn stage_with(before: Stage, stage: Stage) -> Stage {
     match (before, stage) {
         (Stage::Halted, _) | (_, Stage::Halted) => Stage::Halted,

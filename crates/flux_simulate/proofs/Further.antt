@@ -28,7 +28,7 @@ further-then a b c one other = let first = one.on in let last = other.on in reco
   halted_ = other.halted_ ∙ one.halted_;
 }
 
--- what a core's call leaves
+-- what is so after a core's call
 pub further-call : {L : Type 0} (old new : CoreState L) (flow : FlowNo) → GoesOn old new → LeavesOthers old new flow
     → GoesFurther old new
 further-call old new flow on others = record { on = on; halted_ = let setting = others.setting in setting.halted_ }

@@ -78,7 +78,7 @@ further-longer old new further =
     let both = length-append old.entries on.more in
     omega (arith, same, both)
 
--- a tick that is done, or the last, behind which there is none
+-- a tick that is done, or the last, after which there is none
 pub tick-lessens : {L : Type 0} (meaning : L → LibraryMeaning) (start old new : CoreState L) → GoesFurther start new
     → IsKept meaning new → GoesFurther old new → (was now : Bool) → was ≡ true
     → (now ≡ true → length old.entries < length new.entries)

@@ -1,4 +1,4 @@
--- What is kept before anything is done, and when all stand still.
+-- What is kept before anything is done, and when no flow can go on.
 use Rattle.std.proofs.Common.{◌≡◌, ◌<◌, ℕ, false, eqb, leb, ◌&&◌, List, [], length, Option, None, refl, sym, ap, subst, arith}
 use Rattle.std.specs.List.{AllByRecursion}
 use Rattle.std.specs.Option.{is_some}
@@ -14,7 +14,7 @@ use Rattle.flux_simulate.specs.steps.Ticking.{one_if, Lasts, AllLast, AllStandSt
 use Rattle.flux_simulate.proofs.Journals.{turns-none}
 use Rattle.flux_simulate.proofs.Tallies.{all-map, count-none}
 
--- calls begin when all flows stand still
+-- calls begin when no flow can go on
 pub all-begin : {L : Type 0} (meaning : L → LibraryMeaning) (core : CoreState L) (clock : Clock)
     → Goes meaning core clock → AllStandStill meaning core → Begins meaning core clock
 all-begin meaning core clock goes none = record {

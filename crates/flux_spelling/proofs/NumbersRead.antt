@@ -34,7 +34,7 @@ digit_code c h = let r = digit_from_value c h in grind (arith, nat_tests)
 no_digit : (c : ℕ) → digit_value c < 10 → is_ascii_digit c ≡ false → ⊥
 no_digit c h none = let e : true ≡ false = sym (digit_code c h) ∙ none in absurd cc
 
--- digits up to what is none go past all digits that stand at the same front
+-- digits up to what is none go past all digits that are at the same front
 pub record GoPast (es ds rest tail : List ℕ) : Type 0 where
   pub more : List ℕ
   pub whole : es ≡ ds ++ more
@@ -60,7 +60,7 @@ pub record AsNumber (negative : Bool) (x : List ℕ) (v : Value) (n : ℕ) : Typ
   pub laid : x ≡ digits ++ rest
   pub long : n ≡ length (minus negative) + length digits
 
--- the sign is told by the first byte
+-- the first byte decides the sign
 same_sign : (a b : Bool) (d : ℕ) (ds es rest : List ℕ) → digit_value d < 10 → IsNumeral 10 es → minus a ++ d ∷ ds ≡ (minus b ++ es) ++ rest → a ≡ b
 same_sign true true d ds es rest first numeral e = refl
 same_sign false false d ds es rest first numeral e = refl
@@ -96,14 +96,14 @@ as_number negative d x (values.Int z) n first begins =
     let same = same_sign negative form.negative d x form.digits begins.rest first form.numeral (begins.front ∙ ap (λ (l : List ℕ). l ++ begins.rest) form.laid) in
     int_form negative d x z n begins.spelling begins.rest form.digits form.negative first same begins.spells.is_value begins.ends begins.front begins.long form.numeral form.laid form.value
 
--- no text stands where a sign or a digit does
+-- no text begins where a sign or a digit does
 pub number_not_long : (negative : Bool) (d : ℕ) (x : List ℕ) (at : ℕ) → digit_value d < 10 → IsTooLong (minus negative ++ d ∷ x) at → ⊥
 number_not_long true d x at first long = quote_first 45 (d ∷ x) at long (omega arith)
 number_not_long false d x at first long = let r = digit_from_value d first in quote_first d x at long (omega arith)
 
 -- ---- the answers
 
--- a digit stands first
+-- a digit is first
 pub record FirstDigit (x : List ℕ) : Type 0 where
   pub digit : ℕ
   pub rest : List ℕ
@@ -229,7 +229,7 @@ pub some_before : (bytes : List ℕ) (at number : ℕ) → number ≡ digits_val
 some_before bytes zero number value some = absurd (omega arith)
 some_before bytes (suc at) number value some = omega arith
 
--- a number behind its sign
+-- a number after its sign
 pub signed_read : (negative : Bool) (bytes : List ℕ) (sign limit m n : ℕ) → IsSigned negative bytes → sign ≡ bool_byte negative → limit ≡ 9223372036854775807 + bool_byte negative → AreDigits (drop sign bytes) limit m n
     → IsLongest bytes (values.Int (with_sign negative m)) (sign + n) × (m ≤ limit_of negative)
 signed_read true bytes sign limit m n first is top ds =
@@ -239,7 +239,7 @@ signed_read false bytes sign limit m n first is top ds =
     let there : AreDigits bytes (limit_of false) m n = subst (λ (l : ℕ). AreDigits bytes l m n) top (subst (λ (s : ℕ). AreDigits (drop s bytes) limit m n) is ds) in
     (subst (λ (s : ℕ). IsLongest bytes (values.Int (with_sign false m)) (s + n)) (sym is) (number_read false bytes m n there), there.small)
 
--- no number behind its sign
+-- no number after its sign
 pub signed_bad : (negative : Bool) (bytes : List ℕ) (sign limit at : ℕ) → IsSigned negative bytes → sign ≡ bool_byte negative → limit ≡ 9223372036854775807 + bool_byte negative
     → ((at ≡ 0) × NoDigitFirst (drop sign bytes)) ⊎ AreTooMany (drop sign bytes) limit at → IsBadValue bytes (sign + at)
 signed_bad true bytes sign limit at first is top (inl none) =

@@ -1,4 +1,4 @@
--- A text's spelling is cut into pieces in one way, so what stands after its pieces decides how it goes on.
+-- A text's spelling is cut into pieces in one way, so what is after its pieces decides how it goes on.
 use Rattle.std.proofs.Common.{◌≡◌, ◌⊎◌, inl, inr, ℕ, List, [], ◌∷◌, ◌++◌, length, take, refl, sym, ap, ◌∙◌, subst, append_assoc}
 use Rattle.std.specs.List.{concat}
 use Rattle.std.proofs.lemmas.List.{append-nil, append_cancel_left}

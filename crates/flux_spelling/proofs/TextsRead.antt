@@ -14,7 +14,7 @@ use Rattle.flux_spelling.proofs.Pieces.{piece_back, piece_stops}
 use Rattle.flux_spelling.proofs.Opened.{none_found, no_quote, cut_alike, goes_on, each_more, laid_more}
 use Rattle.flux_spelling.proofs.Fronts.{cannot_go_on, as_text}
 
--- ---- what may stand after pieces, and what may not
+-- ---- what may be after pieces, and what may not
 
 -- after a quote: this text alone, with this length
 pub record IsClosed (ps : List (List ℕ)) (t : List ℕ) (v : Value) (n : ℕ) : Type 0 where

@@ -16,7 +16,7 @@ pub fn print_value(alloc: Global, value: &Value) -> Result<Bytes, Memory>
     Ok(printed)
 }
 
-/// Adds a value's spelling at the end. After an `Err` a part of it may stand there.
+/// Adds a value's spelling at the end. After an `Err` a part of it may be there.
 pub fn append_value(alloc: Global, out: &mut Bytes, value: &Value) -> Result<(), Memory>
     ensures { OnOk result (out.new ≡ out.old ++ printed_value value.now) }
 {
@@ -35,7 +35,7 @@ pub fn append_number(alloc: Global, out: &mut Bytes, number: u64) -> Result<(), 
     out.append(number.to_string(alloc)?.as_bytes())
 }
 
-/// Adds bytes as a printed text at the end. After an `Err` a part of it may stand there.
+/// Adds bytes as a printed text at the end. After an `Err` a part of it may be there.
 pub fn append_text(out: &mut Bytes, bytes: &[u8]) -> Result<(), Memory>
     ensures { OnOk result (out.new ≡ out.old ++ printed_text bytes.now) }
 {

@@ -124,8 +124,8 @@ fn read_digits(bytes: &[u8], limit: u64) -> Result<(u64, usize), usize>
     if at == 0 { Err(0) } else { Ok((number, at)) }
 }
 
-/// The number up to a limit whose decimal digits stand at the front, without a leading zero, and how
-/// many they are. No digit stands behind them.
+/// The number up to a limit whose decimal digits are at the front, without a leading zero, and how
+/// many they are. No digit comes after them.
 pub fn read_decimal(bytes: &[u8], limit: u64) -> Option<(u64, usize)>
     requires { 9 ≤ limit }
     ensures { IsDecimalRead bytes.now limit result }

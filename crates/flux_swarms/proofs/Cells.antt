@@ -1,4 +1,4 @@
--- The cell `swarms` behind the entries of a journal.
+-- The cell `swarms` after the entries of a journal.
 use Rattle.std.proofs.Common.{◌≡◌, inl, inr, ℕ, pos, Bool, true, false, ◌&&◌, ◌||◌, cond, not, eqb, leb, int_lt, List, [], ◌∷◌, ◌++◌, map, length, codes, Option, Some, None, IsSome, refl, sym, ap, subst, ◌∙◌, append_assoc}
 use Rattle.std.specs.List.{slice_get, AllByRecursion}
 use Rattle.std.specs.FinMap.{get-empty}
@@ -267,7 +267,7 @@ module _ (setup : Setup) (class : ClassNo) (lawful : IsLawful setup.meaning) (ha
     (own : IsTrackers setup.meaning setup.program class) (hash : List ℕ) (flow : ℕ) (made : CallMade)
     (cells : Cells) (swarm : List Peer) (before : Has (cells (key_of_class class)) hash swarm)
     (line : HasLine setup.program (item_of setup flow)) where
-  -- behind the call the cell has the swarm as what it asked moves it
+  -- after the call the cell has the swarm as what it asked moves it
   Behind : Type 0
   Behind = Has (after_puts setup flow made.node.0 cells (let answer = made.answer in answer.puts) (key_of_class class))
       hash (moved_on swarm (of_hash hash (asked_by setup.program made)))

@@ -43,7 +43,7 @@ above a b apart e = by (slice_cmp nat_cmp a b) refl
 
 -- ---- peers that rise
 
--- each is below all behind it
+-- each is below all after it
 abbrev pub Rises : List Peer → Type 0
 Rises [] = Unit {0}
 Rises (p ∷ ps) = AllByRecursion (λ q. is_below p.address q.address ≡ true) ps × Rises ps

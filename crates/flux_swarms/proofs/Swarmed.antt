@@ -1,4 +1,4 @@
--- What a call of `Swarm` leaves in its cell.
+-- What is in the cell after a call of `Swarm`.
 use Rattle.std.proofs.Common.{◌≡◌, ◌<◌, ◌≤◌, ◌^◌, ℕ, ℤ, pos, negsuc, Bool, true, false, ◌&&◌, ◌||◌, cond, not, eqb, leb, int_lt, List, [], ◌∷◌, length, codes, Option, Some, None, FitsSigned, refl, sym, ap, ◌∙◌, arith}
 use Rattle.std.specs.Int.{w64}
 use Rattle.std.specs.FinMap.{get, get-insert, get-remove}
@@ -63,7 +63,7 @@ value_read : (swarm : List Peer) → is_swarm swarm ≡ true → swarm_of (value
 value_read [] valid = refl
 value_read (p ∷ ps) valid = reads_back (p ∷ ps) valid
 
--- completions stand under another name
+-- completions are under another name
 past_completions : (action other hash : List ℕ) (completions : ℤ) (cell : CellMap)
     → swarm_in (changed_by cell (completion_puts action other completions)) hash ≡ swarm_in cell hash
 past_completions action other hash completions cell = by (bytes_eq action (codes "completed"))
@@ -139,7 +139,7 @@ module _ (ask : Ask) (valid : IsAsk ask) (six : eqb (length ask.peer) 6 ≡ true
 abbrev pub answered : Ask → CallResult → Option Ask
 answered ask result = cond (is_good result) (Some ask) None
 
--- behind an answer the cell has the swarm as the ask moves it
+-- after an answer the cell has the swarm as the ask moves it
 abbrev pub Leads : Ask → CellMap → List ℕ → List Peer → Answer → Type 0
 Leads ask cell hash swarm answer =
     Has (changed_by cell answer.puts) hash (moved_on swarm (of_hash hash (answered ask answer.result)))

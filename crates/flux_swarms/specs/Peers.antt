@@ -15,7 +15,7 @@ Leaves None left = ⊥
 Leaves (Some ask) left = (stops ask.action ≡ false) × (ask.left ≡ left)
 
 -- The peers of a hash after a journal:
---   order   they rise bytewise, so each stands once;
+--   order   they rise bytewise, so each is there once;
 --   each    they are those whose last good `Swarm` call for the hash isn't `stopped`, each with that call's number.
 pub record ArePeersOf (p : Program) (entries : List Entry) (hash : List ℕ) (peers : List Peer) : Type 0 where
   pub order : is_rising peers ≡ true

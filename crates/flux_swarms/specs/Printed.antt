@@ -9,7 +9,7 @@ abbrev pub dotted : ℕ → ℕ → ℕ → ℕ → List ℕ
 dotted first second third fourth = decimal first ++ codes "." ++ decimal second ++ codes "."
     ++ decimal third ++ codes "." ++ decimal fourth
 
--- the number of two bytes, the higher one first, behind a colon
+-- the number of two bytes, the higher one first, after a colon
 abbrev pub port_of : ℕ → ℕ → List ℕ
 port_of high low = codes ":" ++ decimal (256 * high + low)
 

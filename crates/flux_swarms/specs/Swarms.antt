@@ -11,7 +11,7 @@ use Rattle.flux_swarms.specs.Tracked.{AreInTheCell}
 use Rattle.flux_swarms.specs.Printed.{printed_swarm}
 
 -- The text is the printed swarm of a hash after a journal:
---   told      the peers are those that the journal tells;
+--   told      the peers are those that the journal reports;
 --   cell      they are the swarm in the cell, where `swarms` is Tracker's;
 --   printed   the text is what is printed of them.
 pub record IsSwarmText (meaning : LibraryMeaning) (p : Program) (entries : List Entry)

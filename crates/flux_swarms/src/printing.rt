@@ -71,7 +71,7 @@ fn append_dotted(
     append_number(alloc, out, u64::from(fourth))
 }
 
-/// Adds the number of two bytes, of which the first counts 256, behind a colon.
+/// Adds the number of two bytes, of which the first counts 256, after a colon.
 fn append_port(alloc: Global, out: &mut Bytes, high: u8, low: u8) -> Result<(), Memory>
     ensures { OnOk result (out.new ≡ out.old ++ port_of high low) }
 {

@@ -1,4 +1,4 @@
--- The text of each thing has its symbols again, with the places at which its names now stand.
+-- The text of each thing has its symbols again, with the places at which its names now are.
 use Rattle.std.proofs.Common.{◌≡◌, ℕ, zero, suc, Bool, true, false, List, [], ◌∷◌, ◌++◌, map, codes, replicate, Option, Some, None, refl, sym, ap, subst, inl, inr, append_assoc}
 use Rattle.std.specs.List.{flat_map, AllByRecursion}
 use Rattle.std.specs.Option.{option_map}

@@ -27,7 +27,7 @@ tell_pattern = tell_if Wildcard
     (tell_as (tell_then (tell_mark Wildcard refl) λ _. tell_done None) (λ p used (u, a, b, is, m, (e, none)). rw (e, is, m, none) refl))
     (tell_as (tell_then tell_name λ word. tell_done (Some word)) (λ p used (u, a, b, is, m, (e, none)). rw (e, is, m, none) refl))
 
--- a mark as it stands, or none
+-- a mark as it is, or none
 abbrev IsWritten : Option Mode → List Symbol → Type 0
 IsWritten (Some Reader) s = s ≡ mark Question ∷ []
 IsWritten (Some Writer) s = s ≡ mark Bang ∷ []
@@ -59,7 +59,7 @@ tell_after : (session : Bool) → Tells (mark_after session) (IsAfter session)
 tell_after true = tell_mode
 tell_after false = tell_as (tell_done None) (λ p used h. h)
 
--- what stands behind the name and the first mark
+-- what follows the name and the first mark
 abbrev IsBehind : Word → Option Mode → Constraint → List Symbol → Type 0
 IsBehind called (Some mode) c s = (session : Bool) × (c ≡ record { name = called; mode = mode; session = session }) × IsScope session s
 IsBehind called None c s = (session : Bool) × (after : Option Mode) × (a b : List Symbol) × (c ≡ record { name = called; mode = or_writer after; session = session }) × (s ≡ a ++ b) × IsScope session a × IsAfter session after b

@@ -1,4 +1,4 @@
--- The names of nodes are those of their first naming lines, and each stands once, at its number.
+-- The names of nodes are those of their first naming lines, and each is there once, at its number.
 use Rattle.std.proofs.Common.{◌≡◌, ◌+◌, ◌<◌, ℕ, zero, suc, Bool, true, false, ◌||◌, not, cond, if◌then◌else◌, List, [], ◌∷◌, ◌++◌, length, map, Option, Some, None, refl, sym, ap, subst, ◌∙◌, arith, length-append}
 use Rattle.std.specs.List.{slice_get, position_or_len}
 use Rattle.std.specs.Str.{bytes_eq}
@@ -32,7 +32,7 @@ firsts (d ∷ decls) names = one (naming d) (firsts decls)
 pub names_are_first : (decls : List Decl) → names_of decls ≡ texts (first_words decls)
 names_are_first decls = firsts decls []
 
--- ---- each stands once
+-- ---- each is there once
 
 -- none of these names is among those before it
 abbrev Apart : List (List ℕ) → List (List ℕ) → Type 0

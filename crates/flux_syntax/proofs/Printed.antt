@@ -38,7 +38,7 @@ pub record Lexes (at : ℕ) (text : List ℕ) (symbols : List Symbol) : Type 0 w
   pub laid : Laid parts [] text
   pub seen : seen at parts text ≡ symbols
 
--- wherever it stands, a text has symbols of which R holds
+-- wherever it is, a text has symbols of which R holds
 abbrev pub Prints : (List Symbol → Type 0) → List ℕ → Type 0
 Prints R text = (at : ℕ) → (s : List Symbol) × R s × Lexes at text s
 

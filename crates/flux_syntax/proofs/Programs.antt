@@ -9,7 +9,7 @@ use Rattle.flux_syntax.proofs.Told.{head, none_same, Told_of, Told, told_as, tol
 use Rattle.flux_syntax.proofs.Lines.{tell_declaration}
 use Rattle.flux_syntax.proofs.Whole.{declaration_whole, some_symbol}
 
--- ---- what is told
+-- ---- what a reader tells
 
 abbrev all : List Decl → List Symbol → Read (List Decl)
 all decls ts = all_at (length ts) decls ts

@@ -42,7 +42,7 @@ earlier at other text a (u ∷ b) d (t ∷ e) stops stop begun is =
     first : u ∷ b ≡ t ∷ (e ++ d) → u ≡ t
     first e = cc
 
--- fault 4 stands at one place
+-- fault 4 applies at one place
 pub one_place : (at other : ℕ) (text : List ℕ) (tokens : List Token) → IsUnexpected at text tokens → IsUnexpected other text tokens → at ≡ other
 one_place at other text tokens a b = both (split a.before a.rest b.before b.rest (sym a.split ∙ b.split))
   where

@@ -1,4 +1,4 @@
--- Rows that don't stand: no word stands in them.
+-- Rows that don't apply: they have no words.
 use Rattle.std.proofs.Common.{◌≡◌, ℕ, Bool, true, false, if◌then◌else◌, List, [], ◌∷◌, ◌++◌, Option, Some, None, refl, ap, ◌∙◌}
 use Rattle.std.specs.List.{flat_map, AllByRecursion}
 use Rattle.flux_faults.specs.declared.faults.FaultKind.{FaultKind}
@@ -14,12 +14,12 @@ pub none_soonest : (words : List Word) → soonest None words ≡ None → words
 none_soonest [] e = refl
 none_soonest (w ∷ words) e = absurd (some_soonest w.at words e)
 
--- where there is no least fault the first row doesn't stand, nor do the others
+-- where there is no least fault the first row doesn't apply, nor do the others
 pub no_fault : (kind : FaultKind) (place : Option ℕ) (other : Option (FaultKind × ℕ)) → fault_or kind place other ≡ None → (place ≡ None) × (other ≡ None)
 no_fault kind None other e = (refl, e)
 no_fault kind (Some at) other e = absurd cc
 
--- where no row of two lists stands, none of either does
+-- where no row of two lists applies, none of either does
 pub none_of_both : (a b : List Row) → first_fault (a ++ b) ≡ None → (first_fault a ≡ None) × (first_fault b ≡ None)
 none_of_both [] b e = (refl, e)
 none_of_both (row ∷ a) b e =
@@ -32,7 +32,7 @@ pub none_either : {A : Type 0} (a b : List A) → a ++ b ≡ [] → (a ≡ []) �
 none_either [] b e = (refl, e)
 none_either (x ∷ a) b e = absurd cc
 
--- rows of which none stands have no words
+-- rows of which none applies have no words
 pub wordless : (rs : List Row) → first_fault rs ≡ None → AllByRecursion (λ row. row.1 ≡ []) rs
 wordless [] e = tt
 wordless (row ∷ rs) e =
@@ -44,7 +44,7 @@ pub none_each : {A : Type 0} (of : A → List Word) (xs : List A) → flat_map o
 none_each of [] e = tt
 none_each of (x ∷ xs) e = let both = none_either (of x) (flat_map of xs) e in (both.0, none_each of xs both.1)
 
--- a word that stands where something doesn't hold
+-- a word that is there where something doesn't hold
 pub holds_unless : (t : Bool) (w : Word) → (if t then [] else w ∷ []) ≡ [] → t ≡ true
 holds_unless true w e = refl
 holds_unless false w e = absurd cc

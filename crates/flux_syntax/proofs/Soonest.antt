@@ -1,4 +1,4 @@
--- The least place of words that stand one after the other.
+-- The least place of words that come one after the other.
 use Rattle.std.proofs.Common.{◌≡◌, ℕ, List, [], ◌∷◌, ◌++◌, Option, Some, refl, ◌∙◌}
 use Rattle.std.specs.List.{flat_map}
 use Rattle.flux_syntax.specs.declared.declarations.Word.{Word}
@@ -14,7 +14,7 @@ abbrev pub soonest_all : {A : Type 0} → (A → List Word) → Option ℕ → L
 soonest_all f place [] = place
 soonest_all f place (x ∷ xs) = soonest_all f (soonest place (f x)) xs
 
--- the least place of words that stand list after list
+-- the least place of words that come list after list
 pub soonest_flat : {A : Type 0} (f : A → List Word) (place : Option ℕ) (xs : List A) → soonest place (flat_map f xs) ≡ soonest_all f place xs
 soonest_flat f place [] = refl
 soonest_flat f place (x ∷ xs) = soonest_append place (f x) (flat_map f xs) ∙ soonest_flat f (soonest place (f x)) xs

@@ -1,4 +1,4 @@
--- The words of a text's declarations at which faults may stand are names and codes that stand in it.
+-- The words of a text's declarations at which faults may be are names and codes that are in it.
 use Rattle.std.proofs.Common.{◌≡◌, ◌≤◌, ℕ, inl, inr, Bool, true, false, Option, Some, None, List, [], ◌∷◌, ◌++◌, length, map, refl, sym, subst, arith}
 use Rattle.std.specs.List.{AllByRecursion, filter_map}
 use Rattle.flux_lexer.specs.declared.kinds.Token.{Token}
@@ -19,7 +19,7 @@ use Rattle.flux_syntax.proofs.Backs.{IsGood, Good}
 use Rattle.flux_syntax.proofs.Formats.{good_parts}
 use Rattle.flux_syntax.proofs.Fitting.{fit}
 
--- a word stands in a text: it is a name, and has a place there
+-- a word is in a text: it is a name, and has a place there
 pub record StandsIn (text : List ℕ) (word : Word) : Type 0 where
   pub name : IsName word.text
   pub within : word.at ≤ length text
@@ -44,7 +44,7 @@ abbrev pub code_words : Decl → List Word
 code_words (Handler node codes handler) = codes
 code_words other = []
 
--- the words of all declarations stand in the text
+-- the words of all declarations are in the text
 abbrev pub AllStandIn : List ℕ → List Decl → Type 0
 AllStandIn text decls = AllByRecursion (λ decl. AllByRecursion (StandsIn text) (fault_words decl)
     × AllByRecursion (λ word. word.at ≤ length text) (code_words decl)) decls
@@ -175,7 +175,7 @@ symbols_stand : (text : List ℕ) (tokens : List Token) → AllByRecursion (Lies
 symbols_stand text [] lie good = tt
 symbols_stand text (token ∷ tokens) lie good = (symbol_stands text token lie.0 good.0, symbols_stand text tokens lie.1 good.1)
 
--- the words of a text's declarations stand in it
+-- the words of a text's declarations are in it
 pub all_stand : (decls : List Decl) (text : List ℕ) → Declares decls text → AllStandIn text decls
 all_stand decls text d =
     let fits = fit text d.tokens d.are in

@@ -1,5 +1,5 @@
 -- What a reader tells: what it got is spelled by what it went past, and it looks no further than the next symbol;
--- where it is stuck, what it went past can be completed, and no other symbols behind the next one help.
+-- where it is stuck, what it went past can be completed, and no other symbols after the next one help.
 use Rattle.std.proofs.Common.{◌≡◌, ℕ, Bool, true, false, if◌then◌else◌, eqb, List, [], ◌∷◌, ◌++◌, Option, Some, None, refl, sym, ap, subst, ◌∙◌, arith, append_assoc}
 use Rattle.std.proofs.lemmas.Bool.Decides.{nat_tests}
 use Rattle.flux_lexer.specs.declared.kinds.TokenKind.{TokenKind}
@@ -25,7 +25,7 @@ Told read P ts = Told_of read P ts (read ts)
 
 -- ---- heads
 
--- symbols with the same next one begin alike behind the same ones
+-- symbols with the same next one begin alike after the same ones
 pub head_append : (used rest other : List Symbol) → head rest ≡ head other → head (used ++ rest) ≡ head (used ++ other)
 head_append [] rest other same = same
 head_append (t ∷ used) rest other same = refl
@@ -133,7 +133,7 @@ is_mark k (mark j) no_word e = ap mark (sym (same_kind k j (inner (has_word j) r
     inner true i e = let no : ◌≡◌ {A = Bool} false true = ap (λ (b : Bool). if b then false else is k j) (sym i) ∙ e in absurd cc
     inner false i e = ap (λ (b : Bool). if b then false else is k j) (sym i) ∙ e
 
--- ---- what is told stays told
+-- ---- what a reader tells stays so
 
 -- of a reader that reads the same wherever the next symbol is the same
 pub told_head : {A : Type 0} (read other : List Symbol → Read A) (P : A → List Symbol → Type 0) (ts : List Symbol) (r : Read A) → ((s : List Symbol) → head ts ≡ head s → read s ≡ other s) → Told_of other P ts r → Told_of read P ts r
@@ -146,7 +146,7 @@ told_head read other P ts (stuck rest) same (used, is, some, steady) =
 pub told_as : {A : Type 0} (read other : List Symbol → Read A) (P : A → List Symbol → Type 0) (ts : List Symbol) → ((s : List Symbol) → head ts ≡ head s → read s ≡ other s) → Told other P ts → Told read P ts
 told_as read other P ts same told = subst (Told_of read P ts) (sym (same ts refl)) (told_head read other P ts (other ts) same told)
 
--- what follows from what is told is told
+-- what follows from what a reader tells, it tells too
 pub told_weaken : {A : Type 0} (read : List Symbol → Read A) (P Q : A → List Symbol → Type 0) (ts : List Symbol) (r : Read A) → ((x : A) (used : List Symbol) → P x used → Q x used) → Told_of read P ts r → Told_of read Q ts r
 told_weaken read P Q ts (got x rest) weak (used, is, p, steady) = (used, is, weak x used p, steady)
 told_weaken read P Q ts (stuck rest) weak (used, is, (x, more, p), steady) = (used, is, (x, more, weak x (used ++ more) p), steady)
@@ -255,7 +255,7 @@ told_if {A} kind this that P ts on_this on_that = step (begins kind ts) refl
 
 -- ---- a symbol before
 
--- of a reader behind a symbol
+-- of a reader after a symbol
 pub told_behind : {A : Type 0} (read inner : List Symbol → Read A) (P : A → List Symbol → Type 0) (t : Symbol) (rest : List Symbol) (r : Read A) → ((s : List Symbol) → read (t ∷ s) ≡ inner s) → Told_of inner P rest r → Told_of read (λ x used. (u : List Symbol) × (used ≡ t ∷ u) × P x u) (t ∷ rest) r
 told_behind read inner P t rest (got x left) same (used, is, p, steady) = (t ∷ used, ap (λ (l : List Symbol). t ∷ l) is, (used, refl, p), λ other heads. same (used ++ other) ∙ steady other heads)
 told_behind read inner P t rest (stuck left) same (used, is, (x, more, p), steady) =

@@ -17,7 +17,7 @@ use Rattle.flux_syntax.proofs.Told.{of_mark}
 
 -- ---- lists
 
--- a reader gets each thing where an end follows it, and what stands between is an end
+-- a reader gets each thing where an end follows it, and what is between is an end
 pub record Gets {A : Type 0} (read : List Symbol → Read A) (P : A → List Symbol → Type 0) (between : TokenKind) (Ends : List Symbol → Type 0) : Type 0 where
   pub whole : (x : A) (a rest : List Symbol) → P x a → Ends rest → read (a ++ rest) ≡ got x rest
   pub goes_on : (rest : List Symbol) → Ends (mark between ∷ rest)

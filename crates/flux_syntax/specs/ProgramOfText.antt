@@ -1,4 +1,4 @@
--- The program of declarations, and where its names stand. Nodes are numbered by the lines that name them first, and
+-- The program of declarations, and where its names are. Nodes are numbered by the lines that name them first, and
 -- each is made from all its lines.
 use Rattle.std.specs.Prelude.{ℕ, ◌+◌, ◌*◌, ◌-◌, ◌==◌, Bool, true, false, if◌then◌else◌, fold, List, [], ◌∷◌, ◌++◌, map, Option, Some, None}
 use Rattle.std.specs.List.{position_or_len, list_any, flat_map, filter_map, before_first, enumerate_from}
@@ -98,7 +98,7 @@ abbrev pub constraints_on : List ℕ → Decl → List Constraint
 constraints_on node (Atomic name constraints) = if bytes_eq name.text node then constraints else []
 constraints_on node other = []
 
--- a class more, in canonical order; a class stands once
+-- a class more, in canonical order; a class is there once
 abbrev pub insert_by : Ordering → Class → Class → List Class → List Class → List Class
 insert_by Less class other others inserted = class ∷ other ∷ others
 insert_by Equal class other others inserted = other ∷ others
@@ -179,7 +179,7 @@ node_of names types classes decls node = record {
 }
 
 -- nodes are numbered by their first naming lines, classes in canonical order, and predicates by their `typedef` lines;
--- source lines stand in order of the text
+-- source lines are in the order of the text
 abbrev pub program_with : List (List ℕ) → List (List ℕ) → List Class → List Decl → Program
 program_with names types classes decls = record {
   classes = classes;
@@ -197,7 +197,7 @@ program_of decls =
 abbrev pub places : List Word → List ℕ
 places words = map (λ word. word.at) words
 
--- where the handlers of a node stand
+-- where the handlers of a node are
 abbrev pub handler_place : List ℕ → Decl → Option ℕ
 handler_place node (Handler name codes handler) =
     if bytes_eq name.text node then Some handler.at else None

@@ -25,7 +25,7 @@ StopsAt at text before [] =
 StopsAt at text before (token ∷ rest) =
     (at ≡ token.start) × (CanBegin text (before ++ token ∷ []) → ⊥)
 
--- the first token such that no program begins with those up to it stands here; or the text ends,
+-- the first token such that no program begins with those up to it is here; or the text ends,
 -- and it is no program
 pub record IsUnexpected (at : ℕ) (text : List ℕ) (tokens : List Token) : Type 0 where
   pub before : List Token
@@ -64,14 +64,14 @@ GivesUnexpected text tokens result =
 
 -- ---- whole texts
 
--- one of the faults 1 to 4 stands at a place of the text
+-- one of the faults 1 to 4 applies at a place of the text
 abbrev pub IsFaulty : FaultKind → ℕ → List ℕ → Type 0
 IsFaulty kind at text =
     Stands kind at text
     ⊎ ((kind ≡ Unexpected)
     × (tokens : List Token) × AreTokensOf tokens text × IsUnexpected at text tokens)
 
--- what a refusal says of the text: a fault that stands, at a byte of the text or at its end
+-- what a refusal says of the text: a fault that applies, at a byte of the text or at its end
 abbrev pub IsRefusalOf : List ℕ → CheckFault → Type 0
 IsRefusalOf text (Static fault) =
     (fault.path ≡ []) × IsFaulty fault.kind fault.at text × IsPlacedIn text (Static fault)
@@ -88,7 +88,7 @@ IsThatOrMemory kind at (Ok answered) = ⊥
 IsThatOrMemory kind at (Err Memory) = ⊤
 IsThatOrMemory kind at (Err (Static fault)) = (fault.kind ≡ kind) × (fault.at ≡ at)
 
--- whatever fault stands is answered, unless memory is short
+-- whatever fault applies is answered, unless memory is short
 abbrev pub GivesRefusal : List ℕ → Result (List Decl) CheckFault → Type 0
 GivesRefusal text result =
     (kind : FaultKind) (at : ℕ) → IsFaulty kind at text → IsThatOrMemory kind at result

@@ -15,7 +15,7 @@ naming (Signature name ins outs) = Some name
 naming (Flow name patterns members) = Some name
 naming other = None
 
--- the name before `=>` in a source line, and the target behind it
+-- the name before `=>` in a source line, and the target after it
 abbrev pub sourced : Decl → Option Word
 sourced (Source name target) = Some name
 sourced other = None
@@ -24,7 +24,7 @@ abbrev pub targeted : Decl → Option Word
 targeted (Source name target) = Some target
 targeted other = None
 
--- the name of a predicate in a `typedef` line, and the library's function behind it
+-- the name of a predicate in a `typedef` line, and the library's function after it
 abbrev pub defined : Decl → Option Word
 defined (Typedef name function) = Some name
 defined other = None

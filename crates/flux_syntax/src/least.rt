@@ -1,4 +1,4 @@
-//! The least fault of rows: the row with the least number that stands, at its least place.
+//! The least fault of rows: the row with the least number that applies, at its least place.
 
 ghost use Rattle.std.specs.Prelude.{◌≡◌, [], Some};
 ghost use Rattle.flux_syntax.specs.Least.{sooner, fault_or, IsLeastFault};
@@ -17,7 +17,7 @@ pub fn sooner(place: Option<u32>, at: u32) -> u32
     }
 }
 
-/// The fault of a row at its least place, or where the row doesn't stand another fault.
+/// The fault of a row at its least place, or where the row doesn't apply another fault.
 pub fn fault_or(
     kind: FaultKind,
     place: Option<u32>,

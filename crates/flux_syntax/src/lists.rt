@@ -32,7 +32,7 @@ fn read_onto<T: Drop, R: Reader<T>>(cursor: &mut Cursor, items: &mut List<T>) ->
     Ok(())
 }
 
-/// One thing, and more of them as long as the mark stands between.
+/// One thing, and more of them as long as the mark is between.
 pub fn list<T: Drop, R: Reader<T>>(cursor: &mut Cursor, between: TokenKind) -> Result<List<T>, Stop>
     ensures read { Reads result cursor.new (listed_at R.read between cursor.old) }
     ensures shorter { OnOk result (length cursor.new < length cursor.old) }

@@ -15,7 +15,7 @@ use Rattle.flux_table.proofs.Standing.{is_of, lowest_of_both}
 none_holds : (held : Held) → None ≡ Some held → ⊥
 none_holds held e = subst (λ (o : Option Held). elim o as (λ _. Type 0) [ None ↦ Unit {0} | Some x ↦ ⊥ ]) e tt
 
--- a flow doesn't stand before itself
+-- a flow doesn't wait before itself
 pub stands_apart : (line : List Waiter) (flow : ℕ) (waiter : Waiter) → Contains (line_before line flow) waiter → waiter.flow.0 ≢ flow
 stands_apart line flow waiter stands same =
     let front = prefix_len (λ w. not (is_of flow w)) line in

@@ -23,7 +23,7 @@ conflict_turned Reader Writer = refl
 conflict_turned Writer Reader = refl
 conflict_turned Writer Writer = refl
 
--- what is in no conflict with a mode, and stands beside no conflict with another, lets that mode in
+-- what is in no conflict with a mode, and is held beside no conflict with another, lets that mode in
 pub conflict_beside : (a b mode : Mode) → conflict a mode ≡ false → conflict b a ≡ false → conflict b mode ≡ false
 conflict_beside Writer b mode e h = absurd (cc)
 conflict_beside Reader Writer mode e h = absurd (cc)

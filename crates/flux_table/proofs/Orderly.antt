@@ -1,4 +1,4 @@
--- A key's holders and its line stay apart, and each flow stands there once.
+-- A key's holders and its line stay apart, and each flow waits there once.
 use Rattle.std.proofs.Common.{◌≡◌, ◌≢◌, ℕ, zero, suc, ◌<◌, true, false, cond, eqb, List, [], ◌∷◌, ◌++◌, length, get_or, Option, Some, None, Result, Ok, Err, refl, sym, ap, subst, ◌∙◌, inl, inr, arith}
 use Rattle.std.specs.List.{Contains}
 use Rattle.std.specs.Prelude.{OnOk, OnErr}
@@ -29,7 +29,7 @@ contains_without (first ∷ line) flow waiter =
       | false ↦ contains_first first line (line_without line flow) waiter (contains_without line flow waiter)
     ]
 
--- ---- a flow that doesn't stand in a line leaves it as it is
+-- ---- without a flow that isn't in a line it is as it was
 
 pub without_nowhere : (line : List Waiter) (flow : ℕ) → StandsNowhere line flow → line ≡ line_without line flow
 without_nowhere [] flow nowhere = refl
@@ -39,7 +39,7 @@ without_nowhere (first ∷ line) flow nowhere =
       | false ↦ λ _. ap (λ l. first ∷ l) (without_nowhere line flow (λ waiter is. nowhere waiter (contains_later first line waiter is)))
     ] refl
 
--- ---- a flow that leaves
+-- ---- a flow that is taken out
 
 first_or_later : (first : Waiter) (line : List Waiter) (waiter : Waiter) (flow : ℕ) → first.flow.0 ≢ flow → (Contains line waiter → waiter.flow.0 ≢ flow) → Contains (first ∷ line) waiter → waiter.flow.0 ≢ flow
 first_or_later first line waiter flow apart rest is = placed is.0 is.1 is.2 where

@@ -44,7 +44,7 @@ set_is old new flow there says = record {
       ∙ ap (λ (b : Bool). cond (eqb flow other) there b) (found_is old other);
 }
 
--- ---- who stands in a line in a mode
+-- ---- who is in a line in a mode
 
 -- a flow that waits in a mode
 abbrev waits : ℕ → Mode → Waiter
@@ -111,7 +111,7 @@ kept_writer line after waiter pushed reading more is nowhere ok err once those o
   writers = subst (HasThose more after) is those;
 }
 
--- ---- a flow that leaves
+-- ---- a flow that is taken out
 
 -- who doesn't leave stays
 contains_else : (line : List Waiter) (flow : ℕ) (waiter : Waiter) → waiter.flow.0 ≢ flow → Contains line waiter → Contains (line_without line flow) waiter
@@ -131,7 +131,7 @@ contains_else (first ∷ line) flow waiter apart is = placed (contains_else line
         | false ↦ contains_later first (line_without line flow) waiter (else rest)
       ]
 
--- a flow that stands once stands in one mode
+-- a flow that waits once waits in one mode
 one_mode : (line : List Waiter) → StandOnce line → (flow : ℕ) (a b : Mode) → Contains line (waits flow a) → Contains line (waits flow b) → a ≡ b
 one_mode [] once flow a b is also = absurd (omega (arith, is.1))
 one_mode (first ∷ line) once flow a b is also = placed (one_mode line once.1 flow a b) is.0 is.1 is.2 also.0 also.1 also.2 where
@@ -199,7 +199,7 @@ no_reader line flow reading writing kept there = record {
   ] refl;
 }
 
--- ---- whether a flow stands there
+-- ---- whether a flow waits there
 
 in_either : (line : List Waiter) (reading writing : BTreeSet FlowNo) → IsKept line reading writing → (n : ℕ) (their : Mode)
     → Contains line (waits n their) → (has reading n ≡ true) ⊎ (has writing n ≡ true)
@@ -219,7 +219,7 @@ stands_writing line flow reading writing there kept writes is = (
   λ nowhere. absurd (stands_from writing line flow Writer kept.writers writes nowhere),
 )
 
--- one who isn't stands there where it is among the readers
+-- one who isn't among the writers waits there where it is among the readers
 pub stands_reading : (line : List Waiter) (flow : ℕ) (reading writing : BTreeSet FlowNo) (there : Bool) → IsKept line reading writing
     → found writing flow ≡ false → there ≡ found reading flow → (there ≡ false) ↔ StandsNowhere line flow
 stands_reading line flow reading writing there kept no_writes is = (

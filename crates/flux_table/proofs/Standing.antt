@@ -1,4 +1,4 @@
--- The search for a blocker along a line, and a line that a flow leaves.
+-- The search for a blocker along a line, and a line that a flow is taken out of.
 use Rattle.std.proofs.Common.{◌≡◌, ℕ, suc, ◌+◌, ◌<◌, ◌≤◌, Bool, true, false, not, cond, eqb, List, [], ◌∷◌, ◌++◌, length, get_or, take, ◌⊎◌, Option, Some, None, refl, sym, ap, subst, ◌∙◌, inl, inr, arith, ltb, unwrap_or}
 use Rattle.std.proofs.lemmas.Bool.{ltb-false, false≢true, cases_lt}
 use Rattle.std.proofs.lemmas.List.{take_more}
@@ -13,7 +13,7 @@ use Rattle.flux_table.specs.declared.locks.Waiter.{Waiter}
 use Rattle.flux_table.specs.Blockers.{StandsAgainst, line_before, IsLowestOf, IsEither}
 use Rattle.flux_table.specs.Changes.{line_without}
 
--- ---- a line that a flow leaves
+-- ---- a line that a flow is taken out of
 
 abbrev pub is_of : ℕ → Waiter → Bool
 is_of flow waiter = eqb waiter.flow.0 flow

@@ -16,18 +16,18 @@ pub record HoldsAgainst (held : Holding) (other : ℕ) (mode : Mode) : Type 0 wh
   pub holds : held other ≡ Some their
   pub against : conflict their.mode mode ≡ true
 
--- the line before a flow, or all of it where the flow doesn't stand there
+-- the line before a flow, or all of it where the flow isn't there
 abbrev pub line_before : List Waiter → ℕ → List Waiter
 line_before line flow = take_while (λ waiter. not (waiter.flow.0 == flow)) line
 
--- a flow stands there in conflict with a mode
+-- a flow waits there in conflict with a mode
 pub record StandsAgainst (line : List Waiter) (other : ℕ) (mode : Mode) : Type 0 where
   pub their : Mode
   pub stands : Contains line (record { flow = record { 0 = other }; mode = their })
   pub against : conflict their mode ≡ true
 
 -- another flow blocks a flow that would take the key in a mode: the flow doesn't hold the key, and the other holds it
--- in conflict, or stands in its line in conflict, before the flow or with the flow not there
+-- in conflict, or waits in its line in conflict, before the flow or with the flow not there
 pub record Blocks (held : Holding) (line : List Waiter) (other flow : ℕ) (mode : Mode) : Type 0 where
   pub free : held flow ≡ None
   pub apart : other ≢ flow
@@ -38,7 +38,7 @@ pub record IsHeldAgainst (held : Holding) (other flow : ℕ) (mode : Mode) : Typ
   pub free : held flow ≡ None
   pub holds : HoldsAgainst held other mode
 
--- and one that stands there in conflict, before the flow or with the flow not there
+-- and one that waits there in conflict, before the flow or with the flow not there
 pub record IsAhead (held : Holding) (line : List Waiter) (other flow : ℕ) (mode : Mode) : Type 0 where
   pub free : held flow ≡ None
   pub stands : StandsAgainst (line_before line flow) other mode
@@ -54,18 +54,18 @@ IsEither a b flow = (a ≡ Some (record { 0 = flow })) ⊎ (b ≡ Some (record {
 
 -- ---- when a flow may ask
 
--- where the flow stands in a line, it is this one
+-- where the flow is in a line, it is this one
 abbrev pub StandsOnlyAt : Lines → ℕ → Key → Mode → Type 0
 StandsOnlyAt lines flow key mode = (other : Key) (waiter : Waiter) → Contains (lines other) waiter
     → waiter.flow.0 ≡ flow → (other ≡ key) × (waiter.mode ≡ mode)
 
--- a flow may take a key in a mode: it doesn't hold the key or holds it in at least that mode, and it stands in no line
+-- a flow may take a key in a mode: it doesn't hold the key or holds it in at least that mode, and it is in no line
 -- or in this key's in this mode
 pub record MayTake (holders : Holders) (lines : Lines) (flow : ℕ) (key : Key) (mode : Mode) : Type 0 where
   pub enough : (own : Held) → holders key flow ≡ Some own → at_least own.mode mode ≡ true
   pub stands : StandsOnlyAt lines flow key mode
 
--- a flow may wait for a key: it stands in no line and doesn't hold the key
+-- a flow may wait for a key: it is in no line and doesn't hold the key
 pub record MayWait (holders : Holders) (lines : Lines) (flow : ℕ) (key : Key) : Type 0 where
   pub free : holders key flow ≡ None
   pub stands : (other : Key) (waiter : Waiter) → Contains (lines other) waiter → waiter.flow.0 ≢ flow

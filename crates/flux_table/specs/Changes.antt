@@ -26,7 +26,7 @@ one_less (Some held) =
 abbrev pub with_held : Holding → ℕ → Option Held → Holding
 with_held held flow now = λ other. if flow == other then now else held other
 
--- a line that a flow leaves
+-- a line that a flow is taken out of
 abbrev pub line_without : List Waiter → ℕ → List Waiter
 line_without [] flow = []
 line_without (waiter ∷ line) flow =
@@ -45,7 +45,7 @@ pub record Takes (old new : Locks) (flow : ℕ) (key : Key) (mode : Mode) : Type
       holders_of new ≡ with_holding (holders_of old) key (with_held held flow (Some (one_more (held flow) mode)))
   pub lines : lines_of new ≡ with_line (lines_of old) key (line_without (lines_of old key) flow)
 
--- the flow stands at the end of the line
+-- the flow is at the end of the line
 pub record Waits (old new : Locks) (flow : FlowNo) (key : Key) (mode : Mode) : Type 0 where
   pub holders : holders_of new ≡ holders_of old
   pub lines : lines_of new
@@ -62,7 +62,7 @@ abbrev pub blocker_in : Taken → Option FlowNo
 blocker_in Got = None
 blocker_in (Busy holder) = Some holder
 
--- what a try leaves: a take, or the same table
+-- what there is after a try: a take, or the same table
 abbrev pub Follows : Taken → Locks → Locks → ℕ → Key → Mode → Type 0
 Follows Got old new flow key mode = Takes old new flow key mode
 Follows (Busy holder) old new flow key mode = new ≡ old

@@ -12,11 +12,11 @@ use Rattle.flux_table.specs.Locks.{StandOnce}
 abbrev pub has : BTreeSet FlowNo → ℕ → Bool
 has flows flow = list_any (λ other. flow == other.0) flows.keys
 
--- a set has the flows that stand in a line in a mode, and no other
+-- a set has the flows that are in a line in a mode, and no other
 pub record HasThose (flows : BTreeSet FlowNo) (line : List Waiter) (mode : Mode) : Type 0 where
   pub each : (flow : ℕ) → IsTrue (has flows flow) ↔ Contains line (record { flow = record { 0 = flow }; mode = mode })
 
--- each flow stands once, the readers are in one set, and the writers in another
+-- each flow waits once, the readers are in one set, and the writers in another
 pub record IsKept (line : List Waiter) (reading writing : BTreeSet FlowNo) : Type 0 where
   pub once : StandOnce line
   pub readers : HasThose reading line Reader

@@ -24,16 +24,16 @@ abbrev pub IsPeaceful : Holding → Type 0
 IsPeaceful held = (flow other : ℕ) (own their : Held) → flow ≢ other
     → held flow ≡ Some own → held other ≡ Some their → conflict own.mode their.mode ≡ false
 
--- a flow doesn't stand in a line
+-- a flow isn't in a line
 abbrev pub StandsNowhere : List Waiter → ℕ → Type 0
 StandsNowhere line flow = (waiter : Waiter) → Contains line waiter → waiter.flow.0 ≢ flow
 
--- each flow stands there once at most
+-- each flow waits there once at most
 abbrev pub StandOnce : List Waiter → Type 0
 StandOnce [] = ⊤
 StandOnce (waiter ∷ line) = StandsNowhere line waiter.flow.0 × StandOnce line
 
--- and no holder stands in the line
+-- and no holder is in the line
 pub record IsOrderly (held : Holding) (line : List Waiter) : Type 0 where
   pub peaceful : IsPeaceful held
   pub apart : (waiter : Waiter) → Contains line waiter → held waiter.flow.0 ≡ None

@@ -17,7 +17,7 @@ use std::alloc::Global;
 use std::collections::BTreeSet;
 use std::marker::Model;
 
-/// Those that wait for a key, first come first. Each flow stands there once, and is also in one of two sets, that of
+/// Those that wait for a key, first come first. Each flow waits there once, and is also in one of two sets, that of
 /// the readers or that of the writers, so that the lowest is found without a walk.
 #[derive(Drop)]
 pub struct Line {
@@ -76,7 +76,7 @@ impl Line {
         }
     }
 
-    /// Takes a flow out, where it stands there.
+    /// Takes a flow out, where it waits there.
     pub fn leave(&mut self, flow: FlowNo)
         ensures { self.new ≡ line_without self.old flow.0 }
     {
@@ -88,8 +88,8 @@ impl Line {
         }
     }
 
-    /// The lowest-numbered flow in conflict with a mode that stands before a flow, or in all of the line. Only for a
-    /// flow that stands there behind others is the line walked, from its front up to the flow.
+    /// The lowest-numbered flow in conflict with a mode that waits before a flow, or in all of the line. Only for a
+    /// flow that waits there after others is the line walked, from its front up to the flow.
     pub fn lowest_against(&self, flow: FlowNo, mode: Mode) -> Option<FlowNo>
         ensures { IsLowestOf (λ other. StandsAgainst (line_before self.now flow.0) other mode) result }
     {
@@ -103,14 +103,14 @@ impl Line {
         self.lowest_of_all(mode)
     }
 
-    /// Whether a flow stands there.
+    /// Whether a flow waits there.
     fn stands(&self, flow: FlowNo) -> bool
         ensures { IsFalse result ↔ StandsNowhere self.now flow.0 }
     {
         self.writers.contains(&flow) || self.readers.contains(&flow)
     }
 
-    /// The lowest-numbered flow in conflict with a mode that stands anywhere there.
+    /// The lowest-numbered flow in conflict with a mode that waits anywhere there.
     fn lowest_of_all(&self, mode: Mode) -> Option<FlowNo>
         ensures { IsLowestOf (λ other. StandsAgainst self.now other mode) result }
     {
@@ -132,7 +132,7 @@ pub(crate) fn lower(a: Option<FlowNo>, b: Option<FlowNo>) -> Option<FlowNo>
     }
 }
 
-/// The lowest-numbered flow in conflict with a mode that stands before a flow, or in all of the line.
+/// The lowest-numbered flow in conflict with a mode that waits before a flow, or in all of the line.
 fn stander_against(line: &[Waiter], flow: FlowNo, mode: Mode) -> Option<FlowNo>
     ensures { IsLowestOf (λ other. StandsAgainst (line_before line.now flow.0) other mode) result }
 {
@@ -162,7 +162,7 @@ fn lowest_of(flows: &BTreeSet<FlowNo>) -> Option<FlowNo>
     flows.first().copied()
 }
 
-/// Puts a flow at the end of a line, and into the set of the flows that stand there in its mode.
+/// Puts a flow at the end of a line, and into the set of the flows that wait there in its mode.
 fn push_with(line: &mut Queue, flows: &mut BTreeSet<FlowNo>, waiter: Waiter) -> Result<(), Memory>
     requires nowhere { StandsNowhere line.old waiter.flow.0 }
     requires flows { HasThose flows.old line.old waiter.mode }
@@ -180,7 +180,7 @@ fn push_with(line: &mut Queue, flows: &mut BTreeSet<FlowNo>, waiter: Waiter) -> 
     }
 }
 
-/// Takes a flow that leaves a line out of the set that has it, and answers whether one had it.
+/// Removes a flow that is no longer in a line from the set that has it, and answers whether one had it.
 fn take_out(readers: &mut BTreeSet<FlowNo>, writers: &mut BTreeSet<FlowNo>, flow: FlowNo) -> bool
     ensures stands { (line : List Waiter) → IsKept line readers.old writers.old
         → IsFalse result ↔ StandsNowhere line flow.0 }

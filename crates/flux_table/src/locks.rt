@@ -26,7 +26,7 @@ pub struct Waiter {
     pub mode: Mode,
 }
 
-/// The holders of a key, no two of them in conflict, and its line, first come first. Each flow stands there once, and
+/// The holders of a key, no two of them in conflict, and its line, first come first. Each flow waits there once, and
 /// no holder does.
 #[derive(Drop)]
 pub struct Lock {
@@ -99,7 +99,7 @@ impl Lock {
         }
     }
 
-    /// The lowest-numbered flow in conflict with a mode that stands ahead of a flow.
+    /// The lowest-numbered flow in conflict with a mode that waits ahead of a flow.
     pub fn ahead(&self, flow: FlowNo, mode: Mode) -> Option<FlowNo>
         ensures { IsLowestOf (λ other.
             IsAhead (held_by self.now.holders) self.now.line other flow.0 mode) result }
@@ -124,7 +124,7 @@ impl Lock {
 }
 
 impl Lock {
-    /// The flow gets the key: it leaves the line, and holds the key once more.
+    /// The flow gets the key: it is taken out of the line, and holds the key once more.
     pub fn take(&mut self, flow: FlowNo, mode: Mode) -> Result<(), Memory>
         requires { IsLowestOf (λ other. Blocks (held_by self.old.holders) self.old.line other flow.0 mode) None }
         ensures holders { OnOk result (held_by self.new.holders ≡ with_held (held_by self.old.holders) flow.0
@@ -138,7 +138,7 @@ impl Lock {
         Ok(())
     }
 
-    /// The flow stands at the end of the line.
+    /// The flow is at the end of the line.
     pub fn wait(&mut self, flow: FlowNo, mode: Mode) -> Result<(), Memory>
         requires free { held_by self.old.holders flow.0 ≡ None }
         requires stands { StandsNowhere self.old.line flow.0 }

@@ -1,4 +1,4 @@
-//! Waiters in order; the first mostly leaves without a move of the others.
+//! Waiters in order; the first is mostly taken out without a move of the others.
 
 ghost use Rattle.std.specs.Prelude.{◌≡◌, ◌+◌, ◌++◌, ◌∷◌, [], ◌<◌, ◌≤◌, ◌↔◌, OnOk, OnErr, IsTrue, length, drop, remove};
 
@@ -60,7 +60,7 @@ impl Queue {
         Ok(())
     }
 
-    /// Takes one out. Those behind it move up; where it is the first, only now and then.
+    /// Takes one out. Those after it move up; where it is the first, only now and then.
     pub fn remove(&mut self, place: usize)
         requires { place < length self.old }
         ensures { self.new ≡ remove self.old place }

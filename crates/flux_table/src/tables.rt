@@ -120,7 +120,7 @@ impl Table {
         self.locks.get(&key)?.held_against(flow, mode)
     }
 
-    /// The lowest-numbered flow that stands in a key's line in conflict, ahead of this flow.
+    /// The lowest-numbered flow that waits in a key's line in conflict, ahead of this flow.
     pub fn ahead(&self, flow: FlowNo, key: Key, mode: Mode) -> Option<FlowNo>
         ensures { IsLowestOf (λ other.
             IsAhead (holders_of self.now key) (lines_of self.now key) other flow.0 mode) result }

@@ -82,7 +82,7 @@ module _ (meaning : LibraryMeaning) (decls : List Decl) where
       let least = h ∙ (rw (own_nodes, own_sites) refl) ∙ nodes_pass decls in
       f ∙ (rw (o, least) refl)
 
-  -- no row stands
+  -- no row applies
   pub typed_is : (ds : List Decl) (sigs : List NodeSig) (fault : Option (FaultKind × ℕ)) → ds ≡ decls
       → (AreSigs meaning.kind ds sigs) × (fault ≡ first_fault (sig_rows meaning ds)) → fault ≡ None → AreTyped meaning decls sigs
   typed_is ds sigs fault same found none = record {

@@ -16,7 +16,7 @@ last_some first (x ∷ []) last e = cc
 last_some first (x ∷ y ∷ others) last e =
     last_some x (y ∷ others) last (e ∙ ap (slice_get (x ∷ y ∷ others)) (let same : suc (suc (length others)) - 1 ≡ suc (suc (length others) - 1) = omega arith in same))
 
--- what is behind the first
+-- what comes after the first
 behind : {A : Type 0} (x : A) (xs : List A) → take (suc (length xs) - 1) xs ≡ xs
 behind x xs = ap (λ n. take n xs) (let same : suc (length xs) - 1 ≡ length xs = omega arith in same) ∙ take_all (length xs) xs (omega arith)
 

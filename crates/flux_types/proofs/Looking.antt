@@ -1,4 +1,4 @@
--- A node's signature goes by those of the nodes that it leads to.
+-- A node's signature depends on those of the nodes that it leads to.
 use Rattle.std.proofs.Common.{◌≡◌, ℕ, inl, inr, List, [], ◌∷◌, ◌++◌, refl}
 use Rattle.std.specs.List.{flat_map}
 use Rattle.flux_model.specs.declared.signatures.NodeSig.{NodeSig}

@@ -48,7 +48,7 @@ sessions_pass meaning sigs place [] = refl
 sessions_pass meaning sigs place (d ∷ decls) =
     sessions_pass meaning sigs (session_passed meaning sigs place d) decls ∙ more (unlike_source meaning.session sigs) place d decls
 
--- the least place of the row on targets: source lines stand beside the places of their targets
+-- the least place of the row on targets: source lines are beside the places of their targets
 module _ (names : List (List ℕ)) (sigs : ℕ → NodeSig) (all : List Decl) where
   abbrev PassTargets : List Decl → Type 0
   PassTargets decls = (place : Option ℕ) → target_places sigs place (filter_map (source_of names all) decls) (places (filter_map targeted decls)) ≡ soonest place (flat_map (unlike_target (word_sig names sigs)) decls)

@@ -1,4 +1,4 @@
--- Where none of the rows 16 to 20, 22 and 23 stands, the types of the signatures agree.
+-- Where none of the rows 16 to 20, 22 and 23 applies, the types of the signatures agree.
 use Rattle.std.proofs.Common.{◌≡◌, ◌+◌, ◌<◌, ◌≤◌, ◌==◌, ℕ, suc, eqb, Bool, true, false, ◌||◌, ◌&&◌, if◌then◌else◌, List, [], ◌∷◌, ◌++◌, length, map, Option, Some, None, refl, sym, ap, subst, ◌∙◌, arith}
 use Rattle.std.specs.List.{slice_get, flat_map, filter_map, list_any, cons_option, position_or_len, AllByRecursion}
 use Rattle.std.specs.Str.{bytes_eq}
@@ -31,7 +31,7 @@ use Rattle.flux_types.proofs.SpelledTypes.{kind_same, kinds_had, types_same, sig
 
 -- ---- predicates
 
--- a predicate's function stands at the place of its name
+-- a predicate's function is at the place of its name
 pub function_at : (decls : List Decl) (word : Word) → slice_get (texts_of function_of decls) (place_of (texts_of defined decls) word) ≡ function_named word.text decls
 function_at [] word = refl
 function_at (Typedef name function ∷ decls) word = one (bytes_eq word.text name.text) refl (function_at decls word)

@@ -31,7 +31,7 @@ kind_first (n ∷ names) (k ∷ kinds) wanted same = one (bytes_eq wanted n) ref
         let n = position_or_len (bytes_eq wanted) names in
         rw e (ap (λ (m : ℕ). unwrap_or (slice_get (k ∷ kinds) m) None) (let same : 1 + n ≡ suc n = omega arith in same) ∙ others)
 
--- what a table tells, and behind it what other lines say
+-- what a table tells, and after it what other lines say
 abbrev or_line : Bool → Option Kind → Option Kind → Option Kind
 or_line there own other = if there then own else other
 

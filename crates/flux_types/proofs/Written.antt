@@ -88,7 +88,7 @@ module _ (kind : Kinds) (decls : List Decl) (order : List NodeNo) (is_order : Is
   abbrev lines : List NodeSig
   lines = put_lines kind names decls (replicate (length names) nothing)
 
-  -- a node's signature goes by the rule
+  -- a node's signature follows the rule
   pub sig_rule : (number : ℕ) (node : Node) → slice_get nodes number ≡ Some node → sig_of kind decls number ≡ sig_by (written kind names decls) (sig_of kind decls) number node
   sig_rule = through-rule nothing (sig_by (written kind names decls)) (sigs_look_down (written kind names decls)) nodes order is_order
 

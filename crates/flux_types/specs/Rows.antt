@@ -1,4 +1,4 @@
--- The faults 16 to 20, 22 and 23: for each its row, the words at which it stands.
+-- The faults 16 to 20, 22 and 23: for each its row, the words at which it applies.
 use Rattle.std.specs.Prelude.{ℕ, ◌==◌, ◌&&◌, Bool, true, false, if◌then◌else◌, List, [], ◌∷◌, ◌++◌, length, Option, Some, None, zip}
 use Rattle.std.specs.List.{flat_map, list_all, filter}
 use Rattle.std.specs.Str.{bytes_eq}
@@ -104,7 +104,7 @@ unlike_node_in sigs (Flow name patterns members) =
     unless (is_like_node sigs (sigs name) members) name
 unlike_node_in sigs other = []
 
--- the library's function behind the name of a predicate: that of its `typedef` line
+-- the library's function after the name of a predicate: that of its `typedef` line
 abbrev pub function_named : List ℕ → List Decl → Option (List ℕ)
 function_named name [] = None
 function_named name (Typedef own function ∷ decls) =

@@ -227,7 +227,7 @@ impl FlowPlaces {
         places
     }
 
-    /// The least row that stands, at its least place.
+    /// The least row that applies, at its least place.
     pub fn fault(self) -> Option<(FaultKind, u32)>
         ensures { result ≡ flow_fault self }
     {

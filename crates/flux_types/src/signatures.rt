@@ -181,7 +181,7 @@ fn put_node(
     Ok(())
 }
 
-/// The signatures of all nodes, in an order in which each stands after all that it leads to.
+/// The signatures of all nodes, in an order in which each is after all that it leads to.
 pub fn fill<L: Library>(
     alloc: Global,
     library: &L,

@@ -69,7 +69,7 @@ fn pass_session<L: Library>(
     }
 }
 
-/// Where the first session function stands that doesn't take what its source gives.
+/// Where the first session function is that doesn't take what its source gives.
 pub fn session_places<L: Library>(
     alloc: Global,
     library: &L,

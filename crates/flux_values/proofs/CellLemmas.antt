@@ -93,7 +93,7 @@ edited_is es fs m name None order is same =
     ∙ ap (cond (eq_by_cmp (slice_cmp nat_cmp) q name) None) (sym (fin.get-from_sorted (slice_cmp nat_cmp) es q (rw order tt)) ∙ ap (λ (n : CellMap). fin.get n q) is)
     ∙ sym (fin.get-remove nat_list_cmp_total m name q))
 
--- the same, with what a refusal leaves
+-- the same, with what is so after a refusal
 pub put_in_order : {E : Type 0} (r : Result (Unit {0}) E) (es fs : Entries) (name : List ℕ) (value : Option Value) → AreInOrder es → OnOk r (fs ≡ edited es name value) → OnErr r (fs ≡ es) → AreInOrder fs
 put_in_order (Ok u) es fs name value order ok err = subst AreInOrder (sym ok) (edited_in_order es name value order)
 put_in_order (Err e) es fs name value order ok err = subst AreInOrder (sym err) order

@@ -32,7 +32,7 @@ pub record SpellsInt (bytes : List ℕ) (number : ℤ) : Type 0 where
   pub laid : bytes ≡ minus negative ++ digits
   pub value : number ≡ with_sign negative (digits_value 10 digits)
 
--- what a letter after a `\` stands for: `"`, `\`, LF, CR or TAB
+-- what a letter after a `\` means: `"`, `\`, LF, CR or TAB
 abbrev pub escaped : ℕ → Option ℕ
 escaped letter =
     if letter == 34 then Some 34 else
@@ -81,9 +81,9 @@ pub record Spells (bytes : List ℕ) (value : Value) : Type 0 where
   pub is_value : IsValue value
   pub form : HasForm bytes value
 
--- ---- what stands at the front of bytes
+-- ---- what is at the front of bytes
 
--- a spelling of this value, so many bytes long, begins the bytes; after an Int's stands no digit
+-- a spelling of this value, so many bytes long, begins the bytes; after an Int's there is no digit
 pub record BeginsSpelled (bytes : List ℕ) (value : Value) (n : ℕ) : Type 0 where
   pub spelling : List ℕ
   pub rest : List ℕ
@@ -103,7 +103,7 @@ pub record CanGoOn (bytes : List ℕ) : Type 0 where
   pub value : Value
   pub spells : Spells (bytes ++ more) value
 
--- before this place a text's spelling has given its 65,536 bytes, and at it stands neither the
+-- before this place a text's spelling has given its 65,536 bytes, and at it is neither the
 -- closing quote nor the end of the bytes
 pub record IsTooLong (bytes : List ℕ) (at : ℕ) : Type 0 where
   pub text : List ℕ

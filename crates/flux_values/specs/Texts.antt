@@ -9,7 +9,7 @@ use Rattle.flux_values.specs.declared.values.Value.TheVariants.{Int, Bool, Text}
 abbrev pub hex_digit : ℕ → ℕ
 hex_digit n = if nat_lt n 10 then 48 + n else 87 + n
 
--- how a byte stands inside a printed text: `\"`, `\\`, `\n`, `\r`, `\t`, itself from 32 to 126, or
+-- how a byte is spelled inside a printed text: `\"`, `\\`, `\n`, `\r`, `\t`, itself from 32 to 126, or
 -- `\x` and two digits
 unfoldable pub printed_byte : ℕ → List ℕ
 printed_byte b =

@@ -114,7 +114,7 @@ impl<T: Drop> List<T> {
 }
 
 impl<T: Drop> List<T> {
-    /// Puts an item in place of the one that stands there.
+    /// Puts an item in place of the one that is there.
     pub fn set(&mut self, place: usize, item: T)
         requires { place < length self.old }
         ensures { self.new ≡ slice_set self.old place item }

@@ -7,7 +7,7 @@ use crate::failures::Memory;
 use crate::texts::TextBytes;
 use std::alloc::Global;
 
-/// What kind of value stands in a place.
+/// What kind of value is in a place.
 #[derive(Clone, Copy, PartialEq, Eq)]
 pub enum Kind {
     Int,

@@ -48,7 +48,7 @@ item_any test (y ∷ xs) x (suc k, lt, is) own = one (test y) (item_any test xs 
     one true more = refl
     one false more = more
 
--- an item stands at its place
+-- an item is at its place
 pub item_stands : {X : Type 0} (items xs : List X) (index place : ℕ) (x : X) → items ≡ xs → place ≡ index → index < length items → x ≡ get_or items index x → slice_get xs place ≡ Some x
 item_stands items xs index place x same counted lt is = ap (λ (n : ℕ). slice_get xs n) counted ∙ ap (λ ys. slice_get ys index) (sym same) ∙ slice_get-get_or items index x lt ∙ ap Some (sym is)
 

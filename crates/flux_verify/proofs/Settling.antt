@@ -52,7 +52,7 @@ module _ (segments : List Segment) where
       one false e = rw e (λ place number led is on. more place number led (at_end settled node place number is) on)
 
   module _ (settled : List ℕ) (own : IsSettled segments settled) where
-    -- what a settled node reaches stands at its place, or before
+    -- what a settled node reaches is at its place, or before
     pub follow : (place from : ℕ) (between : List ℕ) (to : ℕ) → slice_get settled place ≡ Some from → IsWay segments from between to → StandsBefore settled (place + 1) to
     follow place from [] to is same = record { at_ = place; before = omega arith; is = is ∙ ap Some same }
     follow place from (next ∷ between) to is (led, way) =

@@ -38,7 +38,7 @@ kept_kind a b None has agree = tt
 kept_kind (Some y) b (Some x) has agree = ap Some agree
 kept_kind None b (Some x) has agree = has
 
--- what the second has stands in both as one, where the first agrees
+-- what the second has is in both as one, where the first agrees
 has_behind : (first second part : LibraryMeaning) → Has second part → Agree first part → Has (joined first second) part
 has_behind first second part has agree = record {
   kinds = λ ty. kept_kind (first.kind ty) (second.kind ty) (part.kind ty) (has.kinds ty) (agree.kinds ty);
@@ -59,7 +59,7 @@ first_kind : {A : Type 0} (a b : Option A) → IfSome a (λ x. option_or a b ≡
 first_kind None b = tt
 first_kind (Some x) b = refl
 
--- what the first has stands in both as one
+-- what the first has is in both as one
 has_first : (first second : LibraryMeaning) → Has (joined first second) first
 has_first first second = record {
   kinds = λ ty. first_kind (first.kind ty) (second.kind ty);

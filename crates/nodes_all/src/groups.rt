@@ -1,4 +1,4 @@
-//! Each group of nodes stands in the library under its own definitions. Each law is the contract of a
+//! Each group of nodes is in the library under its own definitions. Each law is the contract of a
 //! function that does nothing.
 
 ghost use Rattle.nodes_all.specs.Alls.{HasCounter, HasWeb, HasCaching, HasTracker};

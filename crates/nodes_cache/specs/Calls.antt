@@ -17,12 +17,12 @@ use Rattle.nodes_cache.specs.Entries.{has_entry, body_of, uses_of, users_of, bod
 
 -- ---- what nodes get
 
--- the text that stands first; of no meaning for other values
+-- the text that is first; of no meaning for other values
 abbrev pub the_name : List Value → List ℕ
 the_name (Text name ∷ values) = name
 the_name values = []
 
--- the text that stands second; of no meaning for other values
+-- the text that is second; of no meaning for other values
 abbrev pub the_body : List Value → List ℕ
 the_body (name ∷ Text body ∷ values) = body
 the_body values = []

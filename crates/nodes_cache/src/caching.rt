@@ -9,7 +9,7 @@ use flux_library::{Docs, Library};
 use flux_values::{Answer, Bytes, CallResult, Cell, Kind, List, Meaning, Memory, Sig, Value};
 use std::alloc::Global;
 
-/// The nodes of an image server, which keep documents in the cell `cache`, behind the source `Listen`.
+/// The nodes of an image server, which keep documents in the cell `cache`, with the source `Listen`.
 pub struct Caching {
     pub docs: Docs,
 }

@@ -12,7 +12,7 @@ use flux_library::answers::word;
 use flux_values::{Cell, List, Memory, Put, TextBytes, Value};
 use std::alloc::Global;
 
-/// A change under a name of the cell: a mark, and an entry's name behind it.
+/// A change under a name of the cell: a mark, and an entry's name after it.
 fn change(alloc: Global, mark: &[u8], name: &[u8], value: Option<Value>) -> Result<Put, Memory>
     requires { length mark.now + length name.now ≤ TEXT_LIMIT }
     ensures { IfOk result (λ put. put ≡

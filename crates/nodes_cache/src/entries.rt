@@ -15,7 +15,7 @@ pub const NAME_LIMIT: usize = 1024;
 /// How many entries there may be before one has to go for a new one.
 pub const ENTRY_LIMIT: usize = 8;
 
-/// A name of the cell: a mark, and an entry's name behind it.
+/// A name of the cell: a mark, and an entry's name after it.
 pub fn key(alloc: Global, mark: &[u8], name: &[u8]) -> Result<Bytes, Memory>
     ensures { IfOk result (λ key. key ≡ mark.now ++ name.now) }
 {

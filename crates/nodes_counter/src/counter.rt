@@ -9,7 +9,7 @@ use flux_values::{Answer, Bytes, CallResult, Cell, Kind, List, Meaning, Memory, 
 use std::alloc::Global;
 
 /// The basic nodes, `Pass`, `Fail`, `Show`, `Echo` and `Refuse`, and the counter's, `Command`,
-/// `Amount`, `Add`, `Read` and `Bump`, behind the sources `Tick` and `Listen`.
+/// `Amount`, `Add`, `Read` and `Bump`, with the sources `Tick` and `Listen`.
 #[derive(Clone, Copy, Drop)]
 pub struct Counter;
 

@@ -9,11 +9,11 @@ use Rattle.nodes_tracker.specs.declared.asks.Ask.{Ask}
 
 -- ---- pieces of a line
 
--- what stands before the first of a mark, or all where there is none
+-- what is before the first of a mark, or all where there is none
 abbrev pub front : ℕ → List ℕ → List ℕ
 front mark bytes = before_first (λ b. b == mark) bytes
 
--- what stands behind it, or nothing
+-- what follows it, or nothing
 abbrev pub behind : ℕ → List ℕ → List ℕ
 behind mark bytes = after_first (λ b. b == mark) bytes
 

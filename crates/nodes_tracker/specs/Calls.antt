@@ -121,7 +121,7 @@ scrape_call hash cell = if length hash == 20
 
 -- ---- all nodes
 
--- the ask that stands in values; of no meaning for values of other kinds
+-- the ask that is in values; of no meaning for values of other kinds
 abbrev pub ask_given : List Value → Option Ask
 ask_given (Text action ∷ Text hash ∷ Text peer ∷ Int left ∷ []) =
     Some (record { action = action; hash = hash; peer = peer; left = left })

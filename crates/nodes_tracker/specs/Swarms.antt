@@ -25,7 +25,7 @@ are_bytes text = list_all (λ byte. nat_lt byte 256) text
 abbrev pub is_peer : Peer → Bool
 is_peer peer = (length peer.address == 6 && are_bytes peer.address) && is_left peer.left
 
--- one text stands below another, bytewise
+-- one text is below another, bytewise
 abbrev pub is_below : List ℕ → List ℕ → Bool
 is_below one other = is_lt (slice_cmp nat_cmp one other)
 
@@ -55,7 +55,7 @@ kept peers = spelling (dictionary (fields_of peers))
 abbrev pub kept_peer : Peer → List ℕ
 kept_peer peer = spelled_string peer.address ++ spelling (number peer.left)
 
--- the peer that stands first, if one does: behind `6:` six bytes, and behind `i` the digits up to
+-- the peer that is first, if there is one: after `6:` six bytes, and after `i` the digits up to
 -- an `e`
 abbrev pub first_peer : List ℕ → Peer
 first_peer bytes = record {
@@ -63,7 +63,7 @@ first_peer bytes = record {
   left = pos (digits_value 10 (before_first (λ b. b == 101) (drop 9 bytes)));
 }
 
--- the peers that stand one behind another, up to an `e` that ends them
+-- the peers that are one after another, up to an `e` that ends them
 abbrev pub peers_in : ℕ → List ℕ → List Peer
 peers_in zero bytes = []
 peers_in (suc most) bytes = if bytes_eq bytes (codes "e") then [] else

@@ -54,7 +54,7 @@ fn one_text(args: &[Value]) -> &[u8]
     }
 }
 
-/// The ask that stands in values; of no meaning for values of other kinds.
+/// The ask that is in values; of no meaning for values of other kinds.
 fn ask_given(alloc: Global, args: &[Value]) -> Result<Option<Ask>, Memory>
     ensures { IfOk result (λ ask. ask ≡ calls.ask_given args.now) }
 {
@@ -78,7 +78,7 @@ fn ask_given(alloc: Global, args: &[Value]) -> Result<Option<Ask>, Memory>
 
 // What the cell has
 
-/// A name of the cell: a mark, and a hash behind it.
+/// A name of the cell: a mark, and a hash after it.
 fn name_of(alloc: Global, mark: &[u8], hash: &[u8]) -> Result<TextBytes, Memory>
     requires { length mark.now + length hash.now ≤ TEXT_LIMIT }
     ensures { IfOk result (λ name. name ≡ mark.now ++ hash.now) }
@@ -126,7 +126,7 @@ fn printed(alloc: Global, value: &Ben) -> Result<Value, Memory>
     Ok(Value::Text(word(alloc, print_ben(alloc, value)?.as_bytes())?))
 }
 
-/// A change under a name of the cell: a mark, and a hash behind it.
+/// A change under a name of the cell: a mark, and a hash after it.
 fn put(alloc: Global, mark: &[u8], hash: &[u8], value: Option<Value>) -> Result<Put, Memory>
     requires { length mark.now + length hash.now ≤ TEXT_LIMIT }
     ensures { IfOk result (λ put. put ≡ calls.put (mark.now ++ hash.now) value) }

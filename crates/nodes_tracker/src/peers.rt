@@ -131,7 +131,7 @@ pub fn put_in(peers: &mut Vec<Peer>, peer: Peer) -> Result<(), Memory>
     Ok(peers.insert(place, peer)?)
 }
 
-/// How many peers stand below an address, from the first one on.
+/// How many peers are below an address, from the first one on.
 fn place_of(peers: &[Peer], address: &[u8]) -> usize
     ensures within { result ≤ length peers.now }
     ensures place { result ≡ prefix_len (λ p. swarms.is_below p.address address.now) peers.now }

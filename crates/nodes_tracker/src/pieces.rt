@@ -1,4 +1,4 @@
-//! Pieces of a line: what stands round a mark, and numbers.
+//! Pieces of a line: what is around a mark, and numbers.
 
 ghost use Rattle.std.specs.Prelude.{◌≡◌, ◌≤◌, IfSome};
 ghost use Rattle.nodes_tracker.specs.Asks.{front, behind, number_within};
@@ -6,7 +6,7 @@ ghost use Rattle.nodes_tracker.specs.Asks.{front, behind, number_within};
 use flux_spelling::read_decimal;
 use memchr::memchr;
 
-/// What stands before the first of a mark, and what behind it.
+/// What is before the first of a mark, and what after it.
 pub fn cut(bytes: &[u8], mark: u8) -> (&[u8], &[u8])
     ensures front { result.0.now ≡ front mark bytes.now }
     ensures behind { result.1.now ≡ behind mark bytes.now }

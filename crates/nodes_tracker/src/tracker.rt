@@ -9,7 +9,7 @@ use flux_library::types::kind_spelled;
 use flux_values::{Answer, Bytes, CallResult, Cell, Kind, List, Meaning, Memory, Sig, Value};
 use std::alloc::Global;
 
-/// The nodes of a tracker, which keep swarms in the cell `swarms`, behind the source `Listen`.
+/// The nodes of a tracker, which keep swarms in the cell `swarms`, with the source `Listen`.
 #[derive(Clone, Copy, Drop)]
 pub struct Tracker;
 

@@ -1,4 +1,4 @@
--- Where a byte stands first or last.
+-- Where a byte is first or last.
 use Rattle.std.proofs.Common.{◌≡◌, ℕ, zero, suc, ◌==◌, ◌+◌, ◌<◌, ◌≤◌, true, false, List, [], ◌∷◌, length, get_or, take, drop, Some, None, refl, sym, ap, ◌∙◌, arith, take_all, add-one, length-drop, ◌-◌}
 use Rattle.std.proofs.lemmas.Bool.{false_from_ne_true}
 use Rattle.std.proofs.lemmas.List.Sums.{position_or_len_is, prefix_len_is}
@@ -8,7 +8,7 @@ use Rattle.nodes_web.specs.Requests.{path_of}
 use Rattle.nodes_web.specs.Names.{ending}
 use Rattle.nodes_web.specs.Calls.{without_newlines}
 
--- what stands before the first of a byte, if it stands anywhere
+-- what is before the first of a byte, if it is anywhere
 pub path_cut : (target : List ℕ) (at : ℕ) → NoneBefore (Passes (is_byte 63) target) 0 (length target) at → Passes (is_byte 63) target at → take at target ≡ path_of target
 path_cut target at none there =
     ap (λ (n : ℕ). take n target) (sym (position_or_len_is (λ b. b == 63) target at 0 (omega (arith, none.high)) (λ k lt. false_from_ne_true _ (none.before k (omega arith) lt)) (λ _. there)))

@@ -34,7 +34,7 @@ pub(crate) fn error_reply(alloc: Global, status: StatusCode, whole: bool) -> Res
     reply(alloc, status, b"text/plain", body.as_bytes(), whole)
 }
 
-/// Adds a head at the end. After an `Err` a part of it may stand there.
+/// Adds a head at the end. After an `Err` a part of it may be there.
 fn append_head(
     alloc: Global,
     out: &mut Bytes,

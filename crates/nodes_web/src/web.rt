@@ -10,7 +10,7 @@ use flux_values::{Answer, Bytes, CallResult, Cell, Kind, List, Meaning, Memory, 
 use std::alloc::Global;
 
 /// The web nodes `ReadRequest`, `LookUp`, `SendDoc`, `SendHead`, `NotFound`, `NotAllowed` and
-/// `BadRequest`, behind the source `Accept`, over documents.
+/// `BadRequest`, with the source `Accept`, over documents.
 pub struct Web {
     pub docs: Docs,
 }

@@ -8,7 +8,7 @@ use flux_model::{Body, FlowNo, Node};
 use flux_values::{Answer, CallResult, Put, Value};
 use std::alloc::Global;
 
-/// What a call comes to: a number, nothing or more, or a code.
+/// What a call answers: a number, nothing or more, or a code.
 #[derive(Clone, Copy, PartialEq)]
 enum Comes {
     Number(i64),
@@ -17,14 +17,14 @@ enum Comes {
     Code(u16),
 }
 
-/// What a call comes to, and the number that it puts.
+/// What a call answers, and the number that it puts.
 #[derive(Clone, Copy, PartialEq)]
 struct Answered {
     comes: Comes,
     put: Option<i64>,
 }
 
-/// What a library node comes to on a number, where its cell has another; none for a node that isn't known here.
+/// What a library node answers on a number, where its cell has another; none for a node that isn't known here.
 fn expected(name: &[u8], given: i64, kept: i64) -> Option<Answered> {
     if name == b"Add".as_slice() {
         let sum = kept.checked_add(given);
@@ -37,7 +37,7 @@ fn expected(name: &[u8], given: i64, kept: i64) -> Option<Answered> {
     }
 }
 
-/// What a node comes to that puts a number, unless that is past all numbers.
+/// What a node answers that puts a number, unless that is past all numbers.
 fn counted(put: Option<i64>, gives: Option<i64>) -> Answered {
     let comes = match (put, gives) {
         (Some(_), Some(number)) => Comes::Number(number),
@@ -165,7 +165,7 @@ fn is_line_of(digits: &[u8], number: u64) -> bool {
     value == number && (*first != b'0' || rest.is_empty())
 }
 
-/// What a digit stands for; of another byte more than all numbers have.
+/// What a digit means; of another byte more than all numbers have.
 fn digit_of(byte: u8) -> u64 {
     match byte {
         b'0'..=b'9' => u64::from(byte - b'0'),

@@ -85,7 +85,7 @@ impl Seen {
         self.place_held(claim.flow, claim.key).is_some()
     }
 
-    /// Where a flow's last hold of a key stands.
+    /// Where a flow's last hold of a key is.
     fn place_held(&self, flow: FlowNo, key: Key) -> Option<usize> {
         let mut last = None;
         for (place, held) in self.held.iter().enumerate() {
@@ -175,7 +175,7 @@ impl Seen {
         Ok(())
     }
 
-    /// A flow leaves a node: its sections there are over.
+    /// A flow exits a node: its sections there are over.
     fn exit(&mut self, flow: FlowNo, node: NodeNo) {
         for place in (0..self.open.len()).rev() {
             if place < self.inside.len()

@@ -1,9 +1,9 @@
-//! What a journal must be, told by plain lists.
+//! What a journal must be, by plain lists.
 //!
 //! `check_journal` says which rule the entries of a journal break first: walks by recursion over a program's nodes, locks by
 //! marking what is below a node, keys, sections and lines as lists, and answers made anew from what calls put. Of the code
 //! that made the journal it uses the checked program and nothing else, so it is an opinion of its own. It knows sources of one
-//! number and the basic and counter nodes. Trials alone stand on it, and no contract says what it answers.
+//! number and the basic and counter nodes. Trials alone use it, and no contract says what it answers.
 #![tactic(auto)]
 
 mod answers;
@@ -33,7 +33,7 @@ struct Plain<'a> {
     given: &'a [Given],
 }
 
-/// Whether classes stand by name, and of one name the program-wide one first.
+/// Whether classes are in order of their names, and of one name the program-wide one first.
 fn is_rising(classes: &[Class]) -> bool {
     for pair in classes.windows(2) {
         match pair {

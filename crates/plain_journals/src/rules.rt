@@ -6,7 +6,7 @@ use std::alloc::{AllocError, AllocFailed};
 /// What is wrong with a journal.
 #[derive(Clone, Copy)]
 pub enum Rule {
-    /// The program's classes don't stand by name.
+    /// The program's classes aren't in order of their names.
     ClassOrder,
     /// A key is taken that another flow holds against it, or that another flow waits for and came first.
     Take,

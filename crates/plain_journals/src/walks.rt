@@ -9,7 +9,7 @@ use flow_model::{Entry, Event, Key, Outcome};
 use flux_model::{Body, Case, FlowNo, HandleArm, Hold, Mode, NodeNo};
 use flux_values::{CallResult, Value};
 
-/// How deep calls of `Walker` may stand within each other here.
+/// How deep calls of `Walker` may be nested here.
 const DEPTH: u32 = 64;
 
 /// How a node came out, and the number that it gave, if it came out well and gave one.
@@ -50,7 +50,7 @@ fn is_wanted(event: &Event, wanted: Wanted) -> bool {
 struct Walker<'a> {
     plain: Plain<'a>,
     flow: FlowNo,
-    /// The entries behind the flow's last event that was asked for.
+    /// The entries after the flow's last event that was asked for.
     left: &'a [Entry],
 }
 
@@ -59,7 +59,7 @@ fn is_own(entry: &Entry, flow: FlowNo) -> bool {
     entry.flow == flow && !matches!(entry.event, Event::Wait(..))
 }
 
-/// Where a flow's first own event stands.
+/// Where a flow's first own event is.
 fn place_of_own(entries: &[Entry], flow: FlowNo) -> Option<usize> {
     for (place, entry) in entries.iter().enumerate() {
         if is_own(entry, flow) {

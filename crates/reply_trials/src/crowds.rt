@@ -90,7 +90,7 @@ fn are_echoed(alloc: Global, back: &[MemoryLink], cut: bool) -> Result<bool, Tro
     Ok(true)
 }
 
-/// Whether just one link was told each sum from 1 on, in whatever order they came to add.
+/// Whether just one link got each sum from 1 on, in whatever order they came to add.
 fn are_counted(alloc: Global, back: &[MemoryLink]) -> Result<bool, Trouble> {
     for sum in 1..=back.len() {
         let reply = format!(in alloc; "{sum}\n")?;

@@ -1,7 +1,7 @@
 //! The program `reply_trials`: what only calls show of serving whose replies are written at once.
 //!
 //! It prints a line for each trial. First come two links of one batch: calls are held until the other flow makes one, and until the
-//! first link was written to. A body on one thread fails that, as the second line shows, and so does one that writes behind the
+//! first link was written to. A body on one thread fails that, as the second line shows, and so does one that writes after the
 //! batch. Then come crowds: links that fail at each byte, and links whose replies depend on each other.
 //!
 //! To refuse memory to it, run `rt try --fail-alloc N` in this folder, with N from 1 on: the Nth allocation is refused. The status

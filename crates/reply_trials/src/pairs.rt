@@ -80,7 +80,7 @@ fn judge(back: &[MemoryLink], kept: u64) -> &'static str {
     "right"
 }
 
-/// Whether three calls were let go in time, the last one when the first link was written to, and both links were told the sum.
+/// Whether three calls were let go in time, the last one when the first link was written to, and both links got the sum.
 pub fn serve_pair<R: Threads + Wait + Sync>(
     rt: &R,
     alloc: Global,

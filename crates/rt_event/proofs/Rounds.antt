@@ -45,7 +45,7 @@ pub turn-some : (b : Bool) (owner : FlowNo) → then_some (not b) owner ≡ turn
 turn-some true owner = refl
 turn-some false owner = refl
 
--- the owner is live, and doesn't stand in a line
+-- the owner is live, and isn't in a line
 pub owner-live : (setup : Setup) (entries : List Entry) (pools : Pools) (from : ℕ) (on_turn : Option FlowNo)
     (owner : FlowNo) → IsOwner setup entries pools from on_turn owner → IsLive setup entries owner.0
 owner-live setup entries pools from None owner chosen = let first = chosen.first in let can = first.can in can.live

@@ -32,7 +32,7 @@ pub fn lowest_call<L: Library>(core: &Core<L>, first: u32, stride: u32) -> Optio
 /// A helper with nothing to do looks again after so many milliseconds, though its bell wasn't rung.
 const LONGEST_SLEEP: u64 = 100;
 
-/// A helper. It serves each flow whose number leaves its own one, modulo the number of helpers.
+/// A helper. It serves each flow whose number, modulo the number of helpers, is its own one.
 #[derive(Clone, Copy, Drop)]
 pub struct Helper {
     number: u32,

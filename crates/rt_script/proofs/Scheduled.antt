@@ -26,7 +26,7 @@ module _ (setup : Setup) (old : List Entry) (numbers : List FlowNo) where
     each : EachStands Allowed more
     turns : AreTurns setup old numbers (old ++ more)
 
-  -- behind the turns of those listed before, the others follow
+  -- after the turns of those listed before, the others follow
   listed-by : (done left : List FlowNo) (since new : List Entry) → numbers ≡ done ++ left
       → AreTurns setup old done (old ++ since) → EachStands Allowed since → AreTurns setup (old ++ since) left new
       → IsListed new

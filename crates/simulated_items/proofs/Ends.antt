@@ -1,4 +1,4 @@
--- No run stops behind the last tick.
+-- No run stops after the last tick.
 use Rattle.std.proofs.Common.{◌≡◌, ◌<◌, ◌≤◌, ◌-◌, ℕ, zero, suc, List, [], ◌∷◌, ◌++◌, map, length, refl, sym, ap, subst, ◌∙◌, arith}
 use Rattle.std.specs.List.{slice_get, slice_index_or, AllByRecursion}
 use Rattle.std.specs.List.Sorted.{IsNonDecreasing}

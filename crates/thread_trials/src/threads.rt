@@ -6,7 +6,7 @@ use std::{fs, thread};
 /// So often it is looked whether threads that were joined are gone.
 const MOST_LOOKS: u32 = 10_000;
 
-/// The number of threads in what the system tells of a process; None where it isn't told.
+/// The number of threads in what the system reports of a process; None where it reports none.
 fn count_in(text: &str) -> Option<u64> {
     for line in text.lines() {
         if let Some(rest) = line.strip_prefix("Threads:") {

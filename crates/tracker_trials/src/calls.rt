@@ -16,7 +16,7 @@ pub fn text(alloc: Global, bytes: &[u8]) -> Result<TextBytes, Trouble> {
     }
 }
 
-/// The name that stands for the hash behind a mark.
+/// The name that is in place of the hash after a mark.
 pub fn name(alloc: Global, mark: u8) -> Result<TextBytes, Trouble> {
     let mut name = Vec::new(alloc);
     name.push(mark)?;

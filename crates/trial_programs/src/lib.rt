@@ -2,7 +2,7 @@
 //!
 //! `set_up` makes what flows run in of a text and of the numbers that its sources give to them, and `open` a core; `text_of` and
 //! `numbers_of` make both of a seed. `Flows::uphold` holds a journal against the auditor, and `Flows::keep_rules` against plain
-//! lists too. `Watched` is the library `Counter`, of whose calls a watcher is told, which may refuse them. Trials alone stand on
+//! lists too. `Watched` is the library `Counter`, of whose calls a watcher is notified, which may refuse them. Trials alone use
 //! this crate.
 #![tactic(auto)]
 

@@ -1,17 +1,17 @@
-//! A library of whose calls someone is told.
+//! A library of whose calls someone is notified.
 
 use flux_library::Library;
 use flux_values::{Answer, Cell, Kind, List, Meaning, Memory, Sig, Value};
 use nodes_counter::Counter;
 use std::alloc::Global;
 
-/// Who is told of each call before it is made.
+/// Who is notified of each call before it is made.
 pub trait Watcher: Drop {
     /// Whether the call is refused, as if memory were short.
     fn refuses(&self) -> bool;
 }
 
-/// The library `Counter`, of whose calls a watcher is told.
+/// The library `Counter`, of whose calls a watcher is notified.
 #[derive(Drop)]
 pub struct Watched<W: Watcher> {
     pub watcher: W,

@@ -1,15 +1,15 @@
--- Steps of the reader: which bytes may begin a key behind another, by the key's length.
+-- Steps of the reader: which bytes may begin a key after another, by the key's length.
 use Rattle.std.specs.Prelude.{◌≡◌, ℕ, ◌+◌, ◌<◌, ◌≤◌, ◌==◌, if◌then◌else◌, List, [], ◌∷◌, ◌++◌, length, take, Option, Some, None, Result, Ok, Err, All, ⊤}
 use Rattle.std.specs.Borrow.{Bor}
 use Rattle.bencoding.specs.Trees.{IsKey, spelled_string}
 use Rattle.bencoding.specs.steps.Places.{IsStuck}
 
--- how many bytes 255 stand at the front
+-- how many bytes of 255 are at the front
 abbrev pub run : List ℕ → ℕ
 run [] = 0
 run (b ∷ bytes) = if b == 255 then run bytes + 1 else 0
 
--- the length of the shortest key behind another, or behind none
+-- the length of the shortest key after another, or after none
 abbrev pub least : Option (List ℕ) → ℕ
 least None = 0
 least (Some before) = run before + 1

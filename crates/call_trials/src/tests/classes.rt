@@ -34,7 +34,7 @@ fn a_set_covers_its_classes_in_no_greater_modes(rt: HostRuntime) -> Result<(), F
     Ok(())
 }
 
-/// How two classes stand, of which those of a session have a blank in front.
+/// The order of two classes, of which those of a session have a blank in front.
 fn order_of(alloc: Global, one: &str, other: &str) -> Result<Ordering, Fail> {
     Ok(class_order(&class(alloc, one)?, &class(alloc, other)?))
 }

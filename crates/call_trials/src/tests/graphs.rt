@@ -17,7 +17,7 @@ use std::test::Fail;
 const TEXT: &[u8] =
     b"typedef zero IsZero; A:[zero] = B; A:[_] = E; handle error A => G; B = ; handle error B:(12) => D; handle error B => C; C = F; D = ; handle error D => H; E = ; F = ; G = ; H = ;";
 
-/// A digit for each node, and behind it those of the nodes below.
+/// A digit for each node, and after it those of the nodes below.
 const BELOW: &str = "0123457 1 25 3 4 7";
 
 /// The program of a text whose names are right.

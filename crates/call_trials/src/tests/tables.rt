@@ -189,7 +189,7 @@ fn flow_of(word: &str) -> u32 {
     u32::from(digit.saturating_sub(b'0'))
 }
 
-/// `0 gets r` and `1 finds 0 r`, what a try comes to; `1 waits r`, `0 gives -`, and `0 has w` or `0 has -`.
+/// `0 gets r` and `1 finds 0 r`, the answers to a try; `1 waits r`, `0 gives -`, and `0 has w` or `0 has -`.
 fn step_of(words: &[&str]) -> Option<Step> {
     match words {
         [flow, "gets", mode] => Some(Step::Got(flow_of(flow), KEY, mode_of(mode))),
@@ -225,11 +225,11 @@ fn play_all(rt: &impl Abort, alloc: Global, steps: &str) -> Result<(), Fail> {
 const HELD: &str =
     "0 gets w, 1 finds 0 r, 0 gets r, 0 has w, 0 gives -, 0 has w, 1 finds 0 r, 0 gives -, 0 has -, 1 gets r";
 
-/// Who comes first is served first: a reader stands behind a writer that waits, and who holds the key passes.
+/// Who comes first is served first: a reader waits after a writer that waits, and who holds the key passes.
 const LINE: &str =
     "0 gets r, 1 finds 0 w, 1 waits w, 2 finds 1 r, 2 waits r, 2 finds 1 r, 0 gets r, 0 gives -, 1 finds 0 w, 0 gives -, 2 finds 1 r, 1 gets w, 2 finds 1 r, 1 gives -, 2 gets r";
 
-/// The lowest blocker is named. Readers don't block readers, and those behind a flow don't block it.
+/// The lowest blocker is named. Readers don't block readers, and those after a flow don't block it.
 const LOWEST: &str =
     "5 gets r, 3 gets r, 7 finds 3 w, 7 waits w, 2 waits w, 1 waits r, 9 finds 2 r, 9 finds 1 w, 1 finds 2 r, 2 finds 3 w, 3 gives -, 7 finds 5 w, 5 gives -, 7 gets w, 7 gives -, 1 finds 2 r, 2 gets w";
 

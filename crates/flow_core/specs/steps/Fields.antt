@@ -1,4 +1,4 @@
--- What the fields of a core stand for, and what holds of them. No promise cites it.
+-- What the fields of a core mean, and what holds of them. No promise cites it.
 use Rattle.std.specs.Prelude.{◌≡◌}
 use Rattle.flux_values.specs.Meanings.{LibraryMeaning}
 use Rattle.flow_state.specs.States.{FlowState}

@@ -1,4 +1,4 @@
--- What the fields of a state stand for, and what holds of them. No promise cites it.
+-- What the fields of a state mean, and what holds of them. No promise cites it.
 use Rattle.std.specs.Prelude.{◌≡◌, ◌≤◌, ℕ, List, length}
 use Rattle.std.specs.List.{AllByRecursion}
 use Rattle.std.specs.Arc.{arc_value}
@@ -23,7 +23,7 @@ use Rattle.flow_state.specs.steps.Places.{ArePlaces}
 use Rattle.flow_state.specs.steps.Cells.{classes_read}
 use Rattle.flow_state.specs.steps.Table.{IsTable}
 
--- ---- what the fields stand for
+-- ---- what the fields mean
 
 abbrev pub state_of : {L : Type 0} → Fields L → FlowState L
 state_of {L} r = record { setup = setup_of r.setup; entries = r.made }

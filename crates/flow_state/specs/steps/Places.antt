@@ -29,7 +29,7 @@ matches_by meaning p = patterns_match meaning p.predicates
 abbrev pub matches_in : Setup → Matches
 matches_in setup = matches_by setup.meaning setup.program
 
--- the plan that a flow goes by: that of its item's source line
+-- the plan that a flow follows: that of its item's source line
 abbrev pub plan_of_item : List Plan → Option Item → Option Plan
 plan_of_item plans None = None
 plan_of_item plans (Some item) = slice_get plans item.source.0
@@ -102,7 +102,7 @@ pub record IsComing (setup : Setup) (plans : List Plan) (places : List Place) (f
   pub is_plan : plan_of_item plans (item_of setup flow) ≡ Some plan
   pub coming : next_in plan (matches_in setup) place.local ≡ Some next
 
--- the event that it is, with a session's keys; a call stands only with its answer
+-- the event that it is, with a session's keys; a call has one only with its answer
 abbrev pub event_for : (ClassNo → Key) → Next → Option Event
 event_for key (Take class mode) = Some (events.Take (key class) mode)
 event_for key (Enter node) = Some (events.Enter node)

@@ -17,7 +17,7 @@ abbrev pub held_in : List Mode → Option Held
 held_in [] = None
 held_in (mode ∷ modes) = Some (one_more (held_in modes) mode)
 
--- a waiter stands at a key, and all of a line stand there behind it
+-- a waiter waits at a key, and all of a line wait there after it
 abbrev pub AreBehind : List Entry → Key → ℕ → List Waiter → Type 0
 AreBehind entries key place line = (waiter : Waiter) (behind : ℕ) → Contains line waiter
     → StandsAt entries waiter.flow.0 key waiter.mode behind → place < behind
@@ -31,7 +31,7 @@ abbrev pub AreInOrder : List Entry → Key → List Waiter → Type 0
 AreInOrder entries key [] = ⊤
 AreInOrder entries key (waiter ∷ line) = IsFirst entries key waiter line × AreInOrder entries key line
 
--- a line has exactly the flows that stand at a key, by their places
+-- a line has exactly the flows that wait at a key, by their places
 pub record IsLine (entries : List Entry) (key : Key) (line : List Waiter) : Type 0 where
   pub all : (flow : FlowNo) (mode : Mode) (place : ℕ) → StandsAt entries flow.0 key mode place
       → Contains line (record { flow = flow; mode = mode })

@@ -17,7 +17,7 @@ use Rattle.flow_waits.specs.steps.Staying.{IsFresh}
 use Rattle.flow_waits.specs.steps.Waking.{has, IsMore, IsLess, IsEarliest, ParkedFlows, parked_at, IsMoreAt, IsLessAt}
 
 -- the flows that are looked at; and those that aren't, since they were found blocked at a key, by the mode in which
--- they would take it. Flows that stand in a line are found there
+-- they would take it. Flows that are in a line are found there
 pub record Pools : Type 0 where
   pub ready : List ℕ
   pub readers : ParkedFlows
@@ -86,7 +86,7 @@ pub record Lags (setup : Setup) (entries : List Entry) (pools : Pools) (from : �
 abbrev pub StayReady : Pools → Pools → Type 0
 StayReady old new = (flow : ℕ) → IsReady old flow → IsReady new flow
 
--- each flow that was looked at still is, unless it is blocked and stands in a line
+-- each flow that was looked at still is, unless it is blocked and is in a line
 abbrev pub StayAwake : Setup → List Entry → Pools → Pools → Type 0
 StayAwake setup entries old new = (flow : ℕ) → IsReady old flow → (IsInLine setup entries flow → ⊥)
     → IsReady new flow
@@ -97,7 +97,7 @@ pub record FallsAsleep (old new : Pools) (flow : ℕ) : Type 0 where
   pub readers_ : new.readers ≡ old.readers
   pub writers_ : new.writers ≡ old.writers
 
--- a flow is parked now, unless it stands in a line, which the flag tells
+-- a flow is parked now, unless it is in a line, which the flag tells
 abbrev pub BecomesParked : Pools → Pools → ℕ → Key → Mode → Bool → Type 0
 BecomesParked old new flow key mode true = (new.readers ≡ old.readers) × (new.writers ≡ old.writers)
 BecomesParked old new flow key mode false = IsMoreAt (parked_for old mode) (parked_for new mode) key flow

@@ -14,7 +14,7 @@ use Rattle.flow_model.specs.Waits.{StandsAt}
 use Rattle.flow_model.specs.Legal.{IsLegal}
 use Rattle.flux_laws.specs.Going.{IsBlocked}
 
--- a live flow is at a take of a key that it doesn't hold, and stands in no line
+-- a live flow is at a take of a key that it doesn't hold, and is in no line
 pub record IsFresh (setup : Setup) (entries : List Entry) (flow : ℕ) (key : Key) (mode : Mode) : Type 0 where
   pub live : IsLive setup entries flow
   pub next : IsNext setup entries flow (Take key mode)
@@ -31,7 +31,7 @@ BlockedStay = (setup : Setup) (entries : List Entry) (flow : FlowNo) (event : Ev
     → IsBlocked setup entries other → event ≢ Drop key
     → IsBlocked setup (entries ++ record { flow = flow; event = event } ∷ []) other
 
--- a flow that stands at a key behind a writer is blocked
+-- a flow that waits at a key after a writer is blocked
 abbrev pub WritersBlock : Type 0
 WritersBlock = (setup : Setup) (entries : List Entry) → IsLegal setup entries
     → (flow writer : ℕ) (key : Key) (mode : Mode) (place before : ℕ) → StandsAt entries flow key mode place

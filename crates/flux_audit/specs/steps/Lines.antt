@@ -19,7 +19,7 @@ pub record IsPassedTo (setup : Setup) (text : List ℕ) (left : List (List ℕ))
   pub place : number ≡ head_count (is_headed text) + length before + 1
   pub none : (other : ℕ) (its : Rule) → BreaksAt setup text other its → number ≤ other
 
--- of the rules that a line breaks behind these entries, the first
+-- of the rules that a line breaks after these entries, the first
 pub record IsFirstOfLine (setup : Setup) (entries : List Entry) (line : List ℕ) (rule : Rule) : Type 0 where
   pub breaks : LineBreaks setup entries line rule
   pub first : (its : Rule) → LineBreaks setup entries line its → rank rule ≤ rank its

@@ -11,7 +11,7 @@ use Rattle.flow_model.specs.CellsAfter.{is_named}
 use Rattle.flux_cells.specs.Kept.{Kept, kept_at}
 use Rattle.flux_cells.specs.Applied.{class_of}
 
--- copies by key, which stand over the cells; of two under one key, the first
+-- copies by key, which lie over the cells; of two under one key, the first
 abbrev pub Touched : Type 0
 Touched = List (Key × CellMap)
 

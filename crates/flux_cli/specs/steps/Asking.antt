@@ -16,12 +16,12 @@ abbrev pub IsAsked : List (List ℕ) → Option Asked → Type 0
 IsAsked words (Some found) = Spells words (asked found)
 IsAsked words None = SpellsNone words
 
--- a command of a name, with the words behind it
+-- a command of a name, with the words after it
 pub record IsCommand (name : CommandName) (words : List (List ℕ)) (command : Command) : Type 0 where
   pub is : name_of command ≡ name
   pub behind : StandsBehind command words
 
--- the same of the words behind a name
+-- the same of the words after a name
 abbrev pub IsAskedBehind : CommandName → List (List ℕ) → Option Asked → Type 0
 IsAskedBehind name words (Some found) = IsCommand name words (asked found)
 IsAskedBehind name words None = (command : Command) → IsCommand name words command → ⊥
@@ -31,7 +31,7 @@ abbrev pub IsFileRead : List (List ℕ) → Option (Bor (List ℕ)) → Type 0
 IsFileRead words (Some file) = IsFile file.now words
 IsFileRead words None = (file : List ℕ) → IsFile file words → ⊥
 
--- the words behind a name ask for threads
+-- the words after a name ask for threads
 pub record AskThreads (name : CommandName) (words : List (List ℕ)) : Type 0 where
   pub command : Command
   pub is : IsCommand name words command

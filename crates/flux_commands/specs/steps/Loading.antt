@@ -58,7 +58,7 @@ IsUnchecked meaning told file Usage = ⊥
 IsUnchecked meaning told file (Items fault) = ⊥
 IsUnchecked meaning told file NotServed = ⊥
 
--- a file is lost: the program's, or that of the items behind a sound program
+-- a file is lost: the program's, or that of the items after a sound program
 pub record IsProgramLost (told : Files) (program : Origin) (name : List ℕ) : Type 0 where
   pub is : program ≡ named name
   pub lost : IsLost told name PROGRAM_FILE_LIMIT
@@ -70,7 +70,7 @@ pub record AreItemsMissed (meaning : LibraryMeaning) (told : Files) (program ite
   pub decls : List Decl
   pub program_ : HasProgram meaning told program decls
 
--- the program's names are names, and its items are read by rules, where its text is told
+-- the program's names are names, and its items are read by rules, where its text is reported
 abbrev pub ReadsWell : LibraryMeaning → Files → Origin → Type 0
 ReadsWell meaning told program = TellsText told program → AreRead meaning told program
 

@@ -46,7 +46,7 @@ abbrev pub IsPrepared : LibraryMeaning → Command → Files → Prepared → Ty
 IsPrepared meaning command told (prepared_.Text text) = IsPrinted meaning command told text
 IsPrepared meaning command told (prepared_.No text) = IsRefuted meaning command told text
 
--- ---- behind the documents
+-- ---- after the documents
 
 -- the store was asked for the files of a command
 pub record AsksFiles (meaning : LibraryMeaning) (command : Command) (told : Files)
@@ -62,7 +62,7 @@ pub record AreRead (meaning : LibraryMeaning) (told : Files) (program : Origin) 
   pub rules : (decls : List Decl) (own : HasProgram meaning told program decls)
       → AreRules (rules_in meaning decls own.sound)
 
--- so it is where a command's answer stands on its items
+-- so it is where a command's answer rests on its items
 abbrev pub StandsOnItems : Status → Type 0
 StandsOnItems statuses.Done = ⊤
 StandsOnItems statuses.No = ⊤

@@ -28,7 +28,7 @@ IsUnread told name max (Static line) = ⊥
 IsUnread told name max (Items fault) = ⊥
 IsUnread told name max NotServed = ⊥
 
--- a count rose where reading failed, and stands as before in every other answer
+-- a count rose where reading failed, and is as before in every other answer
 abbrev pub CountsRefusal : Refusal → ℕ → ℕ → Type 0
 CountsRefusal Read before after = Rose before after
 CountsRefusal Usage before after = after ≡ before
@@ -69,7 +69,7 @@ IsTextRefused text =
 abbrev pub IsCheckRefused : LibraryMeaning → List ℕ → Refusal → Type 0
 IsCheckRefused meaning text = SaysOrMemory (IsFaultLine (IsTextFault meaning text) text)
 
--- ---- commands, behind their documents
+-- ---- commands, after their documents
 
 -- a command was refused for this: a fault of a text, or a file that isn't there
 abbrev pub IsJudged : LibraryMeaning → Command → Files → Status → List ℕ → Type 0

@@ -267,7 +267,7 @@ takes_held origins sets nodes number hold is =
     by None is = absurd (contains_none hold is)
     by (Some node) is = one node (list_any (eqb number) origins) refl is
 
--- what a function gives for an instruction, it gives for the code where that stands
+-- what a function gives for an instruction, it gives for the code that has it
 pub in_code : (f : Instr → List NodeNo) (code : List Instr) (place : ℕ) (instr : Instr) (x : ℕ)
     → slice_get code place ≡ Some instr → IsIn x (f instr) → IsIn x (flat_map f code)
 in_code f [] place instr x at is = absurd cc
@@ -275,7 +275,7 @@ in_code f (i ∷ code) zero instr x at is =
     let same : i ≡ instr = cc in in_front x (f i) (flat_map f code) (rw same is)
 in_code f (i ∷ code) (suc place) instr x at is = in_behind x (f i) (flat_map f code) (in_code f code place instr x at is)
 
--- what stands in the segment of a node as `Go` is a member of the node
+-- what is in the segment of a node as `Go` is a member of the node
 pub go_member : (holds : List Hold) (node : Node) (place : ℕ) (inner : NodeNo)
     → slice_get (node_code holds node) place ≡ Some (Go inner) → IsIn inner.0 (members_of node.body)
 go_member holds node place inner at =

@@ -48,7 +48,7 @@ reads_at exit place other reading code same reads = subst (λ (n : ℕ). Reads e
 
 -- ---- takes and drops
 
--- the classes of takes behind others, the latest first
+-- the classes of takes after others, the latest first
 abbrev taken_on : List ClassNo → List Hold → List ClassNo
 taken_on classes [] = classes
 taken_on classes (hold ∷ holds) = taken_on (hold.class ∷ classes) holds

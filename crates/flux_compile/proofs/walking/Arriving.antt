@@ -1,4 +1,4 @@
--- Runs that follow walks: after some steps a run has made a walk's events, and stands where that stops.
+-- Runs that follow walks: after some steps a run has made a walk's events, and is where that stops.
 use Rattle.std.proofs.Common.{◌≡◌, List, [], ◌∷◌, ◌++◌, refl, sym, ap, ◌∙◌}
 use Rattle.std.proofs.lemmas.List.{append-nil}
 use Rattle.flux_values.specs.declared.values.Value.{Value}
@@ -25,7 +25,7 @@ abbrev pub Goal : Type 0
 Goal = Outcome → List Value → State
 
 module _ (segments : List Segment) (key : ClassNo → Key) (matches : Matches) where
-  -- a run comes to the state of an end
+  -- a run reaches the state of an end
   pub record Arrives (goal : Goal) (state : State) (answers : List Answer) (events : List Event) (ended : Ended) : Type 0 where
     pub values : List Value
     pub agree : Agree ended.outcome values ended.values
@@ -36,7 +36,7 @@ module _ (segments : List Segment) (key : ClassNo → Key) (matches : Matches) w
   Follows goal state answers events (before_call node args) = Stops segments key matches state answers events (at_call node args)
   Follows goal state answers events nowhere = ⊥
 
-  -- a run makes a walk's events; where that is finished, it comes to the state of its end, and else it stands still there
+  -- a run makes a walk's events; where that is finished, it reaches the state of its end, and else it halts there
   abbrev pub RunsTo : Goal → State → List Answer → Walked → Type 0
   RunsTo goal state answers walked = Follows goal state answers walked.events walked.stop
 
@@ -54,7 +54,7 @@ module _ (segments : List Segment) (key : ClassNo → Key) (matches : Matches) w
 
   -- ---- one after another
 
-  -- what a run comes to goes on
+  -- what a run reaches goes on
   pub comes-follows : (goal : Goal) (state : State) (answers : List Answer) (before : List Event) (next : State) (left : List Answer) (events : List Event) (stop : Stop)
       → Comes segments key matches state answers before next left → Follows goal next left events stop → Follows goal state answers (before ++ events) stop
   comes-follows goal state answers before next left events (finished ended) comes follows = record {
@@ -66,7 +66,7 @@ module _ (segments : List Segment) (key : ClassNo → Key) (matches : Matches) w
       comes-stops segments key matches state answers before next left events (at_call node args) comes follows
   comes-follows goal state answers before next left events nowhere comes follows = absurd follows
 
-  -- behind a silent step
+  -- after a silent step
   pub follows-silent : (goal : Goal) (state next : State) (answers : List Answer) (walked : Walked)
       → step segments matches state ≡ silent next → RunsTo goal next answers walked → RunsTo goal state answers walked
   follows-silent goal state next answers walked made runs =

@@ -36,7 +36,7 @@ use Rattle.flux_compile.specs.steps.Segments.{taking, dropping, arms_from, body_
 use Rattle.flux_compile.proofs.walking.Arriving.{Agree, Goal, Arrives, RunsTo, comes-still, comes-silent, comes-acts, comes-follows, follows-silent, follows-then, follows-on}
 use Rattle.flux_compile.proofs.walking.Places.{Stand, stand-append, stand-map, stand-whole, AreOne, arms-one}
 
--- the parts of a node's code, one behind the other
+-- the parts of a node's code, one after the other
 node_parts : (holds : List Hold) (node : Node) → node_code holds node ≡ map taking holds ++ (instrs.Enter ∷ (body_code (length holds + 1) node.body
     ++ (instrs.Exit ∷ (map dropping (reverse holds) ++ (handling_code node.on_fail ++ instrs.Return ∷ [])))))
 node_parts holds node =
@@ -67,7 +67,7 @@ module _ (segments : List Segment) (given : Given) where
   abbrev pub IsRun : ℕ → Walking → Type 0
   IsRun number walking = (values : List Value) (answers : List Answer) (below : List Frame) → RunsUp number walking values answers below
 
-  -- behind it the frame that entered it goes on
+  -- after it the frame that entered it goes on
   runs_inside : (number : ℕ) (walking : Walking) → IsRun number walking → (values : List Value) (answers : List Answer) (frame : Frame) (below : List Frame)
       → RunsTo segments given.key given.matches (λ outcome own. record { frames = frame ∷ below; values = own; outcome = outcome })
       (entering (record { 0 = number }) values (frame ∷ below)) answers (walking values answers)
@@ -213,7 +213,7 @@ module _ (segments : List Segment) (given : Given) where
     all_run walks [] are = tt
     all_run walks (arm ∷ arms) are = (are arm.node.0 (inl refl), all_run walks arms (λ m is. are m (inr is)))
 
-    -- a handler's end leaves the node over, or fails it
+    -- by a handler's end the node is over, or fails
     over_runs : (place : ℕ) → slice_get code place ≡ Some instrs.EndHandle → (outcome : Outcome) (values : List Value) (left : List Answer)
         → Runs (at (place + 1)) (at place outcome values) left (over outcome left)
     over_runs place on Good values left = record { values = values; agree = tt; comes = comes-silent segments given.key given.matches (at place Good values) (at (place + 1) Over values) left (obeys place instrs.EndHandle Good values on) }
@@ -295,7 +295,7 @@ module _ (segments : List Segment) (given : Given) where
     abbrev behind_takes : List Instr
     behind_takes = instrs.Enter ∷ (body_code body_place node.body ++ (instrs.Exit ∷ behind_exit))
 
-    -- where the parts of the code stand
+    -- where the parts of the code are
     takes_stand : Stand code_ 0 (map taking holds) × Stand code_ (0 + length holds) behind_takes
     takes_stand = stand-map code_ 0 taking holds behind_takes (subst (Stand code_ 0) (node_parts holds node) (stand-whole code_))
 
@@ -326,7 +326,7 @@ module _ (segments : List Segment) (given : Given) where
     body_done : RunsTo segments given.key given.matches (there exit_) (there body_place Good values) answers body
     body_done = body_runs number values below code_ exit_ is walks node.body (λ m i. are m (in_front m (members_of node.body) (handlers_of node.on_fail) i)) body_place body_stands.0 refl values answers
 
-    -- behind the body: `exit`, and the drops
+    -- after the body: `exit`, and the drops
     leaves : (ended : Ended) (last : List Value) → Agree ended.outcome last ended.values
         → RunsTo segments given.key given.matches (there last_place) (there exit_ ended.outcome last) ended.left (leaving given.key holds own ended)
     leaves ended last agree = record {

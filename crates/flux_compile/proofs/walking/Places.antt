@@ -1,4 +1,4 @@
--- What stands at the places of a node's code.
+-- What is at the places of a node's code.
 use Rattle.std.proofs.Common.{◌≡◌, ℕ, suc, ◌+◌, Bool, true, false, List, [], ◌∷◌, ◌++◌, length, map, Option, Some, None, refl, ap, subst, ◌∙◌, arith}
 use Rattle.std.specs.Prelude.{if◌then◌else◌}
 use Rattle.std.specs.List.{slice_get, flat_map}
@@ -13,12 +13,12 @@ use Rattle.flux_plan.specs.declared.plans.Instr.TheVariants.{Go, Leave}
 use Rattle.flux_plan.specs.Machine.{first_arm}
 use Rattle.flux_compile.specs.steps.Segments.{arms_from, members_code}
 
--- from a place on these stand in the code
+-- from a place on these are in the code
 abbrev pub Stand : List Instr → ℕ → List Instr → Type 0
 Stand code place [] = Unit {0}
 Stand code place (instr ∷ more) = (slice_get code place ≡ Some instr) × Stand code (place + 1) more
 
--- the first of two lists stands there, and the second behind it
+-- the first of two lists is there, and the second after it
 pub stand-append : (code : List Instr) (place : ℕ) (a b : List Instr) → Stand code place (a ++ b) → Stand code place a × Stand code (place + length a) b
 stand-append code place [] b all = (tt, subst (λ (p : ℕ). Stand code p b) (omega arith) all)
 stand-append code place (instr ∷ a) b (own, more) =
@@ -38,14 +38,14 @@ stand_behind first code place (instr ∷ instrs) (own, more) =
     let next : place + 1 ≡ suc place = omega arith in
     (ap (slice_get (first ∷ code)) next ∙ own, stand_behind first code (place + 1) instrs more)
 
--- the code stands at its own places
+-- the code is at its own places
 pub stand-whole : (code : List Instr) → Stand code 0 code
 stand-whole [] = tt
 stand-whole (instr ∷ code) = (refl, stand_behind instr code 0 code (stand-whole code))
 
 -- ---- arms
 
--- an arm and a case that are found are one: of the same number, and the case's members stand at the arm's place; or none
+-- an arm and a case that are found are one: of the same number, and the case's members are at the arm's place; or none
 -- is found
 abbrev pub AreOne : List Instr → List Case → Option (ℕ × Arm) → Option (ℕ × Case) → Type 0
 AreOne code cases None None = Unit {0}

@@ -8,7 +8,7 @@ use Rattle.flux_model.specs.Leading.{leads_in}
 use Rattle.flux_model.specs.Children.{IsIn, IsBelow, members}
 use Rattle.flux_model.specs.Visits.{IsKnown}
 
--- each leads to nothing but what comes behind it
+-- each leads to nothing but what comes after it
 abbrev pub LeadDown : List Node → List NodeNo → Type 0
 LeadDown nodes [] = ⊤
 LeadDown nodes (node ∷ rest) =

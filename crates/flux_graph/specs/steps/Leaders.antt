@@ -13,7 +13,7 @@ leaders_at leaders number = slice_index_or leaders number []
 abbrev pub with_leader : List (List NodeNo) → ℕ → NodeNo → List (List NodeNo)
 with_leader leaders number node = slice_set leaders number (leaders_at leaders number ++ node ∷ [])
 
--- a node has been added to those that lead to each of these, and all others stand where they stood
+-- a node has been added to those that lead to each of these, and all others are where they were
 pub record LeadsToAll (node : NodeNo) (led : List NodeNo) (before after : List (List NodeNo)) : Type 0 where
   pub many : length after ≡ length before
   pub kept : (from to : ℕ) → IsIn from (leaders_at before to) → IsIn from (leaders_at after to)

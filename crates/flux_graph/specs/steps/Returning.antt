@@ -19,7 +19,7 @@ IsAhead number [] = ⊥
 IsAhead number (Enter node ∷ steps) = (number ≡ node.0) ⊎ IsAhead number steps
 IsAhead number (Leave node ∷ steps) = IsAhead number steps
 
--- the first step leaves the node that the search began with, until all is done
+-- the first step exits the node that the search began with, until all is done
 abbrev pub BeginsWith : NodeNo → List Step → Type 0
 BeginsWith start [] = ⊤
 BeginsWith start (step ∷ steps) = step ≡ Leave start

@@ -1,4 +1,4 @@
--- Steps of the reader: what stands behind blanks.
+-- Steps of the reader: what follows blanks.
 use Rattle.std.specs.Prelude.{◌≡◌, ℕ, if◌then◌else◌, List, [], ◌∷◌, drop}
 use Rattle.flux_items.specs.Lines.{is_blank, AreBlanks}
 

@@ -23,7 +23,7 @@ IsLineRead rules line reads.BadItem = IsBadItem line
 IsLineRead rules line reads.UnknownSource = HasUnknownSource rules line
 IsLineRead rules line reads.ItemTypes = HasOtherTypes rules line
 
--- behind blanks: an identifier, blanks or none, `(`, and what stands behind that
+-- after blanks: an identifier, blanks or none, `(`, and what follows that
 pub record HasName (line name behind : List ℕ) : Type 0 where
   pub identifier : IsIdentifier name
   pub rest : List ℕ
@@ -36,7 +36,7 @@ pub record HaveOtherThan (rules : ItemRules) (place : ℕ) (text : List ℕ) : T
   pub gives : GivesKinds rules place kinds
   pub other : HaveOtherKinds kinds text
 
--- what is read behind the name of the source at a place
+-- what is read after the name of the source at a place
 abbrev pub IsItemRead : ItemRules → ℕ → List ℕ → LineRead → Type 0
 IsItemRead rules place text reads.BadItem = (values : List Value) → Close values text → ⊥
 IsItemRead rules place text reads.ItemTypes = HaveOtherThan rules place text
@@ -45,7 +45,7 @@ IsItemRead rules place text (reads.Item item) = (item.source.0 ≡ place) × Clo
 IsItemRead rules place text reads.PassedOver = ⊥
 IsItemRead rules place text reads.UnknownSource = ⊥
 
--- what is read behind a name that no source has
+-- what is read after a name that no source has
 abbrev pub IsUnknownRead : List ℕ → LineRead → Type 0
 IsUnknownRead text reads.BadItem = (values : List Value) → Close values text → ⊥
 IsUnknownRead text reads.UnknownSource = (values : List Value) × Close values text

@@ -10,23 +10,23 @@ use Rattle.flux_items.specs.declared.spellings.ValuesRead.{ValuesRead}
 use Rattle.flux_items.specs.declared.spellings.ValuesRead.TheVariants as reads
 use Rattle.flux_items.specs.steps.Fronts.{past_blanks, Ends}
 
--- a value's spelling stands behind blanks, and behind it and blanks stands the rest
+-- a value's spelling comes after blanks, and after it and blanks is the rest
 pub record IsValueThen (value : Value) (text : List ℕ) (Then : List ℕ → Type 0) : Type 0 where
   pub n : ℕ
   pub begins : BeginsSpelled (past_blanks text) value n
   pub then_ : Then (past_blanks (drop n (past_blanks text)))
 
--- behind a value: a comma and the next of these, or the end of the line where there are no more
+-- after a value: a comma and the next of these, or the end of the line where there are no more
 abbrev pub Follow : List Value → List ℕ → Type 0
 Follow [] rest = Ends rest
 Follow (value ∷ values) rest = (rest ≡ 44 ∷ drop 1 rest) × IsValueThen value (drop 1 rest) (Follow values)
 
--- behind `(`: these values up to the end of the line
+-- after `(`: these values up to the end of the line
 abbrev pub Close : List Value → List ℕ → Type 0
 Close [] text = Ends (past_blanks text)
 Close (value ∷ values) text = IsValueThen value text (Follow values)
 
--- what the reader has of one value and what stands behind it
+-- what the reader has of one value and what follows it
 abbrev pub IsNext : List ℕ → Next → Type 0
 IsNext text nexts.Bad = (value : Value) (values : List Value) → Close (value ∷ values) text → ⊥
 IsNext text (nexts.Last value) = Close (value ∷ []) text
@@ -50,14 +50,14 @@ AreRead kinds text reads.Bad = (values : List Value) → Close values text → �
 AreRead kinds text reads.Other = HaveOtherKinds kinds text
 AreRead kinds text (reads.These values) = Close values text × (map kind_of values ≡ kinds)
 
--- values that go on behind some others
+-- values that go on after some others
 pub record GoesOn (all values : List Value) (rest : List ℕ) : Type 0 where
   pub value : Value
   pub more : List Value
   pub are : values ≡ all ++ value ∷ more
   pub close : Close (value ∷ more) rest
 
--- the values so far, and how the line goes on behind them
+-- the values so far, and how the line goes on after them
 pub record AreSoFar (kinds : List Kind) (text rest : List ℕ) (kept : List Value) (fits : Bool) : Type 0 where
   pub all : List Value
   pub keeps : IsKept kinds all kept fits

@@ -3,11 +3,11 @@ use Rattle.std.specs.Prelude.{◌≡◌, ℕ, ◌≤◌, ◌==◌, false, List, 
 use Rattle.std.specs.List.{AllByRecursion}
 use Rattle.std.specs.Fmt.{decimal}
 
--- a byte stands nowhere in a text
+-- a byte is nowhere in a text
 abbrev pub HasNone : ℕ → List ℕ → Type 0
 HasNone mark text = AllByRecursion (λ b. (b == mark) ≡ false) text
 
--- what stands before and behind the first mark
+-- what is before and after the first mark
 pub record IsCut (mark : ℕ) (text front behind : List ℕ) : Type 0 where
   pub none : HasNone mark front
   pub laid : text ≡ front ++ mark ∷ behind

@@ -1,4 +1,4 @@
--- Steps of reading a line: the word that an event's text begins with, and what stands behind it.
+-- Steps of reading a line: the word that an event's text begins with, and what follows it.
 use Rattle.std.specs.Prelude.{◌≡◌, ℕ, ◌<◌, ◌^◌, List, ◌++◌, Option, Some, None, Result, Ok, Err, codes}
 use Rattle.std.specs.Fmt.{decimal}
 use Rattle.flux_values.specs.declared.answers.Mode.{Mode}
@@ -51,7 +51,7 @@ pub record IsCallRest (p : Program) (text : List ℕ) (made : CallMade) : Type 0
   pub node_ : IsNodeOf p made.node
   pub call : Behind (node_name p made.node ++ codes " ") (λ rest. IsCallText p rest made) text
 
--- what stands behind an event's word and a space
+-- what follows an event's word and a space
 abbrev pub IsRestOf : Program → List ℕ → Event → Type 0
 IsRestOf p text (events.Take key mode) = IsHoldText p text key mode
 IsRestOf p text (events.Wait key mode) = IsHoldText p text key mode
@@ -77,7 +77,7 @@ IsNoRest p text words.Exit = (node : NodeNo) (outcome : Outcome) → IsExitRest 
 IsNoRest p text words.Drop = (key : Key) → IsKeyText p text key → ⊥
 IsNoRest p text words.End = (outcome : Outcome) → IsEndText text outcome → ⊥
 
--- what is read behind a word that isn't a call's
+-- what is read after a word that isn't a call's
 abbrev pub IsPlainRead : Program → Word → List ℕ → Option Event → Type 0
 IsPlainRead p word text (Some event) = IsRestAt p word text event
 IsPlainRead p word text None = IsNoRest p text word

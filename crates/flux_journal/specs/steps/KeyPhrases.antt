@@ -1,4 +1,4 @@
--- Steps of printing the lines of keys: what stands in them around the key's number, by the name of the key's class.
+-- Steps of printing the lines of keys: what is in them around the key's number, by the name of the key's class.
 use Rattle.std.specs.Prelude.{◌≡◌, ℕ, List, [], ◌∷◌, ◌++◌, map, codes, ⊤, Bool, true, false}
 use Rattle.flux_model.specs.declared.programs.Program.{Program}
 use Rattle.flux_model.specs.declared.programs.Class.{Class}
@@ -15,18 +15,18 @@ key_word (Take mode) = codes " take "
 key_word (Wait mode) = codes " wait "
 key_word Drop = codes " drop "
 
--- what stands behind a phrase's key: how the key is held, and LF
+-- what follows a phrase's key: how the key is held, and LF
 abbrev pub key_behind : KeyPhrase → List ℕ
 key_behind (Take mode) = printed_mode mode ++ codes "\n"
 key_behind (Wait mode) = printed_mode mode ++ codes "\n"
 key_behind Drop = codes "\n"
 
--- what stands behind a class's name: the mark before a key's number, or else what stands behind the key
+-- what follows a class's name: the mark before a key's number, or else what follows the key
 abbrev pub name_behind : KeyPhrase → Bool → List ℕ
 name_behind phrase true = codes "@"
 name_behind phrase false = key_behind phrase
 
--- the word, the class's name and what stands behind the name
+-- the word, the class's name and what follows the name
 abbrev pub key_text : KeyPhrase → Bool → List ℕ → List ℕ
 key_text phrase numbered name = key_word phrase ++ name ++ name_behind phrase numbered
 

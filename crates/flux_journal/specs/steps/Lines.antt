@@ -9,7 +9,7 @@ use Rattle.flux_journal.specs.Formats.{head_line}
 use Rattle.flux_journal.specs.Spelled.{IsEntryLine}
 use Rattle.flux_journal.specs.Journals.{lines_of, AreEntryLines}
 
--- the first line of a text, and what stands behind it
+-- the first line of a text, and what follows it
 pub record IsFirstLine (text line behind : List ℕ) : Type 0 where
   pub lines : lines_of text ≡ line ∷ lines_of behind
   pub shorter : length behind < length text

@@ -17,7 +17,7 @@ abbrev pub line_end : Bool → List ℕ
 line_end true = codes "\n"
 line_end false = []
 
--- what stands between the values so far and the next
+-- what is between the values so far and the next
 abbrev pub separator : List Value → List ℕ
 separator [] = []
 separator (value ∷ values) = codes ", "

@@ -1,4 +1,4 @@
--- Steps of printing the lines of nodes: what stands in them, by a node's name.
+-- Steps of printing the lines of nodes: what is in them, by a node's name.
 use Rattle.std.specs.Prelude.{◌≡◌, ℕ, List, [], ◌∷◌, ◌++◌, map, codes, ⊤}
 use Rattle.flux_model.specs.declared.programs.Program.{Program}
 use Rattle.flux_model.specs.declared.programs.Node.{Node}
@@ -6,7 +6,7 @@ use Rattle.flux_journal.specs.declared.phrases.Phrase.{Phrase}
 use Rattle.flux_journal.specs.declared.phrases.Phrase.TheVariants.{Enter, Call, Exit, Done}
 use Rattle.flux_journal.specs.declared.phrases.NodePhrases.{NodePhrases}
 
--- how a node's line goes on behind its flow's number
+-- how a node's line goes on after its flow's number
 abbrev pub phrase_text : Phrase → List ℕ → List ℕ
 phrase_text Enter name = codes " enter " ++ name ++ codes "\n"
 phrase_text Call name = codes " call " ++ name ++ codes " ("

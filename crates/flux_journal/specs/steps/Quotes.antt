@@ -1,4 +1,4 @@
--- Steps of printing a text each of whose bytes stands for itself.
+-- Steps of printing a text each of whose bytes means itself.
 use Rattle.std.specs.Prelude.{ℕ, Bool, ◌&&◌, not, nat_le, ◌==◌, List, [], ◌∷◌, ◌++◌}
 
 -- a byte from 32 to 126 that is no quote and no `\`

@@ -22,7 +22,7 @@ OnBad faults.Memory Bad = ⊤
 abbrev pub BeginsNone : {X : Type 0} → (List ℕ → X → List ℕ → Type 0) → List ℕ → Type 0
 BeginsNone {X} Part text = (x : X) (tail : List ℕ) → Part text x tail → ⊥
 
--- a part was read, and this stands behind it; or none begins the text
+-- a part was read, and this comes after it; or none begins the text
 abbrev pub IsPartRead : {X : Type 0} → (List ℕ → X → List ℕ → Type 0) → List ℕ → List ℕ
     → Result X LineFault → Type 0
 IsPartRead Part text rest (Ok x) = Part text x rest
@@ -33,7 +33,7 @@ abbrev pub IsWholeRead : {X : Type 0} → (X → Type 0) → Result X LineFault 
 IsWholeRead Is (Ok x) = Is x
 IsWholeRead {X} Is (Err fault) = OnBad fault ((x : X) → Is x → ⊥)
 
--- no text behind a word is this one
+-- no text after a word is this one
 abbrev pub IsNotBehind : List ℕ → List ℕ → Type 0
 IsNotBehind word text = (tail : List ℕ) → text ≡ word ++ tail → ⊥
 
@@ -42,13 +42,13 @@ abbrev pub IsWordRead : List ℕ → List ℕ → List ℕ → Result (Unit {0})
 IsWordRead word text rest (Ok done) = text ≡ word ++ rest
 IsWordRead word text rest (Err fault) = (fault ≡ faults.BadLine) × IsNotBehind word text
 
--- values behind commas were added to others
+-- values after commas were added to others
 pub record AreAdded (old new : List Value) (text rest : List ℕ) : Type 0 where
   pub more : List Value
   pub are : new ≡ old ++ more
   pub each : BeginEach BeginsNext text more rest
 
--- and no comma follows; or none stand before a `)`
+-- and no comma follows; or none are before a `)`
 
 abbrev pub NoMore : List ℕ → Type 0
 NoMore text = (more : List Value) (tail : List ℕ)
@@ -66,7 +66,7 @@ pub record BeginsCell (p : Program) (text cell rest : List ℕ) : Type 0 where
 abbrev pub BeginsName : List ℕ → List ℕ → List ℕ → Type 0
 BeginsName text name rest = BeginsValue text (Text name) rest
 
--- what stands behind ` put ` or ` cut `
+-- what follows ` put ` or ` cut `
 abbrev pub BeginsSet : Program → List ℕ → Put → List ℕ → Option Value → Type 0
 BeginsSet p text put rest None = ⊥
 BeginsSet p text put rest (Some value) = IsCellOf p put.cell
@@ -97,7 +97,7 @@ abbrev pub IsPutOrNone : Program → List ℕ → List ℕ → Result (Option Pu
 IsPutOrNone p text rest (Ok read) = IsPutRead p text rest read
 IsPutOrNone p text rest (Err fault) = OnBad fault (IsBadPut p text)
 
--- all changes were read; or none stand before an emission
+-- all changes were read; or none are before an emission
 abbrev pub NoPuts : Program → List ℕ → Type 0
 NoPuts p text = (puts : List Put) (tail emits : List ℕ)
     → BeginEach (BeginsPut p) text puts tail → IsEmission tail emits → ⊥

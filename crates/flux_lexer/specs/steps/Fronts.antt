@@ -41,7 +41,7 @@ abbrev pub single_front : Option TokenKind → Front
 single_front None = Bad
 single_front (Some kind) = Token kind 1
 
--- what begins a byte and these behind it
+-- what begins a byte and these after it
 abbrev pub front_from : ℕ → List ℕ → Front
 front_from b rest =
     if is_word_start b then word_front (b ∷ rest) (prefix_len is_word_byte (b ∷ rest)) else

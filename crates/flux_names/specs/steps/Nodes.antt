@@ -18,7 +18,7 @@ use Rattle.flux_syntax.specs.ProgramOfText.{place_of, number_of, patterns_of, li
 use Rattle.flux_names.specs.Rows.{code_of, used_names, not_among}
 use Rattle.flux_names.specs.steps.Classes.{with_constraints, holds_of}
 
--- the lines behind references
+-- the lines after references
 abbrev pub lines_now : List (Bor Decl) → List Decl
 lines_now lines = map (λ line. line.now) lines
 

@@ -8,6 +8,6 @@ abbrev pub picked : Bool → List (List ℕ) → List Word → List Word
 picked true = among
 picked false = not_among
 
--- the words behind references
+-- the words after references
 abbrev pub words_now : List (Bor Word) → List Word
 words_now words = map (λ word. word.now) words

@@ -1,4 +1,4 @@
--- Steps of the code: names that stand twice, by the names before. No public clause cites it.
+-- Steps of the code: names that are there twice, by the names before. No public clause cites it.
 use Rattle.std.specs.Prelude.{ℕ, Bool, false, if◌then◌else◌, List, [], ◌∷◌, ◌++◌, Option, Some, None}
 use Rattle.flux_syntax.specs.declared.declarations.Word.{Word}
 use Rattle.flux_syntax.specs.declared.declarations.Decl.{Decl}

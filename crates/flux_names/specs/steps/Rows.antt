@@ -8,7 +8,7 @@ use Rattle.flux_names.specs.declared.rows.Row.{Row}
 use Rattle.flux_names.specs.declared.rows.Row.TheVariants as rows
 use Rattle.flux_names.specs.Rows.{used_names, inner_names, among, not_among, unknown_types_in, not_in, unlike, unknown_predicates_in, unknown_session, not_sources_in}
 
--- the words at which a row stands in a declaration
+-- the words at which a row applies in a declaration
 abbrev pub row_words : LibraryMeaning → Known → Row → Decl → List Word
 row_words meaning known rows.UnknownNode = λ decl. not_among known.nodes.now (used_names decl)
 row_words meaning known rows.UnknownType = unknown_types_in meaning

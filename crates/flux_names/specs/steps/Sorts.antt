@@ -15,7 +15,7 @@ word_of sorts.Targeted = targeted
 word_of sorts.Handled = handled
 word_of sorts.Sessioned = sessioned
 
--- the distinct names of a sort, behind those so far
+-- the distinct names of a sort, after those so far
 abbrev pub names_by_after : (Decl → Option Word) → List (List ℕ) → List Decl → List (List ℕ)
 names_by_after sort names [] = names
 names_by_after sort names (decl ∷ decls) = names_by_after sort (and_name names (sort decl)) decls

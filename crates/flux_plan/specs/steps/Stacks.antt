@@ -1,4 +1,4 @@
--- What the fields of a `Local` and its stack stand for.
+-- What the fields of a `Local` and its stack mean.
 use Rattle.std.specs.Prelude.{◌≡◌, if◌then◌else◌, [], reverse, MatchBool, ⊤}
 use Rattle.flow_model.specs.declared.journals.Outcome.TheVariants.{Good}
 use Rattle.flux_plan.specs.declared.stacks.Stack.{Stack}

@@ -131,7 +131,7 @@ pub record Lands (plan : Plan) (matches : Matches) (frames : List Frame) (start 
   pub some : 0 < landing.depth
   pub most : landing.depth ≤ length frames
 
--- the place of the innermost frame behind the event that comes next; none where the flow ends
+-- the place of the innermost frame after the event that comes next; none where the flow ends
 abbrev pub IsBehind : List Frame → List Value → Outcome → Step → Option ℕ → Type 0
 IsBehind frames values outcome step None = (act : Act)
     × (step ≡ acts act (record { frames = []; values = values; outcome = outcome }))

@@ -12,7 +12,7 @@ use Rattle.flux_serve.specs.Batches.{Service}
 use Rattle.flux_serve.specs.Ends.{Sight}
 use Rattle.flux_serve.specs.steps.Batches.{sight_in, HasRun, IsNone, IsNoneAtOnce}
 
--- what is told of doors and of their links
+-- what is reported of doors and of their links
 pub record Tells (D L : Type 0) : Type 0 where
   pub see : L → Seen
   pub to_come : D → Option (List (List L))

@@ -56,7 +56,7 @@ AreRepliesSoFar see entries (old ∷ olds) (new ∷ news) =
 
 -- ---- shares
 
--- a worker's share of links, from a flow on: those whose flow's number leaves its own one
+-- a worker's share of links, from a flow on: those whose flow's number modulo the number of workers is its own one
 abbrev pub share : {K : Type 0} → ℕ → ℕ → ℕ → List (ReadLink K) → List (PendingReply K)
 share workers worker flow [] = []
 share workers worker flow (request ∷ rest) =

@@ -27,7 +27,7 @@ module _ {L K : Type 0} where
     pub seat_ : queue.seat ≡ Some seat
     pub shared_ : seat.shared ≡ shared
 
-  -- a worker did its work: its links stand as what its seat has seen allows
+  -- a worker did its work: its links are as what its seat has seen allows
   pub record HasWorked (see : K → Seen) (shared : SharedState L) (old new : WorkerQueue (SeatState L) K) : Type 0 where
     pub seat : SeatState L
     pub seat_ : new.seat ≡ Some seat

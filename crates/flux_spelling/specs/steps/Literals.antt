@@ -6,14 +6,14 @@ use Rattle.flux_spelling.specs.declared.reading.Piece.TheVariants.{Stops}
 use Rattle.flux_values.specs.Spellings.{OpensText}
 use Rattle.flux_spelling.specs.steps.Pieces.{piece_of}
 
--- before this place stand an opening quote and pieces that give the text
+-- before this place are an opening quote and pieces that give the text
 pub record IsOpen (bytes : List ℕ) (limit : ℕ) (text : List ℕ) (at : ℕ) : Type 0 where
   pub within : at ≤ length bytes
   pub opens : OpensText (take at bytes) text
   pub each : All (λ b. b < 256) text
   pub few : length text ≤ limit
 
--- the closing quote stands at the end of so many bytes
+-- the closing quote is at the end of so many bytes
 pub record IsClosed (bytes : List ℕ) (limit : ℕ) (text : List ℕ) (n : ℕ) : Type 0 where
   pub at : ℕ
   pub open_ : IsOpen bytes limit text at
@@ -21,7 +21,7 @@ pub record IsClosed (bytes : List ℕ) (limit : ℕ) (text : List ℕ) (n : ℕ)
   pub within : at < length bytes
   pub quote : slice_index bytes at ≡ 34
 
--- the text is full, and no closing quote stands here
+-- the text is full, and no closing quote is here
 pub record IsFull (bytes : List ℕ) (limit at : ℕ) : Type 0 where
   pub text : List ℕ
   pub open_ : IsOpen bytes limit text at

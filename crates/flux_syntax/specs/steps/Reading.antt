@@ -25,7 +25,7 @@ abbrev pub ◌>>=◌ : {A B : Type 0} → Read A → (A → List Symbol → Read
 got x rest >>= f = f x rest
 stuck rest >>= f = stuck rest
 
--- what a reader answers, and what it leaves, are what is read; or memory was short
+-- what a reader answers, and what is left after it, are what is read; or memory was short
 abbrev pub Reads : {A : Type 0} → Result A Stop → List Symbol → Read A → Type 0
 Reads (Ok x) left read = read ≡ got x left
 Reads (Err Unexpected) left read = read ≡ stuck left
@@ -80,7 +80,7 @@ number_at (mark kind ∷ rest) = stuck (mark kind ∷ rest)
 abbrev pub onto : {A : Type 0} → (List Symbol → Read A) → List A → List Symbol → Read (List A)
 onto read items symbols = read symbols >>= λ item rest. got (items ++ item ∷ []) rest
 
--- more things, as long as the mark stands between them; at most so many
+-- more things, as long as the mark is between them; at most so many
 abbrev pub more_at : {A : Type 0} → (List Symbol → Read A) → TokenKind → ℕ → List A
     → List Symbol → Read (List A)
 more_at read between zero items symbols = got items symbols

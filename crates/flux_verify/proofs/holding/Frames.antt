@@ -31,7 +31,7 @@ use Rattle.flux_verify.proofs.holding.Segments.{contains_take, take_stands, none
 abbrev pub IsAboveAll : List Hold → ClassNo → Type 0
 IsAboveAll held class = (own : Hold) → Contains held own → own.class.0 < class.0
 
--- each class is above those behind it
+-- each class is above those after it
 abbrev pub AreFalling : List Hold → Type 0
 AreFalling [] = ⊤
 AreFalling (hold ∷ held) = IsAboveAll held hold.class × AreFalling held
@@ -179,7 +179,7 @@ module _ (plan : Plan) (verified : IsVerified plan) (node place : ℕ) (held : L
     here = here;
   }
 
-  -- what stands in the segment is taken, and is led to, by the node
+  -- what is in the segment is taken, and is led to, by the node
   taken_here : (at : ℕ) (hold : Hold) → slice_get segment.code at ≡ Some (Take hold.class hold.mode) → Contains (takes_of plan.segments node) hold
   taken_here at hold is = rw placed.is (contains_take segment.code at hold is)
 
@@ -238,7 +238,7 @@ module _ (plan : Plan) (verified : IsVerified plan) (node place : ℕ) (held : L
         | inr le ↦ rw (is_new hold there (omega (arith, lt, le)) is) (contains_first new held)
       ]
 
-  -- behind the takes all of them are held
+  -- after the takes all of them are held
   has_all : (classes : List ClassNo) → slice_get segment.code place ≡ Some Enter → reading_at segment (place + 1) ≡ Some (entered classes)
       → HasTaken segment place held → HasAll segment held
   has_all classes at after taken there hold is = elim (cases_order there place) [

@@ -40,7 +40,7 @@ module _ (key : ClassNo → Key) where
   modes_of k (hold ∷ holds) =
       if same_key (key hold.class) k then hold.mode ∷ modes_of k holds else modes_of k holds
 
-  -- a drop of the latest leaves what was held before
+  -- after a drop of the latest, what was held before is held
   pub drop_latest : (k : Key) (hold : Hold) (holds : List Hold) (events : List Event)
       → held_after k (modes_of k (hold ∷ holds)) (kinds.Drop (key hold.class) ∷ events) ≡ held_after k (modes_of k holds) events
   drop_latest k hold holds events = ap (λ modes. held_after k modes events) (by (same_key (key hold.class) k) (modes_of k holds))

@@ -1,4 +1,4 @@
--- Each step of a verified plan leaves frames that hold what its events leave held.
+-- After each step of a verified plan frames hold what is held after its events.
 use Rattle.std.proofs.Common.{◌≡◌, inr, ℕ, ◌+◌, List, [], ◌∷◌, ◌++◌, Option, Some, None, refl, sym, ap, subst}
 use Rattle.std.specs.Prelude.{⊤, IfSome}
 use Rattle.std.specs.List.{AllByRecursion}
@@ -62,13 +62,13 @@ closed_none : (plan : Plan) (node : ℕ) → IsClosedOver plan.segments node []
 closed_none plan node reached reaches hold taken = inr (λ own is. absurd (contains_none own is))
 
 module _ (plan : Plan) (verified : IsVerified plan) (key : ClassNo → Key) (matches : Matches) where
-  -- a silent step leaves what is held
+  -- after a silent step what is held is the same
   pub record Left (all : List (List Hold)) (next : State) : Type 0 where
     pub now : List (List Hold)
     pub are : AreHolding plan next.frames now
     pub same : all_of now ≡ all_of all
 
-  -- and an event leaves what is held behind it
+  -- and after an event it is what is held after that
   pub record Made (all : List (List Hold)) (act : Act) (next : State) : Type 0 where
     pub now : List (List Hold)
     pub are : AreHolding plan next.frames now
@@ -142,7 +142,7 @@ module _ (plan : Plan) (verified : IsVerified plan) (key : ClassNo → Key) (mat
         by [] holding = record { now = rest; are = holding; same = λ k events. ap (λ (h : List Hold). held_after k (modes_of key k (h ++ all_of rest)) events) none }
         by (f ∷ frames) holding = record { now = rest; are = holding; same = without none }
 
-  -- a step leaves frames that hold what it leaves held
+  -- after a step frames hold what is held after it
   pub step_leaves : (state : State) (all : List (List Hold)) → AreHolding plan state.frames all → Leaves state all (step plan.segments matches state)
   step_leaves state all are = by state.frames all are
     where

@@ -1,4 +1,4 @@
--- Where the takes of a segment stand.
+-- Where the takes of a segment are.
 use Rattle.std.proofs.Common.{◌≡◌, ◌≢◌, ◌⊎◌, inl, inr, ℕ, zero, suc, ◌+◌, List, [], ◌∷◌, Option, Some, None, refl, sym, ap, ◌∙◌, subst, arith, add-zero}
 use Rattle.std.specs.Prelude.{⊤}
 use Rattle.std.specs.List.{slice_get, flat_map, Contains}
@@ -34,7 +34,7 @@ taken_is (Take class mode) hold is = elim (contains_cases _ [] hold is) [
 ]
 taken_is other hold is = absurd (contains_none hold is)
 
--- each of the takes stands somewhere
+-- each of the takes is somewhere
 pub take_stands : (code : List Instr) (hold : Hold) → Contains (flat_map taken_by code) hold → (place : ℕ) × (slice_get code place ≡ Some (Take hold.class hold.mode))
 take_stands [] hold is = absurd (contains_none hold is)
 take_stands (instr ∷ code) hold is = elim (Contains-append_cases (taken_by instr) (flat_map taken_by code) hold is) [
@@ -42,7 +42,7 @@ take_stands (instr ∷ code) hold is = elim (Contains-append_cases (taken_by ins
   | inr later ↦ let (place, at) = take_stands code hold later in (suc place, at)
 ]
 
--- ---- behind `Enter`
+-- ---- after `Enter`
 
 -- it has been read further than the takes
 abbrev pub IsBehindTakes : Reading → Type 0
@@ -73,7 +73,7 @@ is_whole whole = inl refl
 is_whole other = inr (λ e. cc)
 
 module _ (segment : Segment) (shaped : (place : ℕ) → IsMisshapen segment place → ⊥) where
-  -- behind all nothing stands
+  -- after all there is nothing
   ends : (place : ℕ) → reading_at segment place ≡ Some whole → (further : ℕ) (instr : Instr) → slice_get segment.code (place + further) ≡ Some instr → ⊥
   ends place before further instr at = here (slice_get segment.code place) refl
     where
@@ -84,7 +84,7 @@ module _ (segment : Segment) (shaped : (place : ℕ) → IsMisshapen segment pla
           cc
       here (Some own) is = shaped place (record { reading = whole; before = before; stops = subst (CantGoOn segment.exit place whole) (sym is) refl })
 
-  -- behind `Enter` nothing is taken
+  -- after `Enter` nothing is taken
   pub none_taken : (further place : ℕ) (reading : Reading) → reading_at segment place ≡ Some reading → IsBehindTakes reading
       → (class : ClassNo) (mode : Mode) → slice_get segment.code (place + further) ≡ Some (Take class mode) → ⊥
   none_taken zero place reading before behind class mode at = elim (is_whole reading) [

@@ -11,13 +11,13 @@ use Rattle.flux_verify.specs.declared.orders.Task.{Task}
 use Rattle.flux_verify.specs.declared.orders.Task.TheVariants.{Enter, Settle}
 use Rattle.flux_verify.specs.steps.Checks.{covers, IsOpenTo}
 
--- a number stands before a place
+-- a number is before a place
 pub record StandsBefore (numbers : List ℕ) (place number : ℕ) : Type 0 where
   pub at_ : ℕ
   pub before : at_ < place
   pub is : slice_get numbers at_ ≡ Some number
 
--- what a node leads to stands before it
+-- what a node leads to is before it
 abbrev pub IsSettled : List Segment → List ℕ → Type 0
 IsSettled segments settled = (place node led : ℕ) → slice_get settled place ≡ Some node
     → IsIn led (leads_from segments node) → StandsBefore settled place led

@@ -5,7 +5,7 @@ use Rattle.std.specs.Borrow.{Bor}
 use Rattle.flux_values.specs.Cells.{CellMap}
 use Rattle.nodes_cache.specs.Entries.{uses_of}
 
--- of names the first one that has the least uses: those before it have more, and those behind it no fewer
+-- of names the first one that has the least uses: those before it have more, and those after it no fewer
 pub record IsFirstLeast (cell : CellMap) (names : List (List ℕ)) (name : List ℕ) : Type 0 where
   pub before : List (List ℕ)
   pub after : List (List ℕ)

@@ -1,4 +1,4 @@
--- Whose peers stand in a swarm that is read, and in one that is changed.
+-- Whose peers are in a swarm that is read, and in one that is changed.
 use Rattle.std.proofs.Common.{◌≡◌, ◌<◌, ◌≤◌, ◌^◌, ℕ, ℤ, suc, ◌+◌, Bool, true, false, cond, not, List, [], ◌∷◌, length, Option, Some, None, pos, negsuc, FitsSigned, refl, arith}
 use Rattle.std.specs.Int.{w64}
 use Rattle.std.proofs.lemmas.Bool.Decides.{nat_tests}

@@ -9,7 +9,7 @@ use Rattle.flow_orders.specs.Turns.{IsInLine, MakesMove}
 use Rattle.flow_waits.specs.steps.Covers.{Pools, IsReady, Covers, IsChosen}
 use Rattle.flow_orders.specs.Round.{EndsTurn}
 
--- a flow that is on turn is live, stands in no line and is looked at, last of all
+-- a flow that is on turn is live, is in no line and is looked at, last of all
 pub record IsKeptOn (setup : Setup) (entries : List Entry) (pools : Pools) (from : ℕ) (flow : FlowNo) : Type 0 where
   pub live : IsLive setup entries flow.0
   pub awake : IsInLine setup entries flow.0 → ⊥
@@ -40,7 +40,7 @@ pub record Leads (setup : Setup) (entries : List Entry) (pools : Pools) (from : 
   pub covers : Covers setup entries pools from
   pub owner : IsFound setup entries pools from on_turn found
 
--- a flow's move, and whether its turn is over; nothing, where it has ended or stands in a line
+-- a flow's move, and whether its turn is over; nothing, where it has ended or is in a line
 abbrev pub IsOver : Bool → Event → Type 0
 IsOver true event = EndsTurn event
 IsOver false event = EndsTurn event → ⊥

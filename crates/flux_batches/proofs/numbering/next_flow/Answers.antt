@@ -6,7 +6,7 @@ use Rattle.flux_batches.specs.steps.Answering.{flow_at}
 use Rattle.flux_batches.proofs.Numbered.{flow-behind}
 use Rattle.flux_batches.proofs.numbering.next_flow.Goals as goal
 
--- one that sent no text leaves the flow
+-- one that sent no text has no flow
 silent : (flow : ℕ) (sent : Sent) → (sent ≡ Failed) ⊎ (sent ≡ Memory) → flow_behind flow sent ≡ flow
 silent flow sent (inl is) = ap (flow_behind flow) is
 silent flow sent (inr is) = ap (flow_behind flow) is

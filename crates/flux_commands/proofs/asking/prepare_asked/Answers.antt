@@ -45,7 +45,7 @@ returns-in_err-library-clause-asked g c =
     asks_stopped built_in (asked c.args.wanted) told (prepared_status c.from_residual-in_err-library.result) _ _ _ first
     (passed_status (IsStopped (folder_of (asked c.args.wanted))) refusals.Memory c.from_residual-in_err-library.result c.from_residual-in_err-library.ensures.1 tt)
 
--- ---- behind the documents
+-- ---- after the documents
 
 pub returns-clause-asked : goal.returns-clause-asked
 returns-clause-asked g c =

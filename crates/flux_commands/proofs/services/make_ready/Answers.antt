@@ -48,7 +48,7 @@ returns-in_err-library-clause-asked g c =
     asks_stopped built_in command told (prepared_status (as_text c.from_residual-in_err-library.result)) _ _ _ c.in_ok-docs.ensures.asked
     (passed_text (IsStopped (folder_of command)) refusals.Memory c.from_residual-in_err-library.result c.from_residual-in_err-library.ensures.1 tt)
 
--- ---- behind the documents
+-- ---- after the documents
 
 pub returns-clause-asked : goal.returns-clause-asked
 returns-clause-asked g c =

@@ -8,7 +8,7 @@ use Rattle.flux_table.proofs.queues.Queue.remove.Goals.{then-place-eq0, else-pla
 one_gone : (all left : List Waiter) (gone : ℕ) → drop gone all ≡ left → drop (gone + 1) all ≡ remove left 0
 one_gone all left gone is = sym (drop-drop 1 gone all) ∙ ap (drop 1) is
 
--- a place among those that are left is that much behind those that are gone
+-- a place among those that are left is that much later with those that are gone
 drop-remove : (all : List Waiter) (gone place : ℕ) → gone ≤ length all → drop gone (remove all (gone + place)) ≡ remove (drop gone all) place
 drop-remove all gone place some =
     let behind : suc (gone + place) ≡ gone + suc place = omega arith in

@@ -4,7 +4,7 @@ use Rattle.rt_all.specs.declared.any_runtime.AnyRuntime.{AnyRuntime}
 use Rattle.rt_all.specs.declared.any_runtime.AnyRuntime.TheVariants.{Event, Pool}
 use Rattle.rt_all.proofs.any_runtime.AnyRuntime.by.Goals as goal
 
--- that there are few helpers is told in one way
+-- there is one way to say that there are few helpers
 pub returns-in-Event : goal.returns-in-Event
 returns-in-Event c = rw c.in-Event.is
     (ap (λ (few : 0 ≤ 16). let chosen : AnyRuntime = Event (record { helpers = 0; few = few }) in chosen) (le_prop c.result-1.given.0 zero-le))
