@@ -1,10 +1,11 @@
 //! Worked sequences of calls: flows that are stepped and finished by hand, a call that is recalled and finished twice, a plan that the
 //! verifier refuses, and values at the edges of their spelling.
 
-ghost use Rattle.std.specs.Prelude.{◌<◌, length};
+ghost use Rattle.std.specs.Prelude.{◌≡◌};
+ghost use Rattle.flow_state.specs.Calls.{library_name};
 
 use crate::turns::{Turn, take_turn};
-use flow_core::{Core, Finish, Job, Step};
+use flow_core::{CallDone, Core, Finish, Job, Step};
 use flow_model::Journal;
 use flux_journal::print_journal;
 use flux_library::Library;
@@ -103,11 +104,7 @@ fn word_of<L: Library>(step: &Step<L>) -> &'static str {
 }
 
 /// One step of a flow, in a word.
-fn tell_step<L: Library>(
-    rt: &HostRuntime,
-    core: &mut Core<L>,
-    flow: u32,
-) -> Result<(), Trouble> {
+fn tell_step<L: Library>(rt: &HostRuntime, core: &mut Core<L>, flow: u32) -> Result<(), Trouble> {
     if flow >= core.flows() {
         return Err(Trouble::Wrong);
     }
@@ -124,6 +121,24 @@ fn recalled<L: Library>(core: &Core<L>, flow: u32) -> Result<Option<Job<L>>, Tro
     Ok(core.recall(FlowNo(flow))?)
 }
 
+/// Finishes a call, and tells whether that came late.
+fn tell_finish<L: Library>(
+    rt: &HostRuntime,
+    core: &mut Core<L>,
+    done: &CallDone<L>,
+) -> Result<(), Trouble>
+    requires library { L.meaning done.now.library ≡ L.meaning core.old.setup.library }
+    requires name { library_name done.now.program done.now.inputs.node
+        ≡ library_name core.old.setup.program done.now.inputs.node }
+    ensures { core.new.setup ≡ core.old.setup }
+{
+    match core.finish(done)? {
+        Finish::Went => println!(rt; "finish: went")?,
+        Finish::Late => println!(rt; "finish: late")?,
+    }
+    Ok(())
+}
+
 /// Recalls a flow's call, and finishes it twice.
 fn finish_twice(rt: &HostRuntime, core: &mut Core<Counter>) -> Result<(), Trouble> {
     if core.flows() == 0 {
@@ -133,13 +148,8 @@ fn finish_twice(rt: &HostRuntime, core: &mut Core<Counter>) -> Result<(), Troubl
         return Err(Trouble::Wrong);
     };
     let done = job.run(rt.alloc())?;
-    for _ in 0..2 {
-        match core.finish(&done)? {
-            Finish::Went => println!(rt; "finish: went")?,
-            Finish::Late => println!(rt; "finish: late")?,
-        }
-    }
-    Ok(())
+    tell_finish(rt, core, &done)?;
+    tell_finish(rt, core, &done)
 }
 
 /// A call that is begun, recalled and finished twice, and then the flow's end.
