@@ -1,3 +1,4 @@
 mod Opened
 mod Sizes
 mod Reached
+mod Recalled

@@ -5,7 +5,8 @@
 //! `watch N` does what `core N` does; then it drives N flows by the loop of the runtimes, over a library that refuses one call
 //! for want of memory, each call in turn, and prints how many calls there are where each was made once and seen before and
 //! after, and how many of all these journals the auditor upholds. `trials` does what `watch 16` does, and simulates small programs
-//! and flows of the load, whose journals are audited too; then it makes each public call once that no program makes.
+//! and flows of the load, whose journals are audited too; then it makes each public call once that no
+//! program makes, and sequences of calls that were worked by hand.
 #![tactic(auto)]
 
 mod journals;
@@ -15,6 +16,7 @@ mod simulations;
 mod turns;
 mod watching;
 mod words;
+mod worked_calls;
 
 use flow_core::Core;
 use flow_model::Journal;
@@ -32,6 +34,7 @@ use trial_programs::{Flows, LEFT_OUT, NESTED, Watched, checked_of, journal_of, n
 use turns::drive;
 use watching::{Calls, Refusing, drain_twice};
 use words::{Words, read_words};
+use worked_calls::answer_worked;
 
 /// Drives each flow of a core to its end.
 fn drive_all(alloc: Global, core: &mut Core<Counter>) -> Result<(), Trouble> {
@@ -169,7 +172,8 @@ fn answer_to(rt: &HostRuntime, words: Words) -> Result<(), Trouble> {
         Words::Trials => {
             answer_watch(rt, 16)?;
             answer_rows(rt)?;
-            answer_calls(rt)
+            answer_calls(rt)?;
+            answer_worked(rt)
         }
     }
 }

@@ -64,26 +64,12 @@ SpellsNone words = (command : Command) → Spells words command → ⊥
 
 -- `serve`
 abbrev pub IsServe : Command → Type 0
-IsServe (check file) = ⊥
-IsServe (plan file) = ⊥
-IsServe (format file) = ⊥
-IsServe (run file items options) = ⊥
-IsServe (audit file items journal docs) = ⊥
-IsServe (load count first runtime) = ⊥
 IsServe (serve file serving) = ⊤
-IsServe help = ⊥
-IsServe (simulate file items simulating) = ⊥
-IsServe (swarm file items journal hash docs) = ⊥
+IsServe other = ⊥
 
 -- a command that needs threads: a runtime that starts some, or `serve`, which may wait for clients
 abbrev pub NeedsThreads : Command → Type 0
-NeedsThreads (check file) = ⊥
-NeedsThreads (plan file) = ⊥
-NeedsThreads (format file) = ⊥
 NeedsThreads (run file items options) = StartsThreads options.runtime
-NeedsThreads (audit file items journal docs) = ⊥
 NeedsThreads (load count first runtime) = StartsThreads runtime
 NeedsThreads (serve file serving) = ⊤
-NeedsThreads help = ⊥
-NeedsThreads (simulate file items simulating) = ⊥
-NeedsThreads (swarm file items journal hash docs) = ⊥
+NeedsThreads other = ⊥

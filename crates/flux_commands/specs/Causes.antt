@@ -58,16 +58,9 @@ lost_line name = codes "flux: missing or too long: " ++ name ++ codes "\n"
 
 -- the fault of a program's text that a command looks for: `format` looks for faults 1 to 4 alone
 abbrev pub IsStaticOf : LibraryMeaning → Command → List ℕ → StaticFault → Type 0
-IsStaticOf meaning (check file) text fault = IsTextFault meaning text fault
-IsStaticOf meaning (plan file) text fault = IsTextFault meaning text fault
 IsStaticOf meaning (format file) text fault = IsFaulty fault.kind fault.at text × (fault.path ≡ [])
-IsStaticOf meaning (run file items options) text fault = IsTextFault meaning text fault
-IsStaticOf meaning (audit file items journal docs) text fault = IsTextFault meaning text fault
-IsStaticOf meaning (load count first runtime) text fault = IsTextFault meaning text fault
-IsStaticOf meaning (serve file serving) text fault = IsTextFault meaning text fault
 IsStaticOf meaning help text fault = ⊥
-IsStaticOf meaning (simulate file items simulating) text fault = IsTextFault meaning text fault
-IsStaticOf meaning (swarm file items journal hash docs) text fault = IsTextFault meaning text fault
+IsStaticOf meaning other text fault = IsTextFault meaning text fault
 
 pub record IsStatic (meaning : LibraryMeaning) (command : Command) (told : Files) (line : List ℕ)
     : Type 0 where
@@ -89,21 +82,17 @@ pub record IsItemsText (meaning : LibraryMeaning) (told : Files) (program items 
   pub said : line ≡ item_fault_line fault
 
 abbrev pub IsItems : LibraryMeaning → Command → Files → List ℕ → Type 0
-IsItems meaning (check file) told line = ⊥
-IsItems meaning (plan file) told line = ⊥
-IsItems meaning (format file) told line = ⊥
 IsItems meaning (run file items options) told line =
     IsItemsText meaning told (named file) (named items) line
 IsItems meaning (audit file items journal docs) told line =
     IsItemsText meaning told (named file) (named items) line
 IsItems meaning (load count first runtime) told line =
     IsItemsText meaning told (made program_text) (made (items_text count first)) line
-IsItems meaning (serve file serving) told line = ⊥
-IsItems meaning help told line = ⊥
 IsItems meaning (simulate file items simulating) told line =
     IsItemsText meaning told (named file) (named items) line
 IsItems meaning (swarm file items journal hash docs) told line =
     IsItemsText meaning told (named file) (named items) line
+IsItems meaning other told line = ⊥
 
 -- ---- a file isn't there, or is past its limit
 
@@ -151,13 +140,5 @@ pub record IsMissing (meaning : LibraryMeaning) (command : Command) (told : File
 -- ---- a sound program can't be served
 
 abbrev pub IsUnserved : LibraryMeaning → Command → Files → List ℕ → Type 0
-IsUnserved meaning (check file) told line = ⊥
-IsUnserved meaning (plan file) told line = ⊥
-IsUnserved meaning (format file) told line = ⊥
-IsUnserved meaning (run file items options) told line = ⊥
-IsUnserved meaning (audit file items journal docs) told line = ⊥
-IsUnserved meaning (load count first runtime) told line = ⊥
 IsUnserved meaning (serve file serving) told line = HasUnservable meaning told (named file) × (line ≡ not_served_line)
-IsUnserved meaning help told line = ⊥
-IsUnserved meaning (simulate file items simulating) told line = ⊥
-IsUnserved meaning (swarm file items journal hash docs) told line = ⊥
+IsUnserved meaning other told line = ⊥

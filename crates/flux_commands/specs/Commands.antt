@@ -20,26 +20,15 @@ ReadsProgram (swarm file items journal hash docs) from = from ≡ named file
 
 -- the folder of documents, where one is named
 abbrev pub folder_of : Command → Option (List ℕ)
-folder_of (check file) = None
-folder_of (plan file) = None
-folder_of (format file) = None
 folder_of (run file items options) = options.docs
 folder_of (audit file items journal docs) = docs
-folder_of (load count first runtime) = None
 folder_of (serve file serving) = serving.docs
-folder_of help = None
 folder_of (simulate file items simulating) = simulating.docs
 folder_of (swarm file items journal hash docs) = docs
+folder_of other = None
 
 -- what files hold is reported, where the command reads any
 abbrev pub TellsFiles : Files → Command → Type 0
-TellsFiles told (check file) = IsSome told
-TellsFiles told (plan file) = IsSome told
-TellsFiles told (format file) = IsSome told
-TellsFiles told (run file items options) = IsSome told
-TellsFiles told (audit file items journal docs) = IsSome told
 TellsFiles told (load count first runtime) = ⊤
-TellsFiles told (serve file serving) = IsSome told
 TellsFiles told help = ⊤
-TellsFiles told (simulate file items simulating) = IsSome told
-TellsFiles told (swarm file items journal hash docs) = IsSome told
+TellsFiles told other = IsSome told

@@ -1,6 +1,6 @@
 -- All examples: those that fit a definition, and those that it refuses.
 use Rattle.flux_examples.specs.Walks.{HandlerFollowsDrops, FirstCaseIsTaken, HandlersGoByCode, StopsBeforeCall, FailuresPassOutward}
-use Rattle.flux_examples.specs.Held.{ReadersShare, CellsFollowPuts, KeysGoBySession, TakesAreKeptApart, SectionsAreKeptApart, TakesMayFollow}
+use Rattle.flux_examples.specs.Held.{ReadersShare, CellsFollowPuts, KeysGoBySession, TakesAreKeptApart, SectionsAreKeptApart, OverlapsAreKeptApart, TakesMayFollow, SectionsMayFollow}
 use Rattle.flux_examples.specs.Waiting.{MayWaitWhereHeld, WaitsForItsOwnTake, WaitsOnlyWhereBlocked, WaitsOnce, IsNotPassedBy, CyclesAreFound}
 use Rattle.flux_examples.specs.Orders.{OneFlowGoesRound, RoundBeginsWithTheFirst, TurnsLast, ListedComeFirst, LowestComesFirst}
 use Rattle.flux_examples.specs.Idle.{OthersAreBlocked, HolderCanGoOn}
@@ -20,6 +20,7 @@ pub record Examples : Type 0 where
   pub cells_follow_puts : CellsFollowPuts
   pub keys_go_by_session : KeysGoBySession
   pub takes_may_follow : TakesMayFollow
+  pub sections_may_follow : SectionsMayFollow
   pub may_wait : MayWaitWhereHeld
   pub failed_is_whole : FailedIsWhole
   pub goes_round : OneFlowGoesRound
@@ -34,6 +35,7 @@ pub record Examples : Type 0 where
 pub record Refused : Type 0 where
   pub takes : TakesAreKeptApart
   pub sections : SectionsAreKeptApart
+  pub overlaps : OverlapsAreKeptApart
   pub own_take : WaitsForItsOwnTake
   pub blocked : WaitsOnlyWhereBlocked
   pub once : WaitsOnce

@@ -6,7 +6,8 @@ use Rattle.flux_values.specs.declared.answers.CallResult.TheVariants as results
 use Rattle.flux_values.specs.declared.values.Value.{Value}
 use Rattle.flux_values.specs.Cells.{CellMap}
 use Rattle.flow_model.specs.declared.journals.Event.{Event}
-use Rattle.flow_model.specs.declared.journals.Event.TheVariants.{Take, Enter, Call, Drop}
+use Rattle.flow_model.specs.declared.journals.Event.TheVariants.{Take, Enter, Call, Exit, Drop}
+use Rattle.flow_model.specs.declared.journals.Outcome.TheVariants.{Good}
 use Rattle.flow_model.specs.Setup.{Setup}
 use Rattle.flow_model.specs.Keys.{class_key}
 use Rattle.flow_model.specs.CellsAfter.{cells_after}
@@ -64,6 +65,16 @@ TakesAreKeptApart = TakesExclude (by 0 (Take k Writer) ∷ by 1 (Take k Reader) 
 abbrev pub SectionsAreKeptApart : Type 0
 SectionsAreKeptApart = SectionsExclude both_write (by 0 (Enter (no 0)) ∷ by 1 (Enter (no 1)) ∷ []) → ⊥
 
--- one after the other they are let through
+-- nor where both have left in the end
+abbrev pub OverlapsAreKeptApart : Type 0
+OverlapsAreKeptApart = SectionsExclude both_write (by 0 (Enter (no 0)) ∷ by 1 (Enter (no 1))
+    ∷ by 0 (Exit (no 0) Good) ∷ by 1 (Exit (no 1) Good) ∷ []) → ⊥
+
+-- two writers' sections, the second of which begins after the first has ended, are let through
+abbrev pub SectionsMayFollow : Type 0
+SectionsMayFollow = SectionsExclude both_write (by 0 (Enter (no 0)) ∷ by 0 (Exit (no 0) Good)
+    ∷ by 1 (Enter (no 1)) ∷ by 1 (Exit (no 1) Good) ∷ [])
+
+-- one take after the other's drop is let through
 abbrev pub TakesMayFollow : Type 0
 TakesMayFollow = TakesExclude (by 0 (Take k Writer) ∷ by 0 (Drop k) ∷ by 1 (Take k Reader) ∷ [])

@@ -5,6 +5,9 @@ ghost use Rattle.std.specs.Prelude.{◌≡◌, ◌≢◌, [], drop, map, string_
 ghost use Rattle.std.specs.IoError.{error_kind};
 ghost use Rattle.std.specs.Process.{exit_status};
 ghost use Rattle.flux_commands.specs.Statuses.{code_of};
+ghost use Rattle.flux_commands.specs.BuiltIn.{built_in};
+ghost use Rattle.flux_driver.specs.Seen.{seen_by, door_by, link_by};
+ghost use Rattle.flux_driver.specs.Top.{HasDone};
 
 use flux_doors::{Door, RealDoor};
 use flux_driver::{OpenGate, Status, World, answer};
@@ -78,7 +81,7 @@ fn exit_code(status: Status) -> ExitCode
     ExitCode::from(status.code())
 }
 
-/// Does what the words say in a world, whatever it is made of.
+/// Does what the words say in a world, whatever it is made of, and gives the exit code of the status that this ended with.
 fn answer_in<S: Store, F: Folder, O: Sink, E: Sink, D: Door, Rt: Threads + Wait + Sync>(
     rt: &Rt,
     alloc: Global,
@@ -86,6 +89,14 @@ fn answer_in<S: Store, F: Folder, O: Sink, E: Sink, D: Door, Rt: Threads + Wait 
     world: &mut Result<World<S, F, O, E, D>, Memory>,
 ) -> ExitCode
     requires { IfOk world.old (λ before. D.out before.door ≡ 0) }
+    ensures words { IsErr words → exit_status result ≡ code_of Status.Memory }
+    ensures world { IsErr world.old → exit_status result ≡ code_of Status.Memory }
+    ensures done { let seen = seen_by S.files S.asked S.faults F.folders F.asked F.faults O.written O.faults
+        E.written E.faults (door_by (link_by D.Link.had D.Link.left D.Link.written D.Link.faults)
+        D.to_come D.taken_back D.open_at D.faults D.late) in
+        IfOk words (λ given. IfOk world.old (λ before. IfOk world.new (λ after.
+        (status : Status) × (exit_status result ≡ code_of status)
+        × HasDone built_in given (seen before) status (seen after)))) }
 {
     exit_code(answer(rt, alloc, words, world, &OpenGate))
 }

@@ -1,6 +1,6 @@
 use Rattle.std.proofs.Common.{ap}
 use Rattle.flow_model.specs.declared.journals.Key.{Key}
-use Rattle.flux_examples.proofs.Held.{takes_apart, sections_apart}
+use Rattle.flux_examples.proofs.Held.{takes_apart, sections_apart, overlaps_apart}
 use Rattle.flux_examples.proofs.Waiting.{own_take, only_blocked, once, not_passed, cycle_found}
 use Rattle.flux_examples.proofs.Legality.{answers_refused, begun_not_whole}
 use Rattle.flux_examples.proofs.Orders.{first_begins, turns_last, listed_first, lowest_first}
@@ -12,6 +12,7 @@ pub returns : goal.returns
 returns c = record {
   takes = takes_apart;
   sections = sections_apart;
+  overlaps = overlaps_apart;
   own_take = own_take;
   blocked = only_blocked;
   once = once;

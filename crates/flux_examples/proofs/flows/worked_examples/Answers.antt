@@ -1,5 +1,5 @@
 use Rattle.std.proofs.Common.{refl}
-use Rattle.flux_examples.proofs.Held.{may_follow, keys_differ}
+use Rattle.flux_examples.proofs.Held.{may_follow, sections_follow, keys_differ}
 use Rattle.flux_examples.proofs.Waiting.{may_wait}
 use Rattle.flux_examples.proofs.Legality.{failed_whole}
 use Rattle.flux_examples.proofs.Rounds.{goes_round}
@@ -19,6 +19,7 @@ returns c = record {
   failures_pass_outward = refl;
   keys_go_by_session = ((λ same. keys_differ same), refl);
   takes_may_follow = may_follow;
+  sections_may_follow = sections_follow;
   may_wait = may_wait;
   failed_is_whole = failed_whole;
   goes_round = goes_round;
