@@ -26,8 +26,7 @@ use Rattle.flux_laws.specs.Hoisted.{locks_of}
 use Rattle.flux_model.specs.declared.programs.SourceLine.{SourceLine}
 use Rattle.flux_model.specs.Sizes.{source_size}
 use Rattle.flux_cli.specs.declared.values.Runtime.{Runtime}
-use Rattle.nodes_all.specs.declared.all.All.{All}
-use Rattle.flux_commands.specs.BuiltIn.{meaning_in}
+use Rattle.flux_commands.specs.BuiltIn.{BuiltInLibrary, meaning_in}
 use Rattle.flux_commands.specs.declared.running.Wanted.{Wanted}
 use Rattle.flux_runs.specs.Setups.{setup_of}
 use Rattle.flux_runs.specs.Opening.{CanRun, AreSmall}
@@ -110,7 +109,7 @@ pub cause_refused : {X : Type 0} (rules : ItemRules) (text : List ℕ) (fault : 
 cause_refused rules text fault result is cause = passed (AreRefused rules text) (of_items fault) result is (of_items_refused rules text fault cause)
 
 -- the cells at the end of a core that was driven
-pub cells_driven : (runtime : Runtime) (old new : CoreState All) (journal : Journal) (cells : Cells) → DrivesTo meaning_in runtime old new → journal.entries ≡ new.entries
+pub cells_driven : (runtime : Runtime) (old new : CoreState BuiltInLibrary) (journal : Journal) (cells : Cells) → DrivesTo meaning_in runtime old new → journal.entries ≡ new.entries
     → cells ≡ cells_after (setup_in meaning_in new) new.entries → cells ≡ cells_after (setup_in meaning_in old) journal.entries
 cells_driven runtime old new journal cells to is closing =
     subst (λ (s : Setup). cells ≡ cells_after s journal.entries) (ap (setup_by meaning_in) to.setup_)

@@ -6,11 +6,10 @@ use Rattle.flow_model.specs.Legal.{IsLegal, IsWhole}
 use Rattle.flow_model.specs.Setup.{Setup}
 use Rattle.flux_cli.specs.declared.values.Runtime.{Runtime}
 use Rattle.flux_runs.specs.Orders.{IsOrderOf}
-use Rattle.nodes_all.specs.declared.all.All.{All}
 use Rattle.flow_core.specs.States.{CoreState, setup_in}
 use Rattle.flow_core.specs.Runs.{SameSetup}
 use Rattle.flux_values.specs.declared.failures.Memory.{Memory}
-use Rattle.flux_commands.specs.BuiltIn.{meaning_in}
+use Rattle.flux_commands.specs.BuiltIn.{BuiltInLibrary, meaning_in}
 
 -- a core was driven to its end by a runtime, from an empty journal
 pub record IsDriven (setup : Setup) (runtime : Runtime) (entries : List Entry) : Type 0 where
@@ -25,8 +24,8 @@ pub record DrivesTo {L : Type 0} (meaning : L → LibraryMeaning) (runtime : Run
   pub driven : IsDriven (setup_in meaning old) runtime new.entries
 
 -- cores without entries may be handed to a call that drives them, with a pre and a post of its own
-pub record CanDrive (pre : CoreState All → Runtime → Type 0)
-    (post : CoreState All → Runtime → Result (CoreState All) Memory → Type 0) : Type 0 where
-  pub may : (core : CoreState All) (runtime : Runtime) → core.entries ≡ [] → pre core runtime
-  pub drives : (core : CoreState All) (runtime : Runtime) (result : Result (CoreState All) Memory)
+pub record CanDrive (pre : CoreState BuiltInLibrary → Runtime → Type 0)
+    (post : CoreState BuiltInLibrary → Runtime → Result (CoreState BuiltInLibrary) Memory → Type 0) : Type 0 where
+  pub may : (core : CoreState BuiltInLibrary) (runtime : Runtime) → core.entries ≡ [] → pre core runtime
+  pub drives : (core : CoreState BuiltInLibrary) (runtime : Runtime) (result : Result (CoreState BuiltInLibrary) Memory)
       → core.entries ≡ [] → post core runtime result → IfOk result (DrivesTo meaning_in runtime core)

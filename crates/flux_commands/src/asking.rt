@@ -14,6 +14,7 @@ ghost use Rattle.flux_commands.specs.Prepared.{PreparesAll, PreparesWords, prepa
 ghost use Rattle.flux_commands.specs.Counts.{CountsBoth};
 ghost use Rattle.flux_commands.specs.Due.{AnswersDue, AnswersWords};
 
+use crate::built_in::BuiltIn;
 use crate::commands::prepare;
 use crate::documents::{load_docs, share};
 use crate::prepared::Prepared;
@@ -23,7 +24,6 @@ use flow_core::Core;
 use flux_cli::{Asked, Runtime, read_words};
 use flux_outside::{Folder, Store};
 use flux_values::{Bytes, Memory};
-use nodes_all::All;
 use std::alloc::Global;
 
 /// The folder of documents, where one is named.
@@ -45,7 +45,7 @@ fn prepare_asked<
     'a,
     S: Store,
     F: Folder,
-    D: Fn(Core<All>, Runtime) -> Result<Core<All>, Memory>,
+    D: Fn(Core<BuiltIn>, Runtime) -> Result<Core<BuiltIn>, Memory>,
     M: Simulator,
 >(
     alloc: Global,
@@ -85,7 +85,7 @@ pub fn prepare_words<
     'a,
     S: Store,
     F: Folder,
-    D: Fn(Core<All>, Runtime) -> Result<Core<All>, Memory>,
+    D: Fn(Core<BuiltIn>, Runtime) -> Result<Core<BuiltIn>, Memory>,
     M: Simulator,
 >(
     alloc: Global,

@@ -14,6 +14,7 @@ ghost use Rattle.flux_commands.specs.steps.Preparing.{run_of, simulate_of, AsksF
 ghost use Rattle.flux_commands.specs.Prepared.{prepared_status};
 
 use crate::audited::{audit_text, swarm_text};
+use crate::built_in::BuiltIn;
 use crate::files::{JOURNAL_FILE_LIMIT, PROGRAM_FILE_LIMIT, load};
 use crate::loaded::{Loaded, load_files, load_program, load_texts};
 use crate::prepared::Prepared;
@@ -30,7 +31,6 @@ use flux_outside::Store;
 use flux_runs::Printing;
 use flux_syntax::format;
 use flux_values::{Bytes, Memory};
-use nodes_all::All;
 use std::alloc::Global;
 use std::sync::Arc;
 
@@ -109,9 +109,9 @@ fn prepare_format<'a, S: Store>(
 }
 
 /// The journal that `run` prints.
-fn prepare_run<'a, S: Store, D: Fn(Core<All>, Runtime) -> Result<Core<All>, Memory>>(
+fn prepare_run<'a, S: Store, D: Fn(Core<BuiltIn>, Runtime) -> Result<Core<BuiltIn>, Memory>>(
     alloc: Global,
-    library: Arc<All>,
+    library: Arc<BuiltIn>,
     store: &mut S,
     driver: &D,
     file: &'a [u8],
@@ -171,9 +171,9 @@ fn prepare_audit<'a, L: Library, S: Store>(
 }
 
 /// The summary that `load` prints.
-fn prepare_load<'a, D: Fn(Core<All>, Runtime) -> Result<Core<All>, Memory>>(
+fn prepare_load<'a, D: Fn(Core<BuiltIn>, Runtime) -> Result<Core<BuiltIn>, Memory>>(
     alloc: Global,
-    library: Arc<All>,
+    library: Arc<BuiltIn>,
     driver: &D,
     count: u32,
     first: u32,
@@ -271,9 +271,14 @@ fn prepare_help(alloc: Global) -> Result<Bytes, Memory>
 }
 
 /// What a command prints, with a library.
-pub fn prepare<'a, S: Store, D: Fn(Core<All>, Runtime) -> Result<Core<All>, Memory>, M: Simulator>(
+pub fn prepare<
+    'a,
+    S: Store,
+    D: Fn(Core<BuiltIn>, Runtime) -> Result<Core<BuiltIn>, Memory>,
+    M: Simulator,
+>(
     alloc: Global,
-    library: Arc<All>,
+    library: Arc<BuiltIn>,
     store: &mut S,
     driver: &D,
     simulator: &M,

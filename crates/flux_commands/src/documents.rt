@@ -4,16 +4,20 @@ ghost use Rattle.std.specs.Prelude.{◌≡◌, ◌≤◌, ◌++◌, IfOk, IfErr,
 ghost use Rattle.std.specs.Arc.{arc_value};
 ghost use Rattle.flux_outside.specs.Stores.{AskedFor};
 ghost use Rattle.flux_docs.specs.Folders.{GivesDocs};
+ghost use Rattle.flux_commands.specs.BuiltIn.{docs_in};
 ghost use Rattle.flux_commands.specs.Documents.{AreDocs};
 ghost use Rattle.flux_commands.specs.steps.Refusals.{Counts};
 ghost use Rattle.flux_commands.specs.steps.Documents.{IsUnreadFolder, AreUnread};
 
+use crate::built_in::BuiltIn;
 use crate::refusals::Refusal;
 use flux_docs::{DocsFault, read_docs};
 use flux_library::Docs;
 use flux_outside::Folder;
 use flux_values::Memory;
 use nodes_all::All;
+use nodes_joined::Joined;
+use nodes_own::Own;
 use std::alloc::Global;
 use std::sync::Arc;
 
@@ -56,8 +60,9 @@ pub fn load_docs<'a, F: Folder>(
 }
 
 /// The library of these documents.
-pub fn share(alloc: Global, docs: Docs) -> Result<Arc<All>, Memory>
-    ensures { IfOk result (λ library. let all = arc_value library in all.docs ≡ docs) }
+pub fn share(alloc: Global, docs: Docs) -> Result<Arc<BuiltIn>, Memory>
+    ensures { IfOk result (λ library. docs_in (arc_value library) ≡ docs) }
 {
-    Ok(Arc::new(alloc, All { docs })?)
+    let first = All { docs };
+    Ok(Arc::new(alloc, Joined { first, second: Own })?)
 }

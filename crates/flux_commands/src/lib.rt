@@ -9,6 +9,7 @@
 
 mod asking;
 mod audited;
+mod built_in;
 mod commands;
 mod documents;
 mod files;
@@ -23,6 +24,7 @@ mod statuses;
 mod texts;
 
 pub use asking::prepare_words;
+pub use built_in::BuiltIn;
 pub use prepared::Prepared;
 pub use refusals::Refusal;
 pub use services::{Ready, Service, ready_words};

@@ -10,6 +10,7 @@ ghost use Rattle.flux_commands.specs.BuiltIn.{meaning_in};
 ghost use Rattle.flux_commands.specs.Driving.{IsDriven, CanDrive};
 ghost use Rattle.flux_commands.specs.steps.Running.{IsRun};
 
+use crate::built_in::BuiltIn;
 use flow_core::Core;
 use flow_model::Journal;
 use flux_cells::Cells;
@@ -19,7 +20,6 @@ use flux_journal::Pages;
 use flux_model::Item;
 use flux_runs::{Printing, open, print};
 use flux_values::{List, Memory};
-use nodes_all::All;
 use std::alloc::Global;
 use std::sync::Arc;
 
@@ -31,8 +31,8 @@ pub struct Wanted {
 }
 
 /// The journal of a core that is driven to its end, and its cells then.
-fn drive<D: Fn(Core<All>, Runtime) -> Result<Core<All>, Memory>>(
-    core: Core<All>,
+fn drive<D: Fn(Core<BuiltIn>, Runtime) -> Result<Core<BuiltIn>, Memory>>(
+    core: Core<BuiltIn>,
     runtime: Runtime,
     driver: &D,
 ) -> Result<(Journal, Cells), Memory>
@@ -49,9 +49,9 @@ fn drive<D: Fn(Core<All>, Runtime) -> Result<Core<All>, Memory>>(
 }
 
 /// What is printed of the run of items.
-pub fn run_items<D: Fn(Core<All>, Runtime) -> Result<Core<All>, Memory>>(
+pub fn run_items<D: Fn(Core<BuiltIn>, Runtime) -> Result<Core<BuiltIn>, Memory>>(
     alloc: Global,
-    library: Arc<All>,
+    library: Arc<BuiltIn>,
     checked: Checked,
     items: List<Item>,
     wanted: Wanted,

@@ -5,7 +5,7 @@ ghost use Rattle.std.specs.Arc.{arc_value};
 ghost use Rattle.flux_cli.specs.Commands.{Command, Spells, IsServe};
 ghost use Rattle.flux_cli.specs.Asking.{asked};
 ghost use Rattle.flux_commands.specs.declared.refusals.Refusal.TheVariants as refusals;
-ghost use Rattle.flux_commands.specs.BuiltIn.{built_in};
+ghost use Rattle.flux_commands.specs.BuiltIn.{built_in, docs_in};
 ghost use Rattle.flux_commands.specs.Commands.{folder_of};
 ghost use Rattle.flux_commands.specs.Origins.{named};
 ghost use Rattle.flux_commands.specs.Documents.{AreDocs};
@@ -19,6 +19,7 @@ ghost use Rattle.flux_commands.specs.Due.{AnswersDue, AnswersWords};
 ghost use Rattle.flux_commands.specs.Prepared.{prepared_status};
 ghost use Rattle.flux_commands.specs.Ready.{command_of, as_text, IsReady};
 
+use crate::built_in::BuiltIn;
 use crate::documents::{load_docs, share};
 use crate::loaded::load_program;
 use crate::refusals::Refusal;
@@ -29,7 +30,6 @@ use flux_library::Library;
 use flux_outside::{Folder, Store};
 use flux_sources::framing_of;
 use flux_values::Bytes;
-use nodes_all::All;
 use std::alloc::Global;
 use std::sync::Arc;
 
@@ -126,7 +126,7 @@ fn make_ready<'a, S: Store, F: Folder>(
     store: &mut S,
     folder: &mut F,
     service: &Service<'a>,
-) -> Result<Ready<All>, Refusal<'a>>
+) -> Result<Ready<BuiltIn>, Refusal<'a>>
     ensures kept { S.files store.new ≡ S.files store.old }
     ensures kept_folders { F.folders folder.new ≡ F.folders folder.old }
     ensures later { S.faults store.old ≤ S.faults store.new }
@@ -135,10 +135,10 @@ fn make_ready<'a, S: Store, F: Folder>(
         (record { files = S.files store.old; folders = F.folders folder.old })
         (prepared_status (as_text result)) (F.asked folder.old) (F.asked folder.new)
         (S.asked store.old) (S.asked store.new) }
-    ensures docs { IfOk result (λ ready. let all = arc_value ready.library in
-        AreDocs (F.folders folder.old) (folder_of (command_of service.now)) all.docs) }
-    ensures ready { IfOk result (λ ready. let all = arc_value ready.library in
-        IsReady (built_in all.docs) (S.files store.old) (named service.now.file.now) ready.checked ready.framing) }
+    ensures docs { IfOk result (λ ready. AreDocs (F.folders folder.old)
+        (folder_of (command_of service.now)) (docs_in (arc_value ready.library))) }
+    ensures ready { IfOk result (λ ready. IsReady (built_in (docs_in (arc_value ready.library)))
+        (S.files store.old) (named service.now.file.now) ready.checked ready.framing) }
     ensures refused { IfErr result (IsRefusedAll built_in (command_of service.now)
         (record { files = S.files store.old; folders = F.folders folder.old })) }
     ensures counts { CountsBoth (as_text result) (S.faults store.old) (S.faults store.new)
@@ -158,7 +158,7 @@ pub fn ready_words<'a, S: Store, F: Folder>(
     store: &mut S,
     folder: &mut F,
     words: &'a [Bytes],
-) -> Result<(Service<'a>, Ready<All>), Refusal<'a>>
+) -> Result<(Service<'a>, Ready<BuiltIn>), Refusal<'a>>
     requires { (command : Command) × Spells words.now command × IsServe command }
     ensures kept { S.files store.new ≡ S.files store.old }
     ensures kept_folders { F.folders folder.new ≡ F.folders folder.old }
@@ -169,10 +169,10 @@ pub fn ready_words<'a, S: Store, F: Folder>(
         (prepared_status (as_text result)) (F.asked folder.old) (F.asked folder.new)
         (S.asked store.old) (S.asked store.new) }
     ensures spelled { IfOk result (λ found. Spells words.now (command_of found.0)) }
-    ensures docs { IfOk result (λ found. let all = arc_value found.1.library in
-        AreDocs (F.folders folder.old) (folder_of (command_of found.0)) all.docs) }
-    ensures ready { IfOk result (λ found. let all = arc_value found.1.library in
-        IsReady (built_in all.docs) (S.files store.old) (named found.0.file.now) found.1.checked found.1.framing) }
+    ensures docs { IfOk result (λ found. AreDocs (F.folders folder.old)
+        (folder_of (command_of found.0)) (docs_in (arc_value found.1.library))) }
+    ensures ready { IfOk result (λ found. IsReady (built_in (docs_in (arc_value found.1.library)))
+        (S.files store.old) (named found.0.file.now) found.1.checked found.1.framing) }
     ensures refused { IfErr result (λ refusal. IsAnswer built_in words.now
         (record { files = S.files store.old; folders = F.folders folder.old })
         (status_of refusal) [] (line_of refusal)) }

@@ -12,11 +12,10 @@ use crate::serving::serve_ready;
 use crate::telling::{print, refuse, tell_end};
 use flow_core::{Core, Gate};
 use flux_cli::{Runtime, needs_threads, spells_serve};
-use flux_commands::{Status, prepare_words, ready_words};
+use flux_commands::{BuiltIn, Status, prepare_words, ready_words};
 use flux_doors::{Door, Link};
 use flux_outside::{Folder, Sink, Store};
 use flux_values::{Bytes, List, Memory};
-use nodes_all::All;
 use std::alloc::Global;
 use std::marker::Sync;
 use std::sync::Wait;
@@ -40,7 +39,7 @@ fn act<
     O: Sink,
     E: Sink,
     D: Door,
-    R: Fn(Core<All>, Runtime) -> Result<Core<All>, Memory>,
+    R: Fn(Core<BuiltIn>, Runtime) -> Result<Core<BuiltIn>, Memory>,
 >(alloc: Global, words: &[Bytes], world: &mut World<S, F, O, E, D>, driver: &R) -> Status
     requires driver { CanDrive (R.pre driver.now) (R.post driver.now) }
     requires printed { (command : Command) → Spells words.now command → IsServe command → ⊥ }
@@ -83,7 +82,7 @@ pub fn top_alone<S: Store, F: Folder, O: Sink, E: Sink, D: Door, G: Gate>(
         alloc,
         words,
         world,
-        &|core: Core<All>, runtime: Runtime|
+        &|core: Core<BuiltIn>, runtime: Runtime|
             requires { core.entries ≡ [] }
             ensures { IfOk result (DrivesTo meaning_in runtime core) }
         { drive_alone(core, runtime, gate) },
@@ -164,7 +163,7 @@ pub fn top<
         alloc,
         words,
         world,
-        &|core: Core<All>, runtime: Runtime|
+        &|core: Core<BuiltIn>, runtime: Runtime|
             requires { core.entries ≡ [] }
             ensures { IfOk result (DrivesTo meaning_in runtime core) }
         { drive_by_threads(rt, core, runtime, gate) },

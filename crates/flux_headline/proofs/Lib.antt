@@ -13,3 +13,4 @@ mod LoadSound
 mod LoadLines
 mod LoadItems
 mod LoadsDone
+mod Groups

@@ -3,7 +3,9 @@ use Rattle.std.proofs.Common.{◌≡◌, ◌<◌, ◌≤◌, ◌⊎◌, inl, inr
 use Rattle.std.specs.List.{list_any}
 use Rattle.std.proofs.lemmas.Bool.{or_left, eq-eqb}
 use Rattle.flux_library.specs.Documents.{DocMap}
+use Rattle.nodes_joined.specs.Joined.{joined}
 use Rattle.nodes_all.specs.Alls.{all_meaning}
+use Rattle.nodes_own.specs.Own.{own_meaning}
 use Rattle.flux_model.specs.declared.programs.NodeNo.{NodeNo}
 use Rattle.flux_model.specs.declared.programs.TheConstants.{COUNT_LIMIT}
 use Rattle.flux_model.specs.Children.{IsIn}
@@ -20,6 +22,7 @@ use Rattle.flux_laws.specs.Hoisted.{locks_of}
 use Rattle.flux_laws.proofs.Locks.{locks_are_there}
 use Rattle.flux_check.specs.Rows.{later_rows, size_rows}
 use Rattle.flux_check.specs.Judgement.{AreSound}
+use Rattle.flux_commands.specs.BuiltIn.{built_in}
 use Rattle.flux_headline.specs.LoadDeclarations.{program_decls}
 
 -- ---- an order of the nodes: `Load` and `Visit` are last
@@ -121,22 +124,22 @@ abbrev pub load_locks : Holds
 load_locks = locks_of (program_of program_decls)
 
 module _ (docs : DocMap) where
-  pub no_names_row : first_fault (rows (all_meaning docs) program_decls) ≡ None
-  unfolding all_meaning
+  pub no_names_row : first_fault (rows (built_in docs) program_decls) ≡ None
+  unfolding joined all_meaning own_meaning
   no_names_row = refl
 
-  pub no_later_row : first_fault (later_rows (all_meaning docs) program_decls) ≡ None
-  unfolding all_meaning
+  pub no_later_row : first_fault (later_rows (built_in docs) program_decls) ≡ None
+  unfolding joined all_meaning own_meaning
   no_later_row = refl
 
   pub no_size_row : first_fault (size_rows load_locks program_decls) ≡ None
   no_size_row = refl
 
   pub are_locks : AreLocks (program_of program_decls) load_locks
-  are_locks = let program_numbered = numbered (all_meaning docs) program_decls few_words no_names_row in
+  are_locks = let program_numbered = numbered (built_in docs) program_decls few_words no_names_row in
       locks_are_there (program_of program_decls) program_numbered acyclic
 
-  abbrev pub program_sound : AreSound (all_meaning docs) program_decls
+  abbrev pub program_sound : AreSound (built_in docs) program_decls
   program_sound = record {
     joined = record { ordered = record { named = no_names_row; acyclic = acyclic }; later = no_later_row };
     locks = load_locks;

@@ -4,7 +4,9 @@ use Rattle.std.specs.FinMap as fin
 use Rattle.std.specs.Cmp.Lexicographic.{slice_cmp}
 use Rattle.std.specs.Ordering.{nat_cmp}
 use Rattle.flux_library.specs.Documents.{DocMap}
+use Rattle.nodes_joined.specs.Joined.{joined}
 use Rattle.nodes_all.specs.Alls.{all_meaning}
+use Rattle.nodes_own.specs.Own.{own_meaning}
 use Rattle.flux_outside.specs.Causes.{Rose}
 use Rattle.flux_items.specs.declared.rules.ItemFault.{ItemFault}
 use Rattle.flux_items.specs.declared.rules.ItemRules.{ItemRules}
@@ -39,7 +41,7 @@ use Rattle.flux_headline.proofs.LoadItems.{load_rules, faultless}
 
 -- the items are read by the rules of the one source
 same_rules : (docs : DocMap) → load_rules ≡ rules_in (built_in docs) program_decls (program_sound docs)
-unfolding all_meaning
+unfolding joined all_meaning own_meaning
 same_rules docs = refl
 
 abbrev no_docs : DocMap

@@ -3,6 +3,7 @@ pub mod Audits
 pub mod Loads
 pub mod Simulations
 pub mod Swarms
+pub mod Groups
 pub mod Prints
 pub mod ServedHeadline
 pub mod Explained

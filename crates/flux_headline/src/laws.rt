@@ -5,11 +5,12 @@ ghost use Rattle.flux_headline.specs.Audits.{YesIsTrue, NoIsTrue, AuditsAreAnswe
 ghost use Rattle.flux_headline.specs.Loads.{LoadsAreTrue, LoadsAreAnswered};
 ghost use Rattle.flux_headline.specs.Simulations.{SimulationsAreTrue, SimulationsAreAnswered};
 ghost use Rattle.flux_headline.specs.Swarms.{SwarmsAreTrue, SwarmsAreRefuted, SwarmsAreAnswered, TrackersNodesAreBuiltIn};
+ghost use Rattle.flux_headline.specs.Groups.{CounterIsBuiltIn, WebIsBuiltIn, CachingIsBuiltIn, TrackerIsBuiltIn};
 ghost use Rattle.flux_headline.specs.Prints.{PrintsAreTrue, LooksAreAnswered};
 ghost use Rattle.flux_headline.specs.ServedHeadline.{ServingIsTrue, ServingIsAnswered};
 ghost use Rattle.flux_headline.specs.Explained.{StatusesHaveCauses, CausesAreAnswered, NoCommandIsUsage, UsageIsForNoCommand};
 
-use nodes_all::has_tracker;
+use nodes_all::{has_caching, has_counter, has_tracker, has_web};
 
 /// Where the words spell `run` and `top` has answered 0, it has printed the journal of a true run of the items of the
 /// one file through the program of the other.
@@ -67,11 +68,24 @@ pub fn swarms_are_true()
     ensures no { SwarmsAreRefuted }
 {}
 
+/// The library that the program is built with has all that each group of nodes has, and means the same by it.
+pub fn groups_are_built_in()
+    ensures counter { CounterIsBuiltIn }
+    ensures web { WebIsBuiltIn }
+    ensures caching { CachingIsBuiltIn }
+    ensures tracker { TrackerIsBuiltIn }
+{
+    has_counter();
+    has_web();
+    has_caching();
+    has_tracker();
+}
+
 /// The library that the program is built with has the nodes of `Tracker`, and means the same by them.
 pub fn trackers_nodes_are_built_in()
     ensures { TrackersNodesAreBuiltIn }
 {
-    has_tracker();
+    groups_are_built_in();
 }
 
 /// Where a sound program, items of it and a journal's file are there, and no reading or writing fails, `swarm` answers 0

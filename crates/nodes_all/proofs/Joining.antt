@@ -1,6 +1,5 @@
--- A library that is joined of others has what each of them has.
-use Rattle.std.proofs.Common.{◌≡◌, ℕ, if◌then◌else◌, Bool, true, false, List, Option, Some, None, IfSome, is_some, codes, refl, sym, ap, subst}
-use Rattle.std.specs.Option.{option_or}
+-- The library `All` has what each of the libraries has that it is joined of.
+use Rattle.std.proofs.Common.{◌≡◌, ℕ, Bool, true, false, List, codes, refl, sym, subst}
 use Rattle.std.specs.Str.{bytes_eq}
 use Rattle.std.proofs.lemmas.Slice.Eq.{bytes_eq-Decides}
 use Rattle.flux_values.specs.Meanings.{LibraryMeaning}
@@ -10,84 +9,9 @@ use Rattle.nodes_counter.specs.Counters.{counter_meaning}
 use Rattle.nodes_web.specs.Webs.{web_meaning}
 use Rattle.nodes_cache.specs.Cachings.{caching_meaning}
 use Rattle.nodes_tracker.specs.Trackers.{tracker_meaning}
-use Rattle.nodes_all.specs.Joined.{joined, Has}
+use Rattle.nodes_joined.specs.Joined.{joined}
+use Rattle.nodes_joined.proofs.Joining.{AgreeOn, Agree, agree_kind, has_first, has_behind, has_itself}
 use Rattle.nodes_all.specs.Alls.{all_meaning, HasCounter, HasWeb, HasCaching, HasTracker}
-
--- ---- joined libraries
-
--- where the first has a name too, it means the same there
-abbrev AgreeOn : {A B : Type 0} → Option A → Option A → B → B → Type 0
-AgreeOn a c f h = IfSome c (λ x. IfSome a (λ y. (y ≡ x) × (f ≡ h)))
-
-record Agree (first : LibraryMeaning) (part : LibraryMeaning) : Type 0 where
-  kinds : (ty : List ℕ) → IfSome (part.kind ty) (λ x. IfSome (first.kind ty) (λ y. y ≡ x))
-  nodes : (name : List ℕ) → AgreeOn (first.node name) (part.node name) (first.call name) (part.call name)
-  predicates : (name : List ℕ)
-      → AgreeOn (first.predicate name) (part.predicate name) (first.test name) (part.test name)
-  sessions : (name : List ℕ) → AgreeOn (first.session name) (part.session name) (first.id name) (part.id name)
-
-kept : {A B : Type 0} (a b c : Option A) (f g h : B) → IfSome c (λ x. (b ≡ Some x) × (g ≡ h)) → AgreeOn a c f h
-    → IfSome c (λ x. (option_or a b ≡ Some x) × ((if is_some a then f else g) ≡ h))
-kept a b None f g h has agree = tt
-kept (Some y) b (Some x) f g h has agree = (ap Some agree.0, agree.1)
-kept None b (Some x) f g h has agree = has
-
-kept_kind : {A : Type 0} (a b c : Option A) → IfSome c (λ x. b ≡ Some x) → IfSome c (λ x. IfSome a (λ y. y ≡ x))
-    → IfSome c (λ x. option_or a b ≡ Some x)
-kept_kind a b None has agree = tt
-kept_kind (Some y) b (Some x) has agree = ap Some agree
-kept_kind None b (Some x) has agree = has
-
--- what the second has is in both as one, where the first agrees
-has_behind : (first second part : LibraryMeaning) → Has second part → Agree first part → Has (joined first second) part
-has_behind first second part has agree = record {
-  kinds = λ ty. kept_kind (first.kind ty) (second.kind ty) (part.kind ty) (has.kinds ty) (agree.kinds ty);
-  nodes = λ name. kept (first.node name) (second.node name) (part.node name) (first.call name)
-      (second.call name) (part.call name) (has.nodes name) (agree.nodes name);
-  predicates = λ name. kept (first.predicate name) (second.predicate name) (part.predicate name)
-      (first.test name) (second.test name) (part.test name) (has.predicates name) (agree.predicates name);
-  sessions = λ name. kept (first.session name) (second.session name) (part.session name) (first.id name)
-      (second.id name) (part.id name) (has.sessions name) (agree.sessions name);
-}
-
-first_kept : {A B : Type 0} (a b : Option A) (f g : B)
-    → IfSome a (λ x. (option_or a b ≡ Some x) × ((if is_some a then f else g) ≡ f))
-first_kept None b f g = tt
-first_kept (Some x) b f g = (refl, refl)
-
-first_kind : {A : Type 0} (a b : Option A) → IfSome a (λ x. option_or a b ≡ Some x)
-first_kind None b = tt
-first_kind (Some x) b = refl
-
--- what the first has is in both as one
-has_first : (first second : LibraryMeaning) → Has (joined first second) first
-has_first first second = record {
-  kinds = λ ty. first_kind (first.kind ty) (second.kind ty);
-  nodes = λ name. first_kept (first.node name) (second.node name) (first.call name) (second.call name);
-  predicates = λ name.
-      first_kept (first.predicate name) (second.predicate name) (first.test name) (second.test name);
-  sessions = λ name. first_kept (first.session name) (second.session name) (first.id name) (second.id name);
-}
-
-same_kept : {A B : Type 0} (a : Option A) (f : B) → IfSome a (λ x. (a ≡ Some x) × (f ≡ f))
-same_kept None f = tt
-same_kept (Some x) f = (refl, refl)
-
-same_kind : {A : Type 0} (a : Option A) → IfSome a (λ x. a ≡ Some x)
-same_kind None = tt
-same_kind (Some x) = refl
-
-has_itself : (library : LibraryMeaning) → Has library library
-has_itself library = record {
-  kinds = λ ty. same_kind (library.kind ty);
-  nodes = λ name. same_kept (library.node name) (library.call name);
-  predicates = λ name. same_kept (library.predicate name) (library.test name);
-  sessions = λ name. same_kept (library.session name) (library.id name);
-}
-
-agree_kind : {A : Type 0} (a : Option A) → IfSome a (λ x. IfSome a (λ y. y ≡ x))
-agree_kind None = tt
-agree_kind (Some x) = refl
 
 -- ---- the names of the groups
 

@@ -5,7 +5,7 @@ use Rattle.nodes_counter.specs.Counters.{counter_meaning}
 use Rattle.nodes_web.specs.Webs.{web_meaning}
 use Rattle.nodes_cache.specs.Cachings.{caching_meaning}
 use Rattle.nodes_tracker.specs.Trackers.{tracker_meaning}
-use Rattle.nodes_all.specs.Joined.{joined, Has}
+use Rattle.nodes_joined.specs.Joined.{joined, Has}
 
 -- the libraries `Counter`, `Web`, `Caching` and `Tracker` as one
 unfoldable pub all_meaning : DocMap → LibraryMeaning

@@ -1,5 +1,9 @@
 //! The library itself.
-#![tactic(auto, unfolding(crate::specs::Alls::all_meaning))]
+#![tactic(auto, unfolding(crate::specs::Alls::all_meaning, nodes_joined::specs::Joined::joined))]
+
+ghost use Rattle.std.specs.Prelude.{◌≡◌, IfOk};
+ghost use Rattle.nodes_joined.specs.Joined.{answer_if_had};
+ghost use Rattle.nodes_all.specs.Alls.{all_meaning};
 
 use flux_library::answers::good;
 use flux_library::sessions::first_as_u64;
@@ -7,6 +11,7 @@ use flux_library::types::kind_spelled;
 use flux_library::{Docs, Library};
 use flux_values::{Answer, Cell, Kind, List, Meaning, Memory, Sig, Value};
 use nodes_counter::Counter;
+use nodes_joined::Joinable;
 use std::alloc::Global;
 
 /// The nodes of `Counter`, `Web`, `Caching` and `Tracker`, those of `Web` and `Caching` over the same documents.
@@ -20,9 +25,33 @@ impl Drop for All {
     }
 }
 
-impl Meaning for All {
-    ghost use Rattle.nodes_all.specs.Alls.{all_meaning};
+impl All {
+    /// What a node answers; None where no library has it.
+    fn answer_of(
+        &self,
+        alloc: Global,
+        name: &[u8],
+        args: &[Value],
+        cells: &[Cell],
+    ) -> Result<Option<Answer>, Memory>
+        ensures { IfOk result (λ answer. answer
+            ≡ answer_if_had (all_meaning self.now.docs) name.now args.now cells.now) }
+    {
+        if let Some(node) = nodes_counter::Node::named(name) {
+            Ok(Some(node.answer(alloc, args, cells)?))
+        } else if let Some(node) = nodes_web::Node::named(name) {
+            Ok(Some(node.answer(alloc, &self.docs, args)?))
+        } else if let Some(node) = nodes_cache::Node::named(name) {
+            Ok(Some(node.answer(alloc, &self.docs, args, cells)?))
+        } else if let Some(node) = nodes_tracker::Node::named(name) {
+            Ok(Some(node.answer(alloc, args, cells)?))
+        } else {
+            Ok(None)
+        }
+    }
+}
 
+impl Meaning for All {
     ghost meaning = { λ library. all_meaning library.docs };
 }
 
@@ -65,16 +94,9 @@ impl Library for All {
         args: &[Value],
         cells: &[Cell],
     ) -> Result<Answer, Memory> {
-        if let Some(node) = nodes_counter::Node::named(name) {
-            node.answer(alloc, args, cells)
-        } else if let Some(node) = nodes_web::Node::named(name) {
-            node.answer(alloc, &self.docs, args)
-        } else if let Some(node) = nodes_cache::Node::named(name) {
-            node.answer(alloc, &self.docs, args, cells)
-        } else if let Some(node) = nodes_tracker::Node::named(name) {
-            node.answer(alloc, args, cells)
-        } else {
-            good(alloc, List::new(alloc))
+        match self.answer_of(alloc, name, args, cells)? {
+            Some(answer) => Ok(answer),
+            None => good(alloc, List::new(alloc)),
         }
     }
 
@@ -96,4 +118,20 @@ impl Library for All {
     }
 
     ghost lawful = { λ library. all_lawful library.docs };
+}
+
+impl Joinable for All {
+    fn call_if_had(
+        &self,
+        alloc: Global,
+        name: &[u8],
+        args: &[Value],
+        cells: &[Cell],
+    ) -> Result<Option<Answer>, Memory> {
+        self.answer_of(alloc, name, args, cells)
+    }
+
+    fn has_session(&self, name: &[u8]) -> bool {
+        name == b"ByConn".as_slice() || name == b"ByNumber".as_slice()
+    }
 }

@@ -1,13 +1,5 @@
 -- The library keeps the laws of a library (an `impl` takes its laws' proofs from here).
-use Rattle.std.proofs.Common.{◌≤◌, if◌then◌else◌, List, length, Option, Some, None, IfSome, is_some}
-use Rattle.std.specs.Option.{option_or}
-use Rattle.flux_values.specs.declared.texts.TheConstants.{TEXT_LIMIT}
-use Rattle.flux_values.specs.declared.values.Value.{Value}
-use Rattle.flux_values.specs.declared.answers.Answer.{Answer}
-use Rattle.flux_values.specs.Cells.{CellMap}
-use Rattle.flux_values.specs.Meanings.{LibraryMeaning}
-use Rattle.flux_values.specs.declared.meanings.Sig.{Sig}
-use Rattle.flux_library.specs.Libraries.{IsLawfulNode, IsLawful}
+use Rattle.flux_library.specs.Libraries.{IsLawful}
 use Rattle.flux_library.specs.Documents.{DocMap}
 use Rattle.nodes_counter.specs.laws.Counters.{counter_lawful}
 use Rattle.nodes_counter.specs.Counters.{counter_meaning}
@@ -17,28 +9,9 @@ use Rattle.nodes_cache.specs.laws.Cachings.{caching_lawful}
 use Rattle.nodes_cache.specs.Cachings.{caching_meaning}
 use Rattle.nodes_tracker.specs.laws.Trackers.{tracker_lawful}
 use Rattle.nodes_tracker.specs.Trackers.{tracker_meaning}
-use Rattle.nodes_all.specs.Joined.{joined}
+use Rattle.nodes_joined.specs.Joined.{joined}
+use Rattle.nodes_joined.specs.laws.Joined.{joined_lawful}
 use Rattle.nodes_all.specs.Alls.{all_meaning}
-
--- a type is short where each of two libraries has only short types
-short_kept : {A : Type 0} (short : Type 0) (a b : Option A) → IfSome a (λ _. short) → IfSome b (λ _. short)
-    → IfSome (option_or a b) (λ _. short)
-short_kept short (Some kind) b one other = one
-short_kept short None b one other = other
-
--- a node keeps its laws where it does in the library that it is from
-node_kept : (a b : Option Sig) (f g : List Value → List CellMap → Answer) → IsLawfulNode a f → IsLawfulNode b g
-    → IsLawfulNode (option_or a b) (if is_some a then f else g)
-node_kept (Some sig) b f g one other = one
-node_kept None b f g one other = other
-
-joined_lawful : (first second : LibraryMeaning) → IsLawful first → IsLawful second → IsLawful (joined first second)
-joined_lawful first second one other = record {
-  short = λ ty.
-      short_kept (length ty ≤ TEXT_LIMIT) (first.kind ty) (second.kind ty) (one.short ty) (other.short ty);
-  nodes = λ name. node_kept (first.node name) (second.node name) (first.call name) (second.call name)
-      (one.nodes name) (other.nodes name);
-}
 
 pub all_lawful : (docs : DocMap) → IsLawful (all_meaning docs)
 unfolding all_meaning

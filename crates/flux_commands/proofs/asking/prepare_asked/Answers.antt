@@ -2,7 +2,7 @@ use Rattle.std.specs.Arc.{arc_value}
 use Rattle.std.proofs.Common.{sym, subst}
 use Rattle.flux_cli.specs.Asking.{asked}
 use Rattle.flux_commands.specs.declared.refusals.Refusal.TheVariants as refusals
-use Rattle.flux_commands.specs.BuiltIn.{built_in}
+use Rattle.flux_commands.specs.BuiltIn.{built_in, docs_in}
 use Rattle.flux_commands.specs.Told.{Told}
 use Rattle.flux_commands.specs.Commands.{folder_of}
 use Rattle.flux_commands.specs.Documents.{AreDocs}
@@ -53,21 +53,21 @@ returns-clause-asked g c =
     let all = arc_value c.in_ok-library.library in
     let are = subst (AreDocs (g.F.Folder.folders c.args.folder.now) (folder_of (asked c.args.wanted))) (sym c.in_ok-library.ensures) (rw c.dir_of.ensures at c.in_ok-docs.ensures.docs) in
     let first = rw c.dir_of.ensures at c.in_ok-docs.ensures.asked in
-    asks_with built_in (asked c.args.wanted) told (prepared_status c.prepare.result) all.docs _ _ _ _ are first c.prepare.ensures.asked
+    asks_with built_in (asked c.args.wanted) told (prepared_status c.prepare.result) (docs_in all) _ _ _ _ are first c.prepare.ensures.asked
 
 pub returns-clause-done : goal.returns-clause-done
 returns-clause-done g c =
     let told : Told = record { files = g.S.Store.files c.args.store.now; folders = g.F.Folder.folders c.args.folder.now } in
     let all = arc_value c.in_ok-library.library in
     let are = subst (AreDocs (g.F.Folder.folders c.args.folder.now) (folder_of (asked c.args.wanted))) (sym c.in_ok-library.ensures) (rw c.dir_of.ensures at c.in_ok-docs.ensures.docs) in
-    prepares_with built_in (asked c.args.wanted) told all.docs c.prepare.result are c.prepare.ensures.done
+    prepares_with built_in (asked c.args.wanted) told (docs_in all) c.prepare.result are c.prepare.ensures.done
 
 pub returns-clause-refused : goal.returns-clause-refused
 returns-clause-refused g c =
     let told : Told = record { files = g.S.Store.files c.args.store.now; folders = g.F.Folder.folders c.args.folder.now } in
     let all = arc_value c.in_ok-library.library in
     let are = subst (AreDocs (g.F.Folder.folders c.args.folder.now) (folder_of (asked c.args.wanted))) (sym c.in_ok-library.ensures) (rw c.dir_of.ensures at c.in_ok-docs.ensures.docs) in
-    result_refused built_in (asked c.args.wanted) told all.docs c.prepare.result are c.prepare.ensures.refused
+    result_refused built_in (asked c.args.wanted) told (docs_in all) c.prepare.result are c.prepare.ensures.refused
 
 pub returns-clause-complete : goal.returns-clause-complete
 returns-clause-complete g c =
@@ -75,4 +75,4 @@ returns-clause-complete g c =
     let folders = g.F.Folder.folders c.args.folder.now in
     let all = arc_value c.in_ok-library.library in
     let are = subst (AreDocs folders (folder_of (asked c.args.wanted))) (sym c.in_ok-library.ensures) (rw c.dir_of.ensures at c.in_ok-docs.ensures.docs) in
-    due_prepared built_in (asked c.args.wanted) files folders all.docs c.prepare.result are c.prepare.ensures.done c.prepare.ensures.refused c.prepare.ensures.firm
+    due_prepared built_in (asked c.args.wanted) files folders (docs_in all) c.prepare.result are c.prepare.ensures.done c.prepare.ensures.refused c.prepare.ensures.firm

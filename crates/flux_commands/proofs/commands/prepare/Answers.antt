@@ -1,28 +1,27 @@
 use Rattle.std.specs.Arc.{arc_value}
 use Rattle.std.specs.Prelude.{option_copied, IfOk, IfErr}
 use Rattle.std.proofs.Common.{subst}
-use Rattle.nodes_all.specs.declared.all.All.{All}
 use Rattle.flux_cli.specs.Commands.{check, plan}
-use Rattle.flux_commands.specs.BuiltIn.{meaning_in}
+use Rattle.flux_commands.specs.BuiltIn.{BuiltInLibrary, meaning_in}
 use Rattle.flux_commands.specs.steps.Refusals.{IsRefused}
 use Rattle.flux_commands.specs.steps.Preparing.{IsPrepared}
 use Rattle.flux_commands.proofs.Loading.{asks_none}
 use Rattle.flux_commands.proofs.commands.prepare.Goals as goal
 
 pub returns-in-Check-clause-done : goal.returns-in-Check-clause-done
-returns-in-Check-clause-done g c = rw c.in-Check.is (subst (λ (l : All). IfOk c.prepare_check.result (IsPrepared (meaning_in l) (check c.in-Check.file.now) (g.S.Store.files c.args.store.now)))
+returns-in-Check-clause-done g c = rw c.in-Check.is (subst (λ (l : BuiltInLibrary). IfOk c.prepare_check.result (IsPrepared (meaning_in l) (check c.in-Check.file.now) (g.S.Store.files c.args.store.now)))
     c.deref.ensures c.prepare_check.ensures.done)
 
 pub returns-in-Check-clause-refused : goal.returns-in-Check-clause-refused
-returns-in-Check-clause-refused g c = rw c.in-Check.is (subst (λ (l : All). IfErr c.prepare_check.result (IsRefused (meaning_in l) (check c.in-Check.file.now) (g.S.Store.files c.args.store.now)))
+returns-in-Check-clause-refused g c = rw c.in-Check.is (subst (λ (l : BuiltInLibrary). IfErr c.prepare_check.result (IsRefused (meaning_in l) (check c.in-Check.file.now) (g.S.Store.files c.args.store.now)))
     c.deref.ensures c.prepare_check.ensures.refused)
 
 pub returns-in-Plan-clause-done : goal.returns-in-Plan-clause-done
-returns-in-Plan-clause-done g c = rw c.in-Plan.is (subst (λ (l : All). IfOk c.prepare_plan.result (IsPrepared (meaning_in l) (plan c.in-Plan.file.now) (g.S.Store.files c.args.store.now)))
+returns-in-Plan-clause-done g c = rw c.in-Plan.is (subst (λ (l : BuiltInLibrary). IfOk c.prepare_plan.result (IsPrepared (meaning_in l) (plan c.in-Plan.file.now) (g.S.Store.files c.args.store.now)))
     c.deref-in-Plan.ensures c.prepare_plan.ensures.done)
 
 pub returns-in-Plan-clause-refused : goal.returns-in-Plan-clause-refused
-returns-in-Plan-clause-refused g c = rw c.in-Plan.is (subst (λ (l : All). IfErr c.prepare_plan.result (IsRefused (meaning_in l) (plan c.in-Plan.file.now) (g.S.Store.files c.args.store.now)))
+returns-in-Plan-clause-refused g c = rw c.in-Plan.is (subst (λ (l : BuiltInLibrary). IfErr c.prepare_plan.result (IsRefused (meaning_in l) (plan c.in-Plan.file.now) (g.S.Store.files c.args.store.now)))
     c.deref-in-Plan.ensures c.prepare_plan.ensures.refused)
 
 pub returns-in-Format-clause-asked : goal.returns-in-Format-clause-asked

@@ -1,7 +1,7 @@
 use Rattle.std.specs.Arc.{arc_value}
 use Rattle.std.proofs.Common.{sym, subst}
 use Rattle.flux_commands.specs.declared.refusals.Refusal.TheVariants as refusals
-use Rattle.flux_commands.specs.BuiltIn.{built_in}
+use Rattle.flux_commands.specs.BuiltIn.{BuiltInLibrary, built_in, docs_in}
 use Rattle.flux_commands.specs.Told.{Told}
 use Rattle.flux_commands.specs.Commands.{folder_of}
 use Rattle.flux_commands.specs.Documents.{AreDocs}
@@ -13,7 +13,6 @@ use Rattle.flux_commands.specs.Ready.{command_of, as_text, IsReady}
 use Rattle.flux_commands.proofs.Steps.{if_ok, if_err}
 use Rattle.flux_commands.proofs.Passed.{passed}
 use Rattle.flux_commands.proofs.Documented.{asks_with, asks_stopped, unread_stops, refused_unread, refused_with, due_unread}
-use Rattle.nodes_all.specs.declared.all.All.{All}
 use Rattle.flux_commands.specs.Origins.{named}
 use Rattle.flux_commands.proofs.Readied.{passed_text, if_ok_both, has_servable, due_ready}
 use Rattle.flux_commands.proofs.services.make_ready.Goals as goal
@@ -56,7 +55,7 @@ returns-clause-asked g c =
     let command = command_of c.args.service.now in
     let all = arc_value c.in_ok-library.library in
     let are = subst (AreDocs (g.F.Folder.folders c.args.folder.now) (folder_of command)) (sym c.in_ok-library.ensures) c.in_ok-docs.ensures.docs in
-    asks_with built_in command told (prepared_status (as_text c.prepare.result)) all.docs _ _ _ _ are c.in_ok-docs.ensures.asked c.prepare.ensures.asked
+    asks_with built_in command told (prepared_status (as_text c.prepare.result)) (docs_in all) _ _ _ _ are c.in_ok-docs.ensures.asked c.prepare.ensures.asked
 
 pub returns-clause-refused : goal.returns-clause-refused
 returns-clause-refused g c =
@@ -64,7 +63,7 @@ returns-clause-refused g c =
     let command = command_of c.args.service.now in
     let all = arc_value c.in_ok-library.library in
     let are = subst (AreDocs (g.F.Folder.folders c.args.folder.now) (folder_of command)) (sym c.in_ok-library.ensures) c.in_ok-docs.ensures.docs in
-    if_err _ (IsRefusedAll built_in command told) c.prepare.result (λ refusal refused. refused_with built_in command told all.docs refusal are refused) c.prepare.ensures.refused
+    if_err _ (IsRefusedAll built_in command told) c.prepare.result (λ refusal refused. refused_with built_in command told (docs_in all) refusal are refused) c.prepare.ensures.refused
 
 pub returns-clause-complete : goal.returns-clause-complete
 returns-clause-complete g c =
@@ -73,10 +72,10 @@ returns-clause-complete g c =
     let service = c.args.service.now in
     let all = arc_value c.in_ok-library.library in
     let are = subst (AreDocs folders (folder_of (command_of service))) (sym c.in_ok-library.ensures) c.in_ok-docs.ensures.docs in
-    due_ready built_in service.file.now _ files folders all.docs are c.prepare.result (if_ok _ _ c.prepare.result (λ ready own. has_servable (built_in all.docs) files service.file.now ready.checked ready.framing own) c.prepare.ensures.ready) c.prepare.ensures.refused
+    due_ready built_in service.file.now _ files folders (docs_in all) are c.prepare.result (if_ok _ _ c.prepare.result (λ ready own. has_servable (built_in (docs_in all)) files service.file.now ready.checked ready.framing own) c.prepare.ensures.ready) c.prepare.ensures.refused
 
 pub returns-clause-ready : goal.returns-clause-ready
 returns-clause-ready g c =
     let files = g.S.Store.files c.args.store.now in
     let file = named c.args.service.now.file.now in
-    if_ok_both _ _ _ c.prepare.result (λ ready same own. subst (λ (l : All). IsReady (built_in l.docs) files file ready.checked ready.framing) (sym same) own) c.prepare.ensures.library c.prepare.ensures.ready
+    if_ok_both _ _ _ c.prepare.result (λ ready same own. subst (λ (l : BuiltInLibrary). IsReady (built_in (docs_in l)) files file ready.checked ready.framing) (sym same) own) c.prepare.ensures.library c.prepare.ensures.ready

@@ -1,5 +1,5 @@
 use Rattle.std.specs.Arc.{arc_value}
-use Rattle.flux_commands.specs.BuiltIn.{built_in}
+use Rattle.flux_commands.specs.BuiltIn.{built_in, docs_in}
 use Rattle.flux_driver.specs.Seen.{Link, link_by}
 use Rattle.flux_driver.proofs.Steps.{told_same}
 use Rattle.flux_driver.proofs.Answered.{told_done}
@@ -23,7 +23,7 @@ pub returns-in-Ok-clause-done : goal.returns-in-Ok-clause-done
 returns-in-Ok-clause-done g c =
     let see : g.row.D-Link.Denot → Link = link_by g.D.Link.Link.had g.D.Link.Link.left g.D.Link.Link.written g.D.Link.Link.faults in
     let all = arc_value c.in-Ok.ready.library in
-    ready_done built_in c.args.words.now _ _ c.in-Ok.service all.docs c.in-Ok.ready.checked c.in-Ok.ready.framing c.in-Ok.ensures.ready c.serve_ready-end.result c.tell_end.result c.in-Ok.ensures.spelled c.in-Ok.ensures.docs
+    ready_done built_in c.args.words.now _ _ c.in-Ok.service (docs_in all) c.in-Ok.ready.checked c.in-Ok.ready.framing c.in-Ok.ensures.ready c.serve_ready-end.result c.tell_end.result c.in-Ok.ensures.spelled c.in-Ok.ensures.docs
     (by_as_seen c.in-Ok.service.replying see _ _ _ _ _ c.serve_ready-end.ensures.served)
     (opened_as_seen see c.serve_ready-end.result c.in-Ok.service.port _ _ _ _ c.serve_ready-end.ensures.opened) c.tell_end.ensures.said
     (told_same (g.S.Store.files c.args.world.now.store) (g.S.Store.files c.ready_words.new.store) (g.F.Folder.folders c.args.world.now.folder) (g.F.Folder.folders c.ready_words.new.folder) c.ready_words.ensures.kept c.ready_words.ensures.kept_folders)

@@ -4,11 +4,12 @@ use Rattle.nodes_counter.specs.Counters as counters
 use Rattle.nodes_web.specs.Webs as webs
 use Rattle.nodes_cache.specs.Cachings as cachings
 use Rattle.nodes_all.specs.Alls.{all_meaning}
+use Rattle.nodes_joined.specs.Joined.{joined}
 use Rattle.nodes_all.proofs.Same.{same_ways}
 use Rattle.nodes_all.proofs.all.AllLibrary.id.Goals as goal
 
 pub returns : goal.returns
-unfolding all_meaning
+unfolding all_meaning joined
 returns c =
     let name = c.args._name.now in
     c.first_as_u64.ensures

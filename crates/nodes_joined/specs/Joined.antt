@@ -1,10 +1,13 @@
 -- Two libraries as one, and what one library has of another.
-use Rattle.std.specs.Prelude.{◌≡◌, ℕ, if◌then◌else◌, List, Some, is_some, IfSome}
+use Rattle.std.specs.Prelude.{◌≡◌, ℕ, if◌then◌else◌, List, Option, Some, None, is_some, IfSome}
 use Rattle.std.specs.Option.{option_or}
+use Rattle.flux_values.specs.declared.values.Value.{Value}
+use Rattle.flux_values.specs.declared.answers.Answer.{Answer}
+use Rattle.flux_values.specs.Cells.{CellMap}
 use Rattle.flux_values.specs.Meanings.{LibraryMeaning}
 
 -- two libraries as one: what a name means in the first, where that has it, and else in the second
-abbrev pub joined : LibraryMeaning → LibraryMeaning → LibraryMeaning
+unfoldable pub joined : LibraryMeaning → LibraryMeaning → LibraryMeaning
 joined first second = record {
   kind = λ ty. option_or (first.kind ty) (second.kind ty);
   node = λ name. option_or (first.node name) (second.node name);
@@ -14,6 +17,11 @@ joined first second = record {
   test = λ name. if is_some (first.predicate name) then first.test name else second.test name;
   id = λ name. if is_some (first.session name) then first.id name else second.id name;
 }
+
+-- what a node answers, where a library has it
+abbrev pub answer_if_had : LibraryMeaning → List ℕ → List Value → List CellMap → Option Answer
+answer_if_had meaning name args cells =
+    if is_some (meaning.node name) then Some (meaning.call name args cells) else None
 
 -- a library has all that another has, and means the same by it: types, nodes with their answers,
 -- predicates with their tests, session functions with their numbers

@@ -1,0 +1,2 @@
+-- Laws of the definitions, which the trait of libraries asks for. Nobody has to believe them.
+pub mod Joined
