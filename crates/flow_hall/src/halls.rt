@@ -148,7 +148,7 @@ impl<L: Library> Hall<L> {
         ensures { IsTurnOf seat result }
     {
         let mut seat = seat;
-        let mut pause = Pause::new();
+        let mut pause = Pause::for_turn();
         for _ in rt.forever() {
             match self.try_turn(seat) {
                 Ok(turn) => return turn,

@@ -1,16 +1,16 @@
 //! The loop where it has helpers.
 
-ghost use Rattle.std.specs.Prelude.{◌≡◌};
+ghost use Rattle.std.specs.Prelude.{◌<◌, length, IfSome};
 ghost use Rattle.flow_core.specs.Runs.{GoesOn};
 ghost use Rattle.flow_turns.specs.Workers.{RunsIn};
 
-use crate::bells::Bells;
-use crate::helpers::lowest_call;
+use crate::bells::{Bells, await_bell};
 use crate::parts::call_of;
 use crate::ready::Ready;
 use flow_core::Core;
 use flow_turns::{Next, TurnEnd, go_on};
 use flux_library::Library;
+use flux_model::FlowNo;
 use flux_values::Memory;
 use std::sync::Wait;
 
@@ -19,6 +19,19 @@ const FLOWS_A_TURN: u32 = 8;
 
 /// After so many turns in a row in which the journal didn't grow, the loop runs a call itself.
 const TURNS_WITHOUT_ENTRY: u32 = 1_000;
+
+/// The lowest flow whose call is begun.
+fn lowest_call<L: Library>(core: &Core<L>) -> Option<FlowNo>
+    ensures { IfSome result (λ flow. flow.0 < length core.now.setup.items) }
+{
+    for number in 0..core.flows() {
+        let flow = FlowNo(number);
+        if core.is_calling(flow) {
+            return Some(flow);
+        }
+    }
+    None
+}
 
 /// The loop beside its helpers. It makes all events but calls, and begins calls.
 #[derive(Drop)]
@@ -43,12 +56,17 @@ impl Lead {
     }
 
     /// A turn: flows go on up to their calls. Where the journal doesn't grow any more, the lowest begun call, once more.
-    pub fn turn<L: Library>(&mut self, bells: &Bells, core: &mut Core<L>) -> Next<L>
+    pub fn turn<L: Library, R: Wait>(
+        &mut self,
+        rt: &R,
+        bells: &Bells,
+        core: &mut Core<L>,
+    ) -> Next<L>
         ensures on { GoesOn core.old core.new }
         ensures runs { RunsIn core.new.setup result }
     {
         self.rung = bells.lead.rung();
-        if self.advance(bells, core).is_err() {
+        if self.advance(rt, bells, core).is_err() {
             core.halt();
             return Next::Ends;
         }
@@ -58,19 +76,24 @@ impl Lead {
         if self.waits_on() {
             return Next::Rests;
         }
-        match lowest_call(core, 0, 1) {
+        match lowest_call(core) {
             Some(flow) => call_of(core, flow),
             None => Next::Rests,
         }
     }
 
-    /// Sleeps until an answer was handed in, and for a millisecond at most: it counts its turns without an entry.
+    /// Waits until an answer was handed in, and for a millisecond at most: it counts its turns without an entry.
     pub fn rest<R: Wait>(&self, rt: &R, bells: &Bells) {
-        bells.lead.sleep(rt, self.rung, 1);
+        await_bell(rt, &bells.lead, self.rung, 1);
     }
 
     /// Lets flows that are ready go on.
-    fn advance<L: Library>(&mut self, bells: &Bells, core: &mut Core<L>) -> Result<(), Memory>
+    fn advance<L: Library, R: Wait>(
+        &mut self,
+        rt: &R,
+        bells: &Bells,
+        core: &mut Core<L>,
+    ) -> Result<(), Memory>
         ensures { GoesOn core.old core.new }
     {
         for _flow in 0..FLOWS_A_TURN {
@@ -80,7 +103,7 @@ impl Lead {
             match go_on(core, flow) {
                 TurnEnd::Went => self.ready.add(flow)?,
                 TurnEnd::Halted => return Err(Memory),
-                TurnEnd::Calls(_) => bells.ring_for(flow),
+                TurnEnd::Calls(_) => bells.post(rt, flow),
                 TurnEnd::Ended | TurnEnd::Waits(_) => {}
             }
         }

@@ -23,7 +23,7 @@ pub enum Part {
 
 impl Worker<Bells> for Part {
     /// It ends where no flow is live or the core is halted.
-    fn turn<L: Library, R: Wait>(&mut self, _rt: &R, bells: &Bells, core: &mut Core<L>) -> Next<L>
+    fn turn<L: Library, R: Wait>(&mut self, rt: &R, bells: &Bells, core: &mut Core<L>) -> Next<L>
         ensures on { GoesOn core.old core.new }
         ensures runs { RunsIn core.new.setup result }
     {
@@ -32,8 +32,8 @@ impl Worker<Bells> for Part {
             return Next::Ends;
         }
         match self {
-            Part::Lead(lead) => lead.turn(bells, core),
-            Part::Helper(helper) => helper.turn(bells, core),
+            Part::Lead(lead) => lead.turn(rt, bells, core),
+            Part::Helper(helper) => helper.turn(rt, bells, core),
         }
     }
 
@@ -45,7 +45,7 @@ impl Worker<Bells> for Part {
     }
 }
 
-/// The call that a flow has begun, once more. Want of memory halts the core.
+/// The call that a flow has begun, once more; a call that was finished meanwhile is passed over. Want of memory halts the core.
 pub fn call_of<L: Library>(core: &mut Core<L>, flow: FlowNo) -> Next<L>
     requires { flow.0 < length core.old.setup.items }
     ensures on { GoesOn core.old core.new }
@@ -53,7 +53,7 @@ pub fn call_of<L: Library>(core: &mut Core<L>, flow: FlowNo) -> Next<L>
 {
     match core.recall(flow) {
         Ok(Some(job)) => Next::Runs(job),
-        Ok(None) => Next::Rests,
+        Ok(None) => Next::Goes,
         Err(Memory) => {
             core.halt();
             Next::Ends
@@ -66,7 +66,7 @@ pub fn parts<L: Library>(core: &Core<L>, helpers: u8) -> Result<Vec<Part>, Memor
     let mut parts = Vec::new(core.alloc());
     parts.push(Part::Lead(Lead::new(core)?))?;
     for number in 0..helpers {
-        parts.push(Part::Helper(Helper::new(number, helpers)))?;
+        parts.push(Part::Helper(Helper::new(number)))?;
     }
     Ok(parts)
 }

@@ -25,7 +25,7 @@ pub fn drive_with_helpers<L: Library + Send + Sync, G: Gate + Sync, R: Threads +
     let halted = core.is_halted();
     let mut core = core;
     core.resume();
-    let (Ok(parts), Ok(bells)) = (parts(&core, helpers), Bells::new(core.alloc(), helpers)) else {
+    let (Ok(parts), Ok(bells)) = (parts(&core, helpers), Bells::new(rt, &core, helpers)) else {
         return settle(core, halted);
     };
     settle(share(rt, core, &bells, parts, gate), halted)

@@ -6,6 +6,7 @@ use flow_queue::{FlowQueue, QueuePass};
 use flux_model::FlowNo;
 use flux_values::Memory;
 use std::alloc::Global;
+use std::collections::VecDeque;
 use std::mem;
 use std::sync::Wait;
 
@@ -19,13 +20,16 @@ struct Place {
 }
 
 /// The queue, and for each flow the pass that holds its number while that is out: a worker lets the flow go on, or the flow
-/// waits. The number of a flow that waits is put back by whoever makes the entry that may let it go on, in the same turn.
+/// waits, or it was freed. Whoever makes the entry that may let a flow go on frees it, in the same turn. Workers take freed flows
+/// before those of the queue: what others wait for is done first.
 #[derive(Drop)]
 pub struct Desk {
     queue: FlowQueue,
     /// The next number is taken with it.
     spare: QueuePass,
     places: Vec<Place>,
+    /// Flows that were freed, first come first. Their numbers are out.
+    freed: VecDeque<FlowNo>,
     /// How many numbers the queue has.
     queued: u32,
     ghost spare_fits: { spare.queue ≡ queue },
@@ -59,17 +63,21 @@ impl Desk {
             queue,
             spare,
             places,
+            freed: VecDeque::new(alloc),
             queued: flows,
         })
     }
 
-    /// Whether the queue has numbers.
-    pub fn has_queued(&self) -> bool {
-        self.queued > 0
+    /// Whether a flow may be taken: one that was freed, or one of the queue.
+    pub fn has_flows(&self) -> bool {
+        self.queued > 0 || !self.freed.is_empty()
     }
 
-    /// Takes the number at the front.
+    /// Takes the flow that was freed first, or else the number at the queue's front.
     pub fn take<R: Wait>(&mut self, rt: &R) -> Option<FlowNo> {
+        if let Some(flow) = self.freed.pop_front() {
+            return Some(flow);
+        }
         let flow = self.queue.take(rt, &mut self.spare)?;
         let place = self.places.get_mut(flow.0 as usize)?;
         mem::swap(&mut place.pass, &mut self.spare);
@@ -95,14 +103,15 @@ impl Desk {
         }
     }
 
-    /// Puts back the number of a flow, if it waits.
-    pub fn wake<R: Wait>(&mut self, rt: &R, flow: FlowNo) {
+    /// Frees a flow, if it waits.
+    pub fn free(&mut self, flow: FlowNo) -> Result<(), Memory> {
         let Some(place) = self.places.get_mut(flow.0 as usize) else {
-            return;
+            return Ok(());
         };
         if place.waits {
             place.waits = false;
-            self.put_back(rt, flow);
+            self.freed.push_back(flow)?;
         }
+        Ok(())
     }
 }

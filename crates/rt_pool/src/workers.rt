@@ -75,7 +75,7 @@ impl Worker<Office> for PoolWorker {
         self.rung = office.bell.rung();
         let mut desk = office.desk.lock(rt);
         let next = self.advance(rt, &mut desk, core);
-        if desk.has_queued() || matches!(next, Next::Ends) {
+        if desk.has_flows() || matches!(next, Next::Ends) {
             office.bell.ring();
         }
         next
@@ -104,7 +104,7 @@ impl PoolWorker {
             };
             let known = core.journal().entries.len();
             let end = go_on(core, flow);
-            if wake_freed(rt, desk, core, known).is_err() {
+            if free_since(desk, core, known).is_err() {
                 core.halt();
                 return Next::Ends;
             }
@@ -122,7 +122,7 @@ impl PoolWorker {
         Next::Goes
     }
 
-    /// The flow that it lets go on: the same as before, for so many turns, or the next of the queue.
+    /// The flow that it lets go on: the same as before, for so many turns, or the desk's next.
     fn next_flow<R: Wait>(&mut self, rt: &R, desk: &mut Desk, flows: u32) -> Option<FlowNo>
         ensures { IfSome result (λ flow. flow.0 < flows) }
     {
@@ -145,15 +145,10 @@ impl PoolWorker {
     }
 }
 
-/// Puts back the numbers of the flows that the entries from a place on may free.
-fn wake_freed<L: Library, R: Wait>(
-    rt: &R,
-    desk: &mut Desk,
-    core: &Core<L>,
-    known: usize,
-) -> Result<(), Memory> {
+/// Frees the flows that the entries from a place on may let go on.
+fn free_since<L: Library>(desk: &mut Desk, core: &Core<L>, known: usize) -> Result<(), Memory> {
     for flow in freed_since(core, known)? {
-        desk.wake(rt, flow);
+        desk.free(flow)?;
     }
     Ok(())
 }

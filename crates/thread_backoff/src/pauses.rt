@@ -8,15 +8,19 @@ use std::time::Duration;
 /// So many pauses only let others go first.
 const YIELDS: u32 = 16;
 
+/// So many where a turn is awaited. Turns are short, and a sleep is longer than some of them.
+const YIELDS_FOR_TURN: u32 = 64;
+
 /// The first sleep has so many microseconds, and each later one twice as many.
 const FIRST_SLEEP: u64 = 8;
 
 /// The longest sleep, in microseconds.
 const LONGEST_SLEEP: u64 = 1_000;
 
-/// The pauses that a thread has made in a row.
+/// The pauses that a thread makes in a row.
 #[derive(Clone, Copy, Drop)]
 pub struct Pause {
+    /// So many more only let others go first.
     yields: u32,
     sleep: u64,
 }
@@ -24,15 +28,23 @@ pub struct Pause {
 impl Pause {
     pub fn new() -> Pause {
         Pause {
-            yields: 0,
+            yields: YIELDS,
+            sleep: FIRST_SLEEP,
+        }
+    }
+
+    /// Pauses of a thread that waits for a turn.
+    pub fn for_turn() -> Pause {
+        Pause {
+            yields: YIELDS_FOR_TURN,
             sleep: FIRST_SLEEP,
         }
     }
 
     /// Lets others go first, and later sleeps, longer each time, for up to a millisecond.
     pub fn rest<R: Wait>(&mut self, rt: &R) {
-        if self.yields < YIELDS {
-            self.yields += 1;
+        if self.yields > 0 {
+            self.yields -= 1;
             thread::yield_now();
             return;
         }

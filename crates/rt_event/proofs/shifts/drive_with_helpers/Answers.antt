@@ -1,10 +1,13 @@
 use denote.Param.Send.{sendable}
 use Rattle.flow_turns.proofs.Settled.{goes-none, settled-ok, settled-err}
-use Rattle.rt_event.proofs.Crossing.{part_send}
+use Rattle.rt_event.proofs.Crossing.{part_send, bells_sync}
 use Rattle.rt_event.proofs.shifts.drive_with_helpers.Goals as goal
 
 pub share-requires-send-W : goal.share-requires-send-W
 share-requires-send-W g c κs within = search (part_send, sendable) depth 40
+
+pub share-requires-sync-S : goal.share-requires-sync-S
+share-requires-sync-S g c κs within = search (bells_sync, sendable) depth 60
 
 pub returns-in_default-clause-ok : goal.returns-in_default-clause-ok
 returns-in_default-clause-ok g c =
