@@ -38,8 +38,8 @@ returns-in_err-count-clause-unended g c =
     unended-read c.args.framing (left c.args.link.now) (left c.reads.link) (g.K.Link.left_before c.read.new.self) c.reads.buffer c.reads.filled
     before.0 c.read.ensures.before before.1 (omega (arith, c.requires, c.reads.auto.buffer, c.reads-test.true)) (sym c.ends_in.ensures ∙ c.if-ends_in.false)
 
-pub returns-then-eq-clause-unended : goal.returns-then-eq-clause-unended
-returns-then-eq-clause-unended g c =
+pub returns-then-count-eq0-clause-unended : goal.returns-then-count-eq0-clause-unended
+returns-then-count-eq0-clause-unended g c =
     let left = g.K.Link.left in
     let before = c.reads.invariant in
     unended-read c.args.framing (left c.args.link.now) (left c.reads.link) (g.K.Link.left_before c.read.new.self) c.reads.buffer c.reads.filled
