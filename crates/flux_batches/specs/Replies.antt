@@ -9,7 +9,7 @@ use Rattle.flux_outside.specs.Streams.{WroteOrBroke}
 use Rattle.flux_batches.specs.declared.reading.Sent.{Sent}
 use Rattle.flux_batches.specs.declared.reading.Sent.TheVariants.{Text, Failed, Memory}
 use Rattle.flux_batches.specs.declared.reading.ReadLink.{ReadLink}
-use Rattle.flux_batches.specs.Links.{Seen, IsSame, stream_of}
+use Rattle.flux_batches.specs.Links.{Seen, IsUnread, stream_of}
 
 -- what an event emits: a call what it answers, and no other anything
 abbrev pub emitted : Event → List ℕ
@@ -42,14 +42,14 @@ flow_behind flow (Text text) = flow + 1
 flow_behind flow Failed = flow
 flow_behind flow Memory = flow
 
--- links were answered in order, from a flow on, and given back as these, each at its place; those
--- are left
+-- links were answered in order, from a flow on, and given back as these, each at its place, with no
+-- more of them read; those are left
 abbrev pub AreAnswered : {K : Type 0} → (K → Seen) → List Entry → ℕ → List (ReadLink K) → List K
     → List (ReadLink K) → Type 0
 AreAnswered see entries flow requests [] left = requests ≡ left
 AreAnswered see entries flow [] (back ∷ backs) left = ⊥
 AreAnswered see entries flow (request ∷ rest) (back ∷ backs) left =
-    IsSame (see request.link) (see back) × IsAnswered entries flow (see request.link) (see back) request.sent
+    IsUnread (see request.link) (see back) × IsAnswered entries flow (see request.link) (see back) request.sent
     × AreAnswered see entries (flow_behind flow request.sent) rest backs left
 
 -- a door has taken back these links beside those before, where it tells them

@@ -5,7 +5,7 @@ ghost use Rattle.flux_outside.specs.Causes.{HasCause};
 ghost use Rattle.flux_outside.specs.Readers.{TakesAtMost};
 ghost use Rattle.flux_doors.specs.Texts.{ends, least_front, trimmed, limit_of, text_of};
 ghost use Rattle.std.specs.VecDeque.{deque_len};
-ghost use Rattle.flux_batches.specs.Links.{seen_by, IsSent, WereRead};
+ghost use Rattle.flux_batches.specs.Links.{seen_by, HadNotEnded, IsSent, WereRead};
 ghost use Rattle.flux_batches.specs.steps.Reading.{to_read, WasRead};
 
 use flux_doors::{Framing, Link};
@@ -64,6 +64,7 @@ fn fill<K: Link>(link: &mut K, framing: Framing, buffer: &mut [u8]) -> Result<us
     ensures text { IfSome (K.left link.old) (λ left. IfOk result (λ count.
         trimmed framing (least_front (ends framing) (take count buffer.new)) ≡ text_of framing left)) }
     ensures taken { TakesAtMost (limit_of framing) (K.left link.old) (K.left link.new) }
+    ensures unended { HadNotEnded framing (K.left link.old) (K.left_before link.new) }
     ensures had { K.had link.new ≡ K.had link.old }
     ensures written { K.written link.new ≡ K.written link.old }
     ensures cause { HasCause (K.faults link.old) (K.faults link.new) result }
@@ -85,8 +86,8 @@ fn fill<K: Link>(link: &mut K, framing: Framing, buffer: &mut [u8]) -> Result<us
 /// Reads a link.
 fn read_link<K: Link>(alloc: Global, link: &mut K, framing: Framing) -> Sent
     ensures same { K.had link.new ≡ K.had link.old }
-    ensures sent { IsSent framing (seen_by K.had K.left K.written K.faults link.old)
-        (seen_by K.had K.left K.written K.faults link.new) result }
+    ensures sent { IsSent framing (seen_by K.had K.left K.left_before K.written K.faults link.old)
+        (seen_by K.had K.left K.left_before K.written K.faults link.new) result }
 {
     let mut buffer = [0u8; BUFFER];
     let window = &mut buffer[..framing.limit()];
@@ -101,7 +102,7 @@ fn read_link<K: Link>(alloc: Global, link: &mut K, framing: Framing) -> Sent
 
 /// Puts a link's text beside it.
 fn read_one<K: Link>(alloc: Global, request: &mut ReadLink<K>, framing: Framing)
-    ensures { WasRead (seen_by K.had K.left K.written K.faults) framing request.old request.new }
+    ensures { WasRead (seen_by K.had K.left K.left_before K.written K.faults) framing request.old request.new }
 {
     request.sent = read_link(alloc, &mut request.link, framing);
 }
@@ -133,7 +134,7 @@ fn read_each<R: Threads + Sync, K: Link + Send>(
     framing: Framing,
 )
     ensures { (i : ℕ) (none : ReadLink K) → i < length request.old
-        → WasRead (seen_by K.had K.left K.written K.faults) framing
+        → WasRead (seen_by K.had K.left K.left_before K.written K.faults) framing
         (slice_index_or request.old i none) (slice_index_or request.new i none) }
 {
     let threads = threads_for(request.len());
@@ -152,7 +153,7 @@ pub fn read_links<R: Threads + Sync, K: Link + Drop + Send>(
     links: VecDeque<K>,
     framing: Framing,
 ) -> Result<VecDeque<ReadLink<K>>, VecDeque<K>>
-    ensures request { IfOk result (λ request. WereRead (seen_by K.had K.left K.written K.faults)
+    ensures request { IfOk result (λ request. WereRead (seen_by K.had K.left K.left_before K.written K.faults)
         framing links.items request.items []) }
     ensures count { IfOk result (λ request. deque_len request ≡ deque_len links) }
     ensures unread { IfErr result (λ back. (back.items ≡ links.items) × (deque_len back ≡ deque_len links)) }

@@ -17,6 +17,10 @@ link_had link = link.input
 abbrev pub link_left : MemoryLink → List ℕ
 link_left link = drop link.given link.input
 
+-- the bytes that were left before its last read; before the first read, those that are left
+abbrev pub link_left_before : MemoryLink → List ℕ
+link_left_before link = drop link.given_before link.input
+
 -- all bytes that its sink took
 abbrev pub link_written : MemoryLink → List ℕ
 link_written link = sink_bytes link.written
@@ -51,7 +55,8 @@ LinkWrites link count = SinkTakes link.written count
 -- one write on, with the same input and reads
 abbrev pub LinkWasWritten : MemoryLink → MemoryLink → Type 0
 LinkWasWritten before after =
-    (after.input ≡ before.input) × (after.given ≡ before.given) × (after.piece ≡ before.piece)
+    (after.input ≡ before.input) × (after.given ≡ before.given)
+    × (after.given_before ≡ before.given_before) × (after.piece ≡ before.piece)
     × (after.calls ≡ before.calls) × SinkWasCalled before.written after.written
 
 -- ---- the door

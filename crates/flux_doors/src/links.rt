@@ -16,6 +16,9 @@ pub trait Link {
     /// The bytes left to read, where they are reported.
     ghost left: { Self → Option (List ℕ) };
 
+    /// The bytes that were left before its last read, where they are reported; before the first read, those that are left.
+    ghost left_before: { Self → Option (List ℕ) };
+
     /// All bytes written so far, where they are reported.
     ghost written: { Self → Option (List ℕ) };
 
@@ -27,6 +30,7 @@ pub trait Link {
     fn read(&mut self, buffer: &mut [u8]) -> Result<usize, Failed>
         ensures bound { ReadsAtMost result buffer.new }
         ensures bytes { ReadConsumes (left self.old) (left self.new) result buffer.new }
+        ensures before { left_before self.new ≡ left self.old }
         ensures had { had self.new ≡ had self.old }
         ensures written { written self.new ≡ written self.old }
         ensures cause { HasCause (faults self.old) (faults self.new) result };
@@ -37,5 +41,6 @@ pub trait Link {
         ensures bytes { written self.new ≡ gained (written self.old) result bytes.now }
         ensures had { had self.new ≡ had self.old }
         ensures left { left self.new ≡ left self.old }
+        ensures before { left_before self.new ≡ left_before self.old }
         ensures cause { HasCause (faults self.old) (faults self.new) result };
 }

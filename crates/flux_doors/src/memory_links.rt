@@ -10,6 +10,8 @@ use flux_values::{Bytes, List};
 pub struct MemoryLink {
     input: Bytes,
     given: usize,
+    /// So many bytes were given before the last read.
+    given_before: usize,
     piece: usize,
     written: MemorySink,
     calls: Calls,
@@ -23,6 +25,7 @@ impl Drop for MemoryLink {
         let MemoryLink {
             input,
             given,
+            given_before,
             piece,
             written,
             calls,
@@ -34,7 +37,7 @@ impl Drop for MemoryLink {
 impl MemoryLink {
     ghost use Rattle.std.specs.Prelude.{◌≡◌};
     ghost use Rattle.flux_outside.specs.Memory.{sink_bytes};
-    ghost use Rattle.flux_doors.specs.Memory.{link_had, link_left, link_written, link_faults, IsNewLink};
+    ghost use Rattle.flux_doors.specs.Memory.{link_had, link_left, link_left_before, link_written, link_faults, IsNewLink};
 
     /// A link that gives these bytes, at most `piece` a call. The reads whose numbers are in `fails`, counted from 1,
     /// fail; a write fails where the sink's does.
@@ -42,6 +45,7 @@ impl MemoryLink {
         requires { 0 < piece }
         ensures had { link_had result ≡ input }
         ensures left { link_left result ≡ input }
+        ensures before { link_left_before result ≡ input }
         ensures written { link_written result ≡ sink_bytes written }
         ensures faultless { link_faults result ≡ 0 }
         ensures made { IsNewLink result piece written fails }
@@ -49,6 +53,7 @@ impl MemoryLink {
         MemoryLink {
             input,
             given: 0,
+            given_before: 0,
             piece,
             written,
             calls: Calls::new(fails),
@@ -70,11 +75,13 @@ impl Link for MemoryLink {
     ghost use Rattle.std.specs.Io.KnownBytes.{ReadConsumes};
     ghost use Rattle.flux_outside.specs.Causes.{HasCause};
     ghost use Rattle.flux_outside.specs.Sinks.{TakesSome, gained};
-    ghost use Rattle.flux_doors.specs.Memory.{link_had, link_left, link_written, link_faults, piece_left, LinkReads, LinkWasRead, LinkWrites, LinkWasWritten};
+    ghost use Rattle.flux_doors.specs.Memory.{link_had, link_left, link_left_before, link_written, link_faults, piece_left, LinkReads, LinkWasRead, LinkWrites, LinkWasWritten};
 
     ghost had = { λ link. Some (link_had link) };
 
     ghost left = { λ link. Some (link_left link) };
+
+    ghost left_before = { λ link. Some (link_left_before link) };
 
     ghost written = { λ link. Some (link_written link) };
 
@@ -83,6 +90,7 @@ impl Link for MemoryLink {
     fn read(&mut self, buffer: &mut [u8]) -> Result<usize, Failed>
         ensures bound { ReadsAtMost result buffer.new }
         ensures bytes { ReadConsumes (Some (link_left self.old)) (Some (link_left self.new)) result buffer.new }
+        ensures before { Some (link_left_before self.new) ≡ Some (link_left self.old) }
         ensures had { Some (link_had self.new) ≡ Some (link_had self.old) }
         ensures written { Some (link_written self.new) ≡ Some (link_written self.old) }
         ensures cause { HasCause (link_faults self.old) (link_faults self.new) result }
@@ -91,6 +99,7 @@ impl Link for MemoryLink {
         ensures reads { IsOk result ↔ LinkReads self.old }
         ensures called { LinkWasRead self.old self.new }
     {
+        self.given_before = self.given;
         if self.calls.count() {
             return Err(count_failure(&mut self.faults));
         }
@@ -106,6 +115,7 @@ impl Link for MemoryLink {
         ensures bytes { Some (link_written self.new) ≡ gained (Some (link_written self.old)) result bytes.now }
         ensures had { Some (link_had self.new) ≡ Some (link_had self.old) }
         ensures left { Some (link_left self.new) ≡ Some (link_left self.old) }
+        ensures before { Some (link_left_before self.new) ≡ Some (link_left_before self.old) }
         ensures cause { HasCause (link_faults self.old) (link_faults self.new) result }
         // It fails where its sink does.
         ensures writes { IsOk result ↔ LinkWrites self.old (length bytes.now) }

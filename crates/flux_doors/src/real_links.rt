@@ -137,6 +137,8 @@ impl<R: Net + Clock + Copy> Link for RealLink<R> {
 
     ghost left = { λ _. None };
 
+    ghost left_before = { λ _. None };
+
     ghost written = { λ _. None };
 
     ghost faults = { λ link. link.faults };

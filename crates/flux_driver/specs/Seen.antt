@@ -11,8 +11,8 @@ pub record Giver : Type 0 where
   pub asked : List (List ℕ)
   pub faults : ℕ
 
--- what is seen of a link: all that its client sends, the bytes left to read and all bytes written, where they are reported,
--- and its failures
+-- what is seen of a link: all that its client sends, the bytes left to read, those that were left before its last read, and
+-- all bytes written, where they are reported; and its failures
 abbrev pub Link : Type 0
 Link = links.Seen
 
@@ -36,8 +36,8 @@ pub record Seen : Type 0 where
 
 -- what is seen of a link and of a door, by what they tell
 abbrev pub link_by : {K : Type 0} → (K → Option (List ℕ)) → (K → Option (List ℕ))
-    → (K → Option (List ℕ)) → (K → ℕ) → K → Link
-link_by had left written faults link = links.seen_by had left written faults link
+    → (K → Option (List ℕ)) → (K → Option (List ℕ)) → (K → ℕ) → K → Link
+link_by had left left_before written faults link = links.seen_by had left left_before written faults link
 
 abbrev pub door_by : {D K : Type 0} → (K → Link) → (D → Option (List (List K))) → (D → Option (List K))
     → (D → Option ℕ) → (D → ℕ) → (D → ℕ) → D → Doorway

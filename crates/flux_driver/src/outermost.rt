@@ -45,7 +45,7 @@ fn act<
     requires printed { (command : Command) → Spells words.now command → IsServe command → ⊥ }
     ensures door { world.new.door ≡ world.old.door }
     ensures done { let seen = seen_by S.files S.asked S.faults F.folders F.asked F.faults O.written O.faults
-        E.written E.faults (door_by (link_by D.Link.had D.Link.left D.Link.written D.Link.faults)
+        E.written E.faults (door_by (link_by D.Link.had D.Link.left D.Link.left_before D.Link.written D.Link.faults)
         D.to_come D.taken_back D.open_at D.faults D.late) in
         HasDone built_in words.now (seen world.old) result (seen world.new) }
 {
@@ -74,7 +74,7 @@ pub fn top_alone<S: Store, F: Folder, O: Sink, E: Sink, D: Door, G: Gate>(
     requires { (command : Command) → Spells words.now command → NeedsThreads command → ⊥ }
     ensures door { world.new.door ≡ world.old.door }
     ensures done { let seen = seen_by S.files S.asked S.faults F.folders F.asked F.faults O.written O.faults
-        E.written E.faults (door_by (link_by D.Link.had D.Link.left D.Link.written D.Link.faults)
+        E.written E.faults (door_by (link_by D.Link.had D.Link.left D.Link.left_before D.Link.written D.Link.faults)
         D.to_come D.taken_back D.open_at D.faults D.late) in
         HasDone built_in words.now (seen world.old) result (seen world.new) }
 {
@@ -104,7 +104,7 @@ fn serve_words<
     // Each accepted link has gone back to the door.
     ensures out { D.out world.new.door ≡ 0 }
     ensures done { let seen = seen_by S.files S.asked S.faults F.folders F.asked F.faults O.written O.faults
-        E.written E.faults (door_by (link_by D.Link.had D.Link.left D.Link.written D.Link.faults)
+        E.written E.faults (door_by (link_by D.Link.had D.Link.left D.Link.left_before D.Link.written D.Link.faults)
         D.to_come D.taken_back D.open_at D.faults D.late) in
         HasDone built_in words.now (seen world.old) result (seen world.new) }
 {
@@ -149,7 +149,7 @@ pub fn top<
     // Each accepted link has gone back to the door.
     ensures out { D.out world.new.door ≡ 0 }
     ensures done { let seen = seen_by S.files S.asked S.faults F.folders F.asked F.faults O.written O.faults
-        E.written E.faults (door_by (link_by D.Link.had D.Link.left D.Link.written D.Link.faults)
+        E.written E.faults (door_by (link_by D.Link.had D.Link.left D.Link.left_before D.Link.written D.Link.faults)
         D.to_come D.taken_back D.open_at D.faults D.late) in
         HasDone built_in words.now (seen world.old) result (seen world.new) }
 {
@@ -194,7 +194,7 @@ pub fn answer<
     ensures words { IsErr words → (result ≡ Status.Memory) × (world.new ≡ world.old) }
     ensures world { IsErr world.old → result ≡ Status.Memory }
     ensures done { let seen = seen_by S.files S.asked S.faults F.folders F.asked F.faults O.written O.faults
-        E.written E.faults (door_by (link_by D.Link.had D.Link.left D.Link.written D.Link.faults)
+        E.written E.faults (door_by (link_by D.Link.had D.Link.left D.Link.left_before D.Link.written D.Link.faults)
         D.to_come D.taken_back D.open_at D.faults D.late) in
         IfOk words (λ given. IfOk world.old (λ before. IfOk world.new (λ after.
         HasDone built_in given (seen before) result (seen after)))) }

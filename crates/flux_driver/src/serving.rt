@@ -125,7 +125,7 @@ fn serve_batches<
     ensures later_log { O.faults log.old ≤ O.faults log.new }
     ensures served { let own : batches.Service = (record { program = arc_value served.now.program; framing = served.now.framing; meaning = L.meaning (arc_value served.now.library) }) in
         HasServedBy replying
-        (seen_by D.Link.had D.Link.left D.Link.written D.Link.faults)
+        (seen_by D.Link.had D.Link.left D.Link.left_before D.Link.written D.Link.faults)
         own wanted
         (sight_by D.to_come D.taken_back D.faults D.late door.old
         (record { written = O.written log.old; faults = O.faults log.old }))
@@ -197,7 +197,7 @@ pub fn serve_ready<
     ensures later_log { O.faults log.old ≤ O.faults log.new }
     ensures served { let own : batches.Service = (record { program = ready.checked.program; framing = ready.framing; meaning = L.meaning (arc_value ready.library) }) in
         HasServedBy service.entry.replying
-        (seen_by D.Link.had D.Link.left D.Link.written D.Link.faults)
+        (seen_by D.Link.had D.Link.left D.Link.left_before D.Link.written D.Link.faults)
         own service.entry.batches
         (sight_by D.to_come D.taken_back D.faults D.late door.old
         (record { written = O.written log.old; faults = O.faults log.old }))

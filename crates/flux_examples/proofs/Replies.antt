@@ -31,9 +31,9 @@ fit = record {
   front = inr (record { front = codes "a"; rest = codes "c"; is = refl; left = λ none. let same : 1 ≡ 0 = ap length none in omega (arith, same); gains = refl; rose = rose });
   nothing = refl;
   each = (
-    refl,
+    (refl, refl, refl),
     inl (record { gains = refl; steady = refl }),
-    (refl, inl (record { gains = refl; steady = refl }), refl),
+    ((refl, refl, refl), inl (record { gains = refl; steady = refl }), refl),
   );
   next = refl;
   same = refl;
@@ -45,5 +45,6 @@ misfit = record {
   other = not_one 98;
   failed = λ is. let same : 2 ≡ 0 = ap (λ (s : Stream). count_of s.written) is in omega (arith, same);
   crossed = λ are. not_other are.1;
-  exchanged = λ are. let same : 98 ≡ 97 = ap told_byte are.0 in omega (arith, same);
+  exchanged = λ are. let is = are.0 in let same : 98 ≡ 97 = ap told_byte is.0 in omega (arith, same);
+  read_on = λ are. let is = are.0 in let same : 0 ≡ 1 = ap count_of is.1 in omega (arith, same);
 }

@@ -25,7 +25,7 @@ fit = record {
   live = inl refl;
   whole = inr (refl, inl (record { gains = refl; steady = refl }));
   front = inr (refl, inr (record { front = codes "a"; rest = codes "c"; is = refl; left = λ none. let same : 1 ≡ 0 = ap length none in omega (arith, same); gains = refl; rose = rose }));
-  each = (refl, inr (refl, inl (record { gains = refl; steady = refl })), (refl, inl refl, tt));
+  each = ((refl, refl, refl), inr (refl, inl (record { gains = refl; steady = refl })), ((refl, refl, refl), inl refl, tt));
 }
 
 pub misfit : AtOnceMisfits

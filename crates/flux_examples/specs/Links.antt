@@ -1,10 +1,11 @@
 -- What links send.
-use Rattle.std.specs.Prelude.{◌≡◌, ℕ, List, [], ◌∷◌, ◌++◌, codes}
+use Rattle.std.specs.Prelude.{◌≡◌, ℕ, List, [], ◌∷◌, ◌++◌, codes, Some}
 use Rattle.flux_doors.specs.declared.framing.Framing.TheVariants.{Head, Line}
 use Rattle.flux_batches.specs.declared.reading.Sent.TheVariants.{Text, Failed, Memory}
 use Rattle.flux_doors.specs.Texts.{text_of}
-use Rattle.flux_batches.specs.Links.{Seen, IsSent, WereRead, link_item, items_from}
-use Rattle.flux_examples.specs.SmallServing.{link, told, itself, read}
+use Rattle.flux_batches.specs.Links.{Seen, HadNotEnded, IsReadNoFurther, IsSent, WereRead}
+use Rattle.flux_batches.specs.Links.{link_item, items_from}
+use Rattle.flux_examples.specs.SmallServing.{link, link_of, told, itself, read}
 
 -- CR LF
 abbrev pub crlf : List ℕ
@@ -18,12 +19,23 @@ fresh bytes = link bytes [] 0
 abbrev pub spent : List ℕ → Seen
 spent bytes = told bytes []
 
+-- a line, and a byte after it
+abbrev pub more_than_a_line : List ℕ
+more_than_a_line = codes "a" ++ 10 ∷ codes "b"
+
+-- a link that had these bytes: its line was read, and then, by one more read, the byte after it
+abbrev pub read_on : Seen
+read_on = link_of more_than_a_line [] (codes "b") [] 0
+
 pub record LinksFit : Type 0 where
   -- a line goes up to its end, which it loses, or is all that comes
   pub line : text_of Line (codes "add 5" ++ crlf ++ codes "get") ≡ codes "add 5"
   pub rest : text_of Line (codes "get") ≡ codes "get"
   -- a head goes up to its empty line, which it keeps
   pub head : text_of Head (codes "GET" ++ crlf ++ crlf ++ codes "x") ≡ codes "GET" ++ crlf ++ crlf
+  -- before its LF was read, a line hadn't ended; one read may give the line and a byte after it
+  pub unended : HadNotEnded Line (Some more_than_a_line) (Some (10 ∷ codes "b"))
+  pub no_further : IsReadNoFurther Line (fresh more_than_a_line) (spent more_than_a_line)
   -- a link was read; or it failed, and its count rose; or memory was short, and its count is as before
   pub sent : IsSent Line (fresh (codes "a")) (spent (codes "a")) (Text (codes "a"))
   pub failed : IsSent Line (fresh (codes "a")) (link (codes "a") [] 1) Failed
@@ -39,6 +51,10 @@ pub record LinksFit : Type 0 where
 pub record LinksMisfit : Type 0 where
   -- a line doesn't keep its CR
   pub line : text_of Line (codes "add 5" ++ crlf) ≡ codes "add 5" ++ 13 ∷ [] → ⊥
+  -- a line had ended before the byte after it was read, so no read was to be made for that byte
+  pub unended : HadNotEnded Line (Some more_than_a_line) (Some (codes "b")) → ⊥
+  pub no_further : IsReadNoFurther Line (fresh more_than_a_line) read_on → ⊥
+  pub sent_on : IsSent Line (fresh more_than_a_line) read_on (Text (codes "a")) → ⊥
   -- another text than came
   pub sent : IsSent Line (fresh (codes "a")) (spent (codes "a")) (Text (codes "b")) → ⊥
   -- a link that failed isn't answered as want of memory

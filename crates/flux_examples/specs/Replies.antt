@@ -4,12 +4,20 @@ use Rattle.flux_batches.specs.declared.reading.Sent.TheVariants.{Text, Failed}
 use Rattle.flux_batches.specs.declared.reading.ReadLink.{ReadLink}
 use Rattle.flux_batches.specs.Links.{Seen}
 use Rattle.flux_batches.specs.Replies.{reply_of, IsAnswered, AreAnswered, flow_behind}
-use Rattle.flux_examples.specs.SmallServing.{link, told, itself, read, spoken, echoed}
+use Rattle.flux_examples.specs.SmallServing.{link, link_of, told, itself, read, spoken, echoed}
 
 -- two links that were read, of which each has sent its own text
 abbrev pub both : List (ReadLink Seen)
 both =
     read (told (codes "a") []) (Text (codes "a")) ∷ read (told (codes "b") []) (Text (codes "b")) ∷ []
+
+-- a link of which the first byte was read, and that has one left
+abbrev pub one_left : ReadLink Seen
+one_left = read (link_of (codes "ab") (codes "b") (codes "ab") [] 0) (Text (codes "a"))
+
+-- the same link, with the other byte read and the reply written
+abbrev pub none_left : Seen
+none_left = link_of (codes "ab") [] (codes "b") (codes "p") 0
 
 pub record RepliesFit : Type 0 where
   -- each flow's own emissions, in order
@@ -39,3 +47,5 @@ pub record RepliesMisfit : Type 0 where
       (told (codes "a") (codes "q") ∷ told (codes "b") (codes "p") ∷ []) [] → ⊥
   pub exchanged : AreAnswered itself echoed 0 both
       (told (codes "b") (codes "p") ∷ told (codes "a") (codes "q") ∷ []) [] → ⊥
+  -- no more of a link is read while it is answered
+  pub read_on : AreAnswered itself echoed 0 (one_left ∷ []) (none_left ∷ []) [] → ⊥

@@ -17,22 +17,24 @@ use Rattle.flux_serve.specs.Ends.{Sight}
 
 -- ---- links, by what is seen of them
 
--- a link whose client sends some bytes, with bytes left to read, bytes written, and a count of faults
-abbrev pub link_of : List ℕ → List ℕ → List ℕ → ℕ → Seen
-link_of had left written faults = record {
+-- a link whose client sends some bytes, with bytes left to read, those left before its last read, bytes
+-- written, and a count of faults
+abbrev pub link_of : List ℕ → List ℕ → List ℕ → List ℕ → ℕ → Seen
+link_of had left left_before written faults = record {
   had = Some had;
   left = Some left;
+  left_before = Some left_before;
   written = Some written;
   faults = faults;
 }
 
 -- one of which nothing was read yet
 abbrev pub link : List ℕ → List ℕ → ℕ → Seen
-link left written faults = link_of left left written faults
+link left written faults = link_of left left left written faults
 
--- one that was read whole and hasn't failed, with bytes written
+-- one that was read whole by one read and hasn't failed, with bytes written
 abbrev pub told : List ℕ → List ℕ → Seen
-told had written = link_of had [] written 0
+told had written = link_of had [] had written 0
 
 -- what is seen of it is the link itself
 abbrev pub itself : Seen → Seen

@@ -92,7 +92,7 @@ fn answer_in<S: Store, F: Folder, O: Sink, E: Sink, D: Door, Rt: Threads + Wait 
     ensures words { IsErr words → exit_status result ≡ code_of Status.Memory }
     ensures world { IsErr world.old → exit_status result ≡ code_of Status.Memory }
     ensures done { let seen = seen_by S.files S.asked S.faults F.folders F.asked F.faults O.written O.faults
-        E.written E.faults (door_by (link_by D.Link.had D.Link.left D.Link.written D.Link.faults)
+        E.written E.faults (door_by (link_by D.Link.had D.Link.left D.Link.left_before D.Link.written D.Link.faults)
         D.to_come D.taken_back D.open_at D.faults D.late) in
         IfOk words (λ given. IfOk world.old (λ before. IfOk world.new (λ after.
         (status : Status) × (exit_status result ≡ code_of status)

@@ -62,11 +62,11 @@ module _ {L : Type 0} (see : L → Seen) where
   taken_seen None after links taken = ap (option_map (map see)) taken
   taken_seen (Some before) after links taken = ap (option_map (map see)) taken ∙ ap Some (map-append see before links)
 
-  unwritten_seen : (links backs : List L) → AreUnwritten see links backs → AreUnwritten itself (map see links) (map see backs)
-  unwritten_seen [] [] un = tt
-  unwritten_seen [] (back ∷ backs) un = absurd un
-  unwritten_seen (link ∷ links) [] un = absurd un
-  unwritten_seen (link ∷ links) (back ∷ backs) un = (un.0, un.1, unwritten_seen links backs un.2)
+  unwritten_seen : (framing : Framing) (links backs : List L) → AreUnwritten see framing links backs → AreUnwritten itself framing (map see links) (map see backs)
+  unwritten_seen framing [] [] un = tt
+  unwritten_seen framing [] (back ∷ backs) un = absurd un
+  unwritten_seen framing (link ∷ links) [] un = absurd un
+  unwritten_seen framing (link ∷ links) (back ∷ backs) un = (un.0, un.1, un.2, unwritten_seen framing links backs un.3)
 
   -- ---- links that were read
 
@@ -160,14 +160,14 @@ module _ {L : Type 0} (see : L → Seen) where
   formed_seen before after came (inl formed) = inl (gathered_seen before.to_come after.to_come before.late after.late came formed)
   formed_seen before after came (inr none) = inr (ap (map see) none.0, ap (option_map (map (map see))) none.1, none.2)
 
-  undriven_seen : (before after : Sight L) → IsUndriven see before after → IsUndriven itself (as_seen see before) (as_seen see after)
-  undriven_seen before after u = record {
+  undriven_seen : (framing : Framing) (before after : Sight L) → IsUndriven see framing before after → IsUndriven itself framing (as_seen see before) (as_seen see after)
+  undriven_seen framing before after u = record {
     came = map see u.came;
     backs = map see u.backs;
     formed = formed_seen before after u.came u.formed;
     size = rw (length-map u.came see) u.size;
     back = taken_seen before.taken_back after.taken_back u.backs u.back;
-    unwritten = unwritten_seen u.came u.backs u.unwritten;
+    unwritten = unwritten_seen framing u.came u.backs u.unwritten;
     steady = u.steady;
     log_ = u.log_;
   }
@@ -178,7 +178,7 @@ module _ {L : Type 0} (see : L → Seen) where
   stopped_seen service opening count number before after Counted s = absurd s
   stopped_seen service opening count number before after Door s = (s.0, ap (option_map (map see)) s.1, s.2, ap (option_map (map (map see))) s.3, s.4)
   stopped_seen service opening count number before after Log s = (batch_seen s.0, has_driven service opening count number s.0 before after Broke s.1)
-  stopped_seen service opening count number before after Memory (inl s) = inl (undriven_seen before after s)
+  stopped_seen service opening count number before after Memory (inl s) = inl (undriven_seen service.framing before after s)
   stopped_seen service opening count number before after Memory (inr s) = inr (batch_seen s.0, has_driven service opening count number s.0 before after Stands s.1)
 
   -- after the same batches

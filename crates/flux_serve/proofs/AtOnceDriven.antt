@@ -110,6 +110,6 @@ module _ {L : Type 0} (see : L → Seen) (service : Service) (opening : Cells) (
 
 -- no batch was driven, and so none was at once
 pub none_at_once : {L : Type 0} → (see : L → Seen) (service : Service) (opening : Cells) (number : ℕ) (before after : Sight L)
-    (result : Result Run ServeEnd) → IfErr result (IsNone see before after) → IfErr result (IsNoneAtOnce see service opening number before after)
+    (result : Result Run ServeEnd) → IfErr result (IsNone see service.framing before after) → IfErr result (IsNoneAtOnce see service opening number before after)
 none_at_once see service opening number before after (Ok run) none = tt
 none_at_once see service opening number before after (Err end) none = inl none

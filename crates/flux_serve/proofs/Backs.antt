@@ -12,7 +12,7 @@ use Rattle.flux_outside.specs.Streams.{WroteOrBroke}
 use Rattle.flux_batches.specs.declared.reading.Sent.{Sent}
 use Rattle.flux_batches.specs.declared.reading.Sent.TheVariants.{Text, Failed, Memory}
 use Rattle.flux_batches.specs.declared.reading.ReadLink.{ReadLink}
-use Rattle.flux_batches.specs.Links.{Seen, IsSame, stream_of}
+use Rattle.flux_batches.specs.Links.{Seen, IsUnread, stream_of}
 use Rattle.flux_batches.specs.Replies.{reply_of, flow_behind, IsAnswered, AreAnswered}
 use Rattle.flux_serve.specs.AtOnce.{IsAnsweredSoFar, AreAnsweredSoFar}
 use Rattle.flux_serve.specs.declared.replies.PendingReply.{PendingReply}
@@ -94,7 +94,7 @@ module _ {K : Type 0} (see : K → Seen) (setup : Setup) (entries : List Entry) 
 -- one link more
 pub back-more : {K : Type 0} → (see : K → Seen) (whole : Bool) (entries : List Entry) (flow : ℕ) (requests : List (ReadLink K)) (backs : List K)
     (request : ReadLink K) (rest : List (ReadLink K)) (next : ℕ) (link : K)
-    → AreBack see whole entries flow requests backs (request ∷ rest) next → IsSame (see request.link) (see link)
+    → AreBack see whole entries flow requests backs (request ∷ rest) next → IsUnread (see request.link) (see link)
     → IsBack whole entries next (see request.link) (see link) request.sent
     → AreBack see whole entries flow requests (backs ++ link ∷ []) rest (flow_behind next request.sent)
 back-more {K} see whole entries flow requests [] request rest next link back same is =
@@ -128,7 +128,7 @@ module _ {K : Type 0} (see : K → Seen) (entries : List Entry) where
   answered-stood whole before old fresh (inl same) over =
       let P : PendingReply K → Type 0 = λ reply. ((whole ≡ true → (let request = reply.request in HasText request.sent) → reply.written ≡ true)
       → (let request = reply.request in IsBackOf see whole entries before request.link)) in
-      subst P (sym same) (λ over'. (refl, inl (by whole over'))) over
+      subst P (sym same) (λ over'. ((refl, refl, refl), inl (by whole over'))) over
     where
       request : ReadLink K
       request = before.request
@@ -143,14 +143,14 @@ module _ {K : Type 0} (see : K → Seen) (entries : List Entry) where
   -- it was
   pub answered-now : (before old : PendingReply K) (link : K) → before.written ≡ false → IsReplySoFar see entries before old
       → (let request = old.request in HasText request.sent) → old.written ≡ false
-      → (let request = old.request in IsSame (see request.link) (see link))
+      → (let request = old.request in IsUnread (see request.link) (see link))
       → (let request = old.request in let flow = old.flow in WroteOrBroke (stream_of (see request.link)) (stream_of (see link)) (reply_of flow.0 entries))
       → IsBackOf see true entries before link
   answered-now before old link fresh (inr was) has unwritten same wrote =
       let is : false ≡ true = sym unwritten ∙ was.written_ in absurd cc
   answered-now before old link fresh (inl is) has unwritten same wrote =
       let P : PendingReply K → Type 0 = λ reply. (let request = reply.request in HasText request.sent)
-      → (let request = reply.request in IsSame (see request.link) (see link))
+      → (let request = reply.request in IsUnread (see request.link) (see link))
       → (let request = reply.request in let flow = reply.flow in WroteOrBroke (stream_of (see request.link)) (stream_of (see link)) (reply_of flow.0 entries))
       → IsBackOf see true entries before link in
       subst P (sym is) (λ has' same' wrote'. let request = before.request in let flow = before.flow in

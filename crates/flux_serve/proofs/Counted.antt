@@ -48,7 +48,7 @@ module _ {L : Type 0} (see : L → Seen) (service : Service) where
       one Log other e = let driven = e.1.1 in driven.steady
       one Memory other e = memory e.1
         where
-          memory : IsUndriven see s.mid after ⊎ ((batch : Batch L) × HasDriven see service (cells_at_end service empty_cells 0 s.batches) (length s.batches) (number_at_end 0 s.batches) batch s.mid after Stands) → (let mid = s.mid in after.faults ≡ mid.faults)
+          memory : IsUndriven see service.framing s.mid after ⊎ ((batch : Batch L) × HasDriven see service (cells_at_end service empty_cells 0 s.batches) (length s.batches) (number_at_end 0 s.batches) batch s.mid after Stands) → (let mid = s.mid in after.faults ≡ mid.faults)
           memory (inl undriven) = undriven.steady
           memory (inr (batch, driven)) = driven.steady
 
@@ -74,6 +74,6 @@ module _ {L : Type 0} (see : L → Seen) (service : Service) where
       one Log other e = absurd (other refl)
       one Memory other e = memory e.1
         where
-          memory : IsUndriven see s.mid after ⊎ ((batch : Batch L) × HasDriven see service (cells_at_end service empty_cells 0 s.batches) (length s.batches) (number_at_end 0 s.batches) batch s.mid after Stands) → log_faults after ≡ log_faults s.mid
+          memory : IsUndriven see service.framing s.mid after ⊎ ((batch : Batch L) × HasDriven see service (cells_at_end service empty_cells 0 s.batches) (length s.batches) (number_at_end 0 s.batches) batch s.mid after Stands) → log_faults after ≡ log_faults s.mid
           memory (inl undriven) = stood s.mid undriven.log_
           memory (inr (batch, driven)) = stood s.mid driven.gained

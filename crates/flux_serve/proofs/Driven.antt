@@ -75,7 +75,7 @@ ran_of {L} see service opening number before after requests run p =
 -- links that were read went back
 pub undriven_of : {L : Type 0} (see : L → Seen) (framing : Framing) (before after : Sight L) (come : Option (List (List L))) (back : Option (List L)) (late : ℕ) (requests : List (ReadLink L))
     → IsTaken see framing before.to_come come before.late late requests → back ≡ before.taken_back → TakesBack back after.taken_back (map (λ request. request.link) requests)
-    → after.to_come ≡ come → after.late ≡ late → after.faults ≡ before.faults → after.log ≡ before.log → IsUndriven see before after
+    → after.to_come ≡ come → after.late ≡ late → after.faults ≡ before.faults → after.log ≡ before.log → IsUndriven see framing before after
 undriven_of {L} see framing before after come back late requests t same taken come_ late_ steady log_ =
     let backs = map (λ request. request.link) requests in
     let T : Option (List L) → Type 0 = λ b. TakesBack b after.taken_back backs in
@@ -93,7 +93,7 @@ undriven_of {L} see framing before after come back late requests t same taken co
     }
 
 -- no batch was driven
-pub stopped_none : {L : Type 0} (see : L → Seen) (service : Service) (opening : Cells) (count number : ℕ) (before after : Sight L) (end : ServeEnd) → IsNone see before after end → HasStopped see service opening count number before after end
+pub stopped_none : {L : Type 0} (see : L → Seen) (service : Service) (opening : Cells) (count number : ℕ) (before after : Sight L) (end : ServeEnd) → IsNone see service.framing before after end → HasStopped see service opening count number before after end
 stopped_none see service opening count number before after Closed n = n
 stopped_none see service opening count number before after Counted n = absurd n
 stopped_none see service opening count number before after Door n = n

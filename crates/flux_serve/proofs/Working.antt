@@ -17,7 +17,7 @@ use Rattle.flow_shared.specs.Turns.{IsTurnOf, given}
 use Rattle.flow_shared.specs.declared.seats.SharedTurn.{SharedTurn}
 use Rattle.flux_laws.specs.Growth.{has_ended}
 use Rattle.flux_outside.specs.Streams.{WroteOrBroke}
-use Rattle.flux_batches.specs.Links.{Seen, IsSame, stream_of}
+use Rattle.flux_batches.specs.Links.{Seen, IsUnread, stream_of}
 use Rattle.flux_batches.specs.Replies.{reply_of}
 use Rattle.flux_serve.specs.declared.replies.PendingReply.{PendingReply}
 use Rattle.flux_serve.specs.steps.PendingReplies.{HasText, IsReplySoFar, AreRepliesSoFar}
@@ -74,7 +74,7 @@ module _ {K : Type 0} (see : K → Seen) where
 
   -- a reply was written, of what a worker saw
   pub replied-so : (seen : List Entry) (old new : PendingReply K) → (let request = old.request in HasText request.sent)
-      → (let request = old.request in let request' = new.request in IsSame (see request.link) (see request'.link))
+      → (let request = old.request in let request' = new.request in IsUnread (see request.link) (see request'.link))
       → (let request = old.request in let request' = new.request in request'.sent ≡ request.sent)
       → new.written ≡ true → (let flow = old.flow in has_ended seen flow.0 ≡ true)
       → (let request = old.request in let request' = new.request in let flow = old.flow in

@@ -9,7 +9,7 @@ use Rattle.flux_batches.specs.declared.reading.Sent.{Sent}
 use Rattle.flux_batches.specs.declared.reading.Sent.TheVariants.{Text, Failed}
 use Rattle.flux_batches.specs.declared.reading.Sent.TheVariants as sents
 use Rattle.flux_batches.specs.declared.reading.ReadLink.{ReadLink}
-use Rattle.flux_batches.specs.Links.{Seen, IsSame, WereRead, AreRead, stream_of}
+use Rattle.flux_batches.specs.Links.{Seen, IsUnread, WereRead, AreRead, stream_of}
 use Rattle.flux_batches.specs.Replies.{reply_of, flow_behind, TakesBack}
 use Rattle.flux_batches.specs.Gathered.{AreGathered}
 use Rattle.flux_serve.specs.declared.batches.ServeEnd.{ServeEnd}
@@ -36,7 +36,7 @@ AreAnsweredSoFar see entries flow [] [] = Unit {0}
 AreAnsweredSoFar see entries flow [] (back ∷ backs) = ⊥
 AreAnsweredSoFar see entries flow (request ∷ rest) [] = ⊥
 AreAnsweredSoFar see entries flow (request ∷ rest) (back ∷ backs) =
-    IsSame (see request.link) (see back)
+    IsUnread (see request.link) (see back)
     × IsAnsweredSoFar entries flow (see request.link) (see back) request.sent
     × AreAnsweredSoFar see entries (flow_behind flow request.sent) rest backs
 

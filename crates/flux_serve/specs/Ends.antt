@@ -6,7 +6,8 @@ use Rattle.flow_model.specs.Keys.{Cells}
 use Rattle.flux_outside.specs.Causes.{Rose}
 use Rattle.flux_outside.specs.Streams.{Stream, Wrote, Broke}
 use Rattle.flux_doors.specs.Doors.{waiting, first_link}
-use Rattle.flux_batches.specs.Links.{Seen, IsSame}
+use Rattle.flux_doors.specs.declared.framing.Framing.{Framing}
+use Rattle.flux_batches.specs.Links.{Seen, IsSame, IsUnread, IsReadNoFurther}
 use Rattle.flux_batches.specs.Replies.{TakesBack}
 use Rattle.flux_batches.specs.Gathered.{AreGathered}
 use Rattle.flux_serve.specs.declared.batches.ServeEnd.{ServeEnd}
@@ -70,25 +71,28 @@ number_at_end number (batch ∷ batches) = number_at_end (number_behind number b
 
 -- ---- the end
 
--- links went back, each at its place, with nothing written on them
-abbrev pub AreUnwritten : {L : Type 0} → (L → Seen) → List L → List L → Type 0
-AreUnwritten see [] [] = Unit {0}
-AreUnwritten see (link ∷ links) (back ∷ backs) =
+-- links went back, each at its place, with nothing written on them; each wasn't read, or no further
+-- than its text needs
+abbrev pub AreUnwritten : {L : Type 0} → (L → Seen) → Framing → List L → List L → Type 0
+AreUnwritten see framing [] [] = Unit {0}
+AreUnwritten see framing (link ∷ links) (back ∷ backs) =
     let old = see link in let new = see back in
-    IsSame old new × (new.written ≡ old.written) × AreUnwritten see links backs
-AreUnwritten see [] (back ∷ backs) = ⊥
-AreUnwritten see (link ∷ links) [] = ⊥
+    IsSame old new × (new.written ≡ old.written)
+    × (IsUnread old new ⊎ IsReadNoFurther framing old new) × AreUnwritten see framing links backs
+AreUnwritten see framing [] (back ∷ backs) = ⊥
+AreUnwritten see framing (link ∷ links) [] = ⊥
 
 -- a batch that wasn't driven: the first links of the door's next batch, at most 64; or none, where
 -- the door gave nothing; the log and the door's count are as before
-pub record IsUndriven {L : Type 0} (see : L → Seen) (before after : Sight L) : Type 0 where
+pub record IsUndriven {L : Type 0} (see : L → Seen) (framing : Framing) (before after : Sight L)
+    : Type 0 where
   pub came : List L
   pub backs : List L
   pub formed : AreGathered before.to_come after.to_come before.late after.late came
       ⊎ ((came ≡ []) × (after.to_come ≡ before.to_come) × (after.late ≡ before.late))
   pub size : length came ≤ 64
   pub back : TakesBack before.taken_back after.taken_back backs
-  pub unwritten : AreUnwritten see came backs
+  pub unwritten : AreUnwritten see framing came backs
   pub steady : after.faults ≡ before.faults
   pub log_ : after.log ≡ before.log
 
@@ -110,7 +114,7 @@ HasStopped see service opening count number before after Door =
 HasStopped {L} see service opening count number before after Log =
     (batch : Batch L) × HasDriven see service opening count number batch before after Broke
 HasStopped {L} see service opening count number before after Memory =
-    IsUndriven see before after
+    IsUndriven see service.framing before after
     ⊎ ((batch : Batch L) × HasDriven see service opening count number batch before after Stands)
 
 -- as many batches as were wanted, or fewer

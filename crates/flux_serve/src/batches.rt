@@ -61,7 +61,7 @@ pub fn take<D: Door, Rt: Threads + Sync>(
 ) -> Result<VecDeque<ReadLink<D::Link>>, ServeEnd>
     requires { D.out door.old ≡ 0 }
     ensures taken { IfOk result (λ requests. IsTaken
-        (seen_by D.Link.had D.Link.left D.Link.written D.Link.faults)
+        (seen_by D.Link.had D.Link.left D.Link.left_before D.Link.written D.Link.faults)
         framing (D.to_come door.old) (D.to_come door.new) (D.late door.old) (D.late door.new) requests.items) }
     ensures out { IfOk result (λ requests. (D.out door.new ≡ deque_len requests) × (deque_len requests ≤ 64)) }
     ensures some { IfOk result (λ requests. 0 < deque_len requests) }
@@ -71,7 +71,7 @@ pub fn take<D: Door, Rt: Threads + Sync>(
     ensures none_out { OnErr result (D.out door.new ≡ 0) }
     ensures later { (D.faults door.old ≤ D.faults door.new) × (D.late door.old ≤ D.late door.new) }
     ensures none { (log : Stream) → IfErr result (IsNone
-        (seen_by D.Link.had D.Link.left D.Link.written D.Link.faults)
+        (seen_by D.Link.had D.Link.left D.Link.left_before D.Link.written D.Link.faults) framing
         (sight_in D.to_come D.taken_back D.faults D.late door.old log)
         (sight_in D.to_come D.taken_back D.faults D.late door.new log)) }
 {
@@ -159,12 +159,12 @@ pub fn drive_batch<
     ensures later { (D.faults door.old ≤ D.faults door.new) × (D.late door.old ≤ D.late door.new) }
     ensures bound { IfOk result (λ run. run.next ≤ number + 64) }
     ensures ran { (log : Stream) → IfOk result (HasRun
-        (seen_by D.Link.had D.Link.left D.Link.written D.Link.faults)
+        (seen_by D.Link.had D.Link.left D.Link.left_before D.Link.written D.Link.faults)
         (service_in L.meaning served.now) (cells_of opening) number
         (sight_in D.to_come D.taken_back D.faults D.late door.old log)
         (sight_in D.to_come D.taken_back D.faults D.late door.new log)) }
     ensures none { (log : Stream) → IfErr result (IsNone
-        (seen_by D.Link.had D.Link.left D.Link.written D.Link.faults)
+        (seen_by D.Link.had D.Link.left D.Link.left_before D.Link.written D.Link.faults) served.now.framing
         (sight_in D.to_come D.taken_back D.faults D.late door.old log)
         (sight_in D.to_come D.taken_back D.faults D.late door.new log)) }
 {

@@ -99,7 +99,7 @@ fn run_queues<L: Library + Send + Sync, D: Door, G: Gate + Sync, Rt: Threads + W
     ensures broken { result.2 ≡ false → IsWhole (setup_in L.meaning core) result.0.entries → ⊥ }
     ensures cells { cells_of result.1 ≡ cells_after (setup_in L.meaning core) result.0.entries }
     ensures back { (backs : List D.Link) × (next : ℕ) × TakesBack (D.taken_back door.old) (D.taken_back door.new) backs
-        × AreBack (seen_by D.Link.had D.Link.left D.Link.written D.Link.faults) result.2 result.0.entries 0
+        × AreBack (seen_by D.Link.had D.Link.left D.Link.left_before D.Link.written D.Link.faults) result.2 result.0.entries 0
         links.items backs [] next }
     ensures kept { D.to_come door.new ≡ D.to_come door.old }
     ensures open { D.open_at door.new ≡ D.open_at door.old }
@@ -162,12 +162,12 @@ pub fn drive_batch_at_once<
     ensures later { (D.faults door.old ≤ D.faults door.new) × (D.late door.old ≤ D.late door.new) }
     ensures bound { IfOk result (λ run. run.next ≤ number + 64) }
     ensures ran { (log : Stream) → IfOk result (HasRun
-        (seen_by D.Link.had D.Link.left D.Link.written D.Link.faults)
+        (seen_by D.Link.had D.Link.left D.Link.left_before D.Link.written D.Link.faults)
         (service_in L.meaning served.now) (cells_of opening) number
         (sight_in D.to_come D.taken_back D.faults D.late door.old log)
         (sight_in D.to_come D.taken_back D.faults D.late door.new log)) }
     ensures none { (log : Stream) → IfErr result (IsNoneAtOnce
-        (seen_by D.Link.had D.Link.left D.Link.written D.Link.faults)
+        (seen_by D.Link.had D.Link.left D.Link.left_before D.Link.written D.Link.faults)
         (service_in L.meaning served.now) (cells_of opening) number
         (sight_in D.to_come D.taken_back D.faults D.late door.old log)
         (sight_in D.to_come D.taken_back D.faults D.late door.new log)) }

@@ -27,36 +27,36 @@ fn drive_next<L: Library, D: Door, S, F: Fn(&mut S, &mut D, Cells, u64) -> Resul
     number: u64,
 ) -> Result<Run, ServeEnd>
     requires may { MayDrive F.Fn drive.now
-        (tells_by (seen_by D.Link.had D.Link.left D.Link.written D.Link.faults)
+        (tells_by (seen_by D.Link.had D.Link.left D.Link.left_before D.Link.written D.Link.faults)
         D.to_come D.taken_back D.open_at D.out D.faults D.late) state.old }
     requires drives { Drives F.Fn drive.now
-        (tells_by (seen_by D.Link.had D.Link.left D.Link.written D.Link.faults)
+        (tells_by (seen_by D.Link.had D.Link.left D.Link.left_before D.Link.written D.Link.faults)
         D.to_come D.taken_back D.open_at D.out D.faults D.late)
-        (ends_at_once (seen_by D.Link.had D.Link.left D.Link.written D.Link.faults) (service_in L.meaning served.now))
+        (ends_at_once (seen_by D.Link.had D.Link.left D.Link.left_before D.Link.written D.Link.faults) (service_in L.meaning served.now))
         (service_in L.meaning served.now) }
     requires out { D.out door.old ≡ 0 }
     requires numbers { number + 64 < 2 ^ 63 }
     ensures again { MayDrive F.Fn drive.now
-        (tells_by (seen_by D.Link.had D.Link.left D.Link.written D.Link.faults)
+        (tells_by (seen_by D.Link.had D.Link.left D.Link.left_before D.Link.written D.Link.faults)
         D.to_come D.taken_back D.open_at D.out D.faults D.late) state.new }
     ensures out { D.out door.new ≡ 0 }
     ensures open { D.open_at door.new ≡ D.open_at door.old }
     ensures later { (D.faults door.old ≤ D.faults door.new) × (D.late door.old ≤ D.late door.new) }
     ensures bound { IfOk result (λ run. run.next ≤ number + 64) }
-    ensures ran { (log : Stream) → IfOk result (HasRun (seen_by D.Link.had D.Link.left D.Link.written D.Link.faults)
+    ensures ran { (log : Stream) → IfOk result (HasRun (seen_by D.Link.had D.Link.left D.Link.left_before D.Link.written D.Link.faults)
         (service_in L.meaning served.now) (cells_of opening) number
         (sight_in D.to_come D.taken_back D.faults D.late door.old log)
         (sight_in D.to_come D.taken_back D.faults D.late door.new log)) }
-    ensures none { (log : Stream) → IfErr result (IsNoneAtOnce (seen_by D.Link.had D.Link.left D.Link.written D.Link.faults)
+    ensures none { (log : Stream) → IfErr result (IsNoneAtOnce (seen_by D.Link.had D.Link.left D.Link.left_before D.Link.written D.Link.faults)
         (service_in L.meaning served.now) (cells_of opening) number
         (sight_in D.to_come D.taken_back D.faults D.late door.old log)
         (sight_in D.to_come D.taken_back D.faults D.late door.new log)) }
     ensures before { Drives F.Fn drive.now
-        (tells_by (seen_by D.Link.had D.Link.left D.Link.written D.Link.faults)
+        (tells_by (seen_by D.Link.had D.Link.left D.Link.left_before D.Link.written D.Link.faults)
         D.to_come D.taken_back D.open_at D.out D.faults D.late)
-        (ends_before (seen_by D.Link.had D.Link.left D.Link.written D.Link.faults))
+        (ends_before (seen_by D.Link.had D.Link.left D.Link.left_before D.Link.written D.Link.faults) served.now.framing)
         (service_in L.meaning served.now)
-        → (log : Stream) → IfErr result (IsNone (seen_by D.Link.had D.Link.left D.Link.written D.Link.faults)
+        → (log : Stream) → IfErr result (IsNone (seen_by D.Link.had D.Link.left D.Link.left_before D.Link.written D.Link.faults) served.now.framing
         (sight_in D.to_come D.taken_back D.faults D.late door.old log)
         (sight_in D.to_come D.taken_back D.faults D.late door.new log)) }
 {
@@ -82,42 +82,42 @@ fn serve_batch<
     number: u64,
 ) -> Result<(Cells, u64), ServeEnd>
     requires may { MayDrive F.Fn drive.now
-        (tells_by (seen_by D.Link.had D.Link.left D.Link.written D.Link.faults)
+        (tells_by (seen_by D.Link.had D.Link.left D.Link.left_before D.Link.written D.Link.faults)
         D.to_come D.taken_back D.open_at D.out D.faults D.late) state.old }
     requires drives { Drives F.Fn drive.now
-        (tells_by (seen_by D.Link.had D.Link.left D.Link.written D.Link.faults)
+        (tells_by (seen_by D.Link.had D.Link.left D.Link.left_before D.Link.written D.Link.faults)
         D.to_come D.taken_back D.open_at D.out D.faults D.late)
-        (ends_at_once (seen_by D.Link.had D.Link.left D.Link.written D.Link.faults) (service_in L.meaning served.now))
+        (ends_at_once (seen_by D.Link.had D.Link.left D.Link.left_before D.Link.written D.Link.faults) (service_in L.meaning served.now))
         (service_in L.meaning served.now) }
     requires out { D.out door.old ≡ 0 }
     requires numbers { number + 64 < 2 ^ 63 }
     ensures again { MayDrive F.Fn drive.now
-        (tells_by (seen_by D.Link.had D.Link.left D.Link.written D.Link.faults)
+        (tells_by (seen_by D.Link.had D.Link.left D.Link.left_before D.Link.written D.Link.faults)
         D.to_come D.taken_back D.open_at D.out D.faults D.late) state.new }
     ensures out { D.out door.new ≡ 0 }
     ensures open { D.open_at door.new ≡ D.open_at door.old }
     ensures later { (D.faults door.old ≤ D.faults door.new) × (D.late door.old ≤ D.late door.new) }
     ensures later_log { O.faults log.old ≤ O.faults log.new }
     ensures bound { IfOk result (λ next. next.1 ≤ number + 64) }
-    ensures passed { IfOk result (λ next. HasPassed (seen_by D.Link.had D.Link.left D.Link.written D.Link.faults)
+    ensures passed { IfOk result (λ next. HasPassed (seen_by D.Link.had D.Link.left D.Link.left_before D.Link.written D.Link.faults)
         (service_in L.meaning served.now) (cells_of opening) count number
         (sight_in D.to_come D.taken_back D.faults D.late door.old
         (record { written = O.written log.old; faults = O.faults log.old }))
         (sight_in D.to_come D.taken_back D.faults D.late door.new
         (record { written = O.written log.new; faults = O.faults log.new }))
         (cells_of next.0) next.1) }
-    ensures stopped { IfErr result (StopsAtOnce (seen_by D.Link.had D.Link.left D.Link.written D.Link.faults)
+    ensures stopped { IfErr result (StopsAtOnce (seen_by D.Link.had D.Link.left D.Link.left_before D.Link.written D.Link.faults)
         (service_in L.meaning served.now) (cells_of opening) count number
         (sight_in D.to_come D.taken_back D.faults D.late door.old
         (record { written = O.written log.old; faults = O.faults log.old }))
         (sight_in D.to_come D.taken_back D.faults D.late door.new
         (record { written = O.written log.new; faults = O.faults log.new }))) }
     ensures before { Drives F.Fn drive.now
-        (tells_by (seen_by D.Link.had D.Link.left D.Link.written D.Link.faults)
+        (tells_by (seen_by D.Link.had D.Link.left D.Link.left_before D.Link.written D.Link.faults)
         D.to_come D.taken_back D.open_at D.out D.faults D.late)
-        (ends_before (seen_by D.Link.had D.Link.left D.Link.written D.Link.faults))
+        (ends_before (seen_by D.Link.had D.Link.left D.Link.left_before D.Link.written D.Link.faults) served.now.framing)
         (service_in L.meaning served.now)
-        → IfErr result (HasStopped (seen_by D.Link.had D.Link.left D.Link.written D.Link.faults)
+        → IfErr result (HasStopped (seen_by D.Link.had D.Link.left D.Link.left_before D.Link.written D.Link.faults)
         (service_in L.meaning served.now) (cells_of opening) count number
         (sight_in D.to_come D.taken_back D.faults D.late door.old
         (record { written = O.written log.old; faults = O.faults log.old }))
@@ -148,22 +148,22 @@ pub fn serve_batches<
     batches: u32,
 ) -> ServeEnd
     requires may { MayDrive F.Fn drive.now
-        (tells_by (seen_by D.Link.had D.Link.left D.Link.written D.Link.faults)
+        (tells_by (seen_by D.Link.had D.Link.left D.Link.left_before D.Link.written D.Link.faults)
         D.to_come D.taken_back D.open_at D.out D.faults D.late) state.old }
     requires drives { Drives F.Fn drive.now
-        (tells_by (seen_by D.Link.had D.Link.left D.Link.written D.Link.faults)
+        (tells_by (seen_by D.Link.had D.Link.left D.Link.left_before D.Link.written D.Link.faults)
         D.to_come D.taken_back D.open_at D.out D.faults D.late)
-        (ends_at_once (seen_by D.Link.had D.Link.left D.Link.written D.Link.faults) (service_in L.meaning served.now))
+        (ends_at_once (seen_by D.Link.had D.Link.left D.Link.left_before D.Link.written D.Link.faults) (service_in L.meaning served.now))
         (service_in L.meaning served.now) }
     requires out { D.out door.old ≡ 0 }
     ensures again { MayDrive F.Fn drive.now
-        (tells_by (seen_by D.Link.had D.Link.left D.Link.written D.Link.faults)
+        (tells_by (seen_by D.Link.had D.Link.left D.Link.left_before D.Link.written D.Link.faults)
         D.to_come D.taken_back D.open_at D.out D.faults D.late) state.new }
     ensures out { D.out door.new ≡ 0 }
     ensures open { D.open_at door.new ≡ D.open_at door.old }
     ensures later { (D.faults door.old ≤ D.faults door.new) × (D.late door.old ≤ D.late door.new) }
     ensures later_log { O.faults log.old ≤ O.faults log.new }
-    ensures served { HasServedAtOnce (seen_by D.Link.had D.Link.left D.Link.written D.Link.faults)
+    ensures served { HasServedAtOnce (seen_by D.Link.had D.Link.left D.Link.left_before D.Link.written D.Link.faults)
         (service_in L.meaning served.now) batches
         (sight_in D.to_come D.taken_back D.faults D.late door.old
         (record { written = O.written log.old; faults = O.faults log.old }))
@@ -172,11 +172,11 @@ pub fn serve_batches<
         result }
     // Where no call breaks a batch off, none was.
     ensures before { Drives F.Fn drive.now
-        (tells_by (seen_by D.Link.had D.Link.left D.Link.written D.Link.faults)
+        (tells_by (seen_by D.Link.had D.Link.left D.Link.left_before D.Link.written D.Link.faults)
         D.to_come D.taken_back D.open_at D.out D.faults D.late)
-        (ends_before (seen_by D.Link.had D.Link.left D.Link.written D.Link.faults))
+        (ends_before (seen_by D.Link.had D.Link.left D.Link.left_before D.Link.written D.Link.faults) served.now.framing)
         (service_in L.meaning served.now)
-        → HasServed (seen_by D.Link.had D.Link.left D.Link.written D.Link.faults) (service_in L.meaning served.now) batches
+        → HasServed (seen_by D.Link.had D.Link.left D.Link.left_before D.Link.written D.Link.faults) (service_in L.meaning served.now) batches
         (sight_in D.to_come D.taken_back D.faults D.late door.old
         (record { written = O.written log.old; faults = O.faults log.old }))
         (sight_in D.to_come D.taken_back D.faults D.late door.new

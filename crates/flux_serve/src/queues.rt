@@ -82,11 +82,11 @@ pub fn give_back_links<S: Drop, D: Door>(
     requires count { length came.now.value.items ≡ count }
     requires out { D.out door.old ≡ count }
     requires replies { (worker : ℕ) (none : WorkerQueue S D.Link) → worker < length queues.old
-        → AreRepliesSoFar (seen_by D.Link.had D.Link.left D.Link.written D.Link.faults) entries.now
+        → AreRepliesSoFar (seen_by D.Link.had D.Link.left D.Link.left_before D.Link.written D.Link.faults) entries.now
         (share (length queues.old) worker 0 came.now.value.items) (slice_index_or queues.old worker none).replies.items }
     ensures out { D.out door.new ≡ 0 }
     ensures back { (backs : List D.Link) × (next : ℕ) × TakesBack (D.taken_back door.old) (D.taken_back door.new) backs
-        × AreBack (seen_by D.Link.had D.Link.left D.Link.written D.Link.faults) whole entries.now 0
+        × AreBack (seen_by D.Link.had D.Link.left D.Link.left_before D.Link.written D.Link.faults) whole entries.now 0
         came.now.value.items backs [] next }
     ensures kept { D.to_come door.new ≡ D.to_come door.old }
     ensures open { D.open_at door.new ≡ D.open_at door.old }

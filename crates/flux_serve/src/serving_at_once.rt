@@ -56,7 +56,7 @@ pub fn serve_at_once<
     ensures later_log { O.faults log.old ≤ O.faults log.new }
     ensures served { let service : Service = (record { program = arc_value served.now.program; framing = served.now.framing; meaning = L.meaning (arc_value served.now.library) }) in
         HasServedAtOnce
-        (seen_by D.Link.had D.Link.left D.Link.written D.Link.faults)
+        (seen_by D.Link.had D.Link.left D.Link.left_before D.Link.written D.Link.faults)
         service batches
         (record {
           to_come = D.to_come door.old;
@@ -90,11 +90,11 @@ pub fn serve_at_once<
             ensures open { D.open_at door.new ≡ D.open_at door.old }
             ensures later { (D.faults door.old ≤ D.faults door.new) × (D.late door.old ≤ D.late door.new) }
             ensures bound { IfOk result (λ run. run.next ≤ number + 64) }
-            ensures ran { (log : Stream) → IfOk result (HasRun (seen_by D.Link.had D.Link.left D.Link.written D.Link.faults)
+            ensures ran { (log : Stream) → IfOk result (HasRun (seen_by D.Link.had D.Link.left D.Link.left_before D.Link.written D.Link.faults)
                 (service_in L.meaning served.entry.now) (cells_of opening) number
                 (sight_in D.to_come D.taken_back D.faults D.late door.old log)
                 (sight_in D.to_come D.taken_back D.faults D.late door.new log)) }
-            ensures none { (log : Stream) → IfErr result (IsNoneAtOnce (seen_by D.Link.had D.Link.left D.Link.written D.Link.faults)
+            ensures none { (log : Stream) → IfErr result (IsNoneAtOnce (seen_by D.Link.had D.Link.left D.Link.left_before D.Link.written D.Link.faults)
                 (service_in L.meaning served.entry.now) (cells_of opening) number
                 (sight_in D.to_come D.taken_back D.faults D.late door.old log)
                 (sight_in D.to_come D.taken_back D.faults D.late door.new log)) }

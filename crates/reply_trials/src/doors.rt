@@ -13,11 +13,13 @@ pub struct TellingLink<'a> {
 
 impl Link for TellingLink<'_> {
     ghost use Rattle.std.specs.Prelude.{Some};
-    ghost use Rattle.flux_doors.specs.Memory.{link_had, link_left, link_written, link_faults};
+    ghost use Rattle.flux_doors.specs.Memory.{link_had, link_left, link_left_before, link_written, link_faults};
 
     ghost had = { λ telling. Some (link_had telling.link) };
 
     ghost left = { λ telling. Some (link_left telling.link) };
+
+    ghost left_before = { λ telling. Some (link_left_before telling.link) };
 
     ghost written = { λ telling. Some (link_written telling.link) };
 

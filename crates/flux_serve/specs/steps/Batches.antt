@@ -68,17 +68,17 @@ pub record IsTaken {L : Type 0} (see : L → Seen) (framing : Framing)
   pub read : WereRead see framing came requests []
 
 -- no batch was driven
-abbrev pub IsNone : {L : Type 0} → (L → Seen) → Sight L → Sight L → ServeEnd → Type 0
-IsNone see before after Closed =
+abbrev pub IsNone : {L : Type 0} → (L → Seen) → Framing → Sight L → Sight L → ServeEnd → Type 0
+IsNone see framing before after Closed =
     IfSome before.to_come (λ batches. first_link (waiting batches) ≡ None)
     × (after.taken_back ≡ before.taken_back) × (after.log ≡ before.log)
     × (after.faults ≡ before.faults) × (after.late ≡ before.late)
-IsNone see before after Counted = ⊥
-IsNone see before after Door =
+IsNone see framing before after Counted = ⊥
+IsNone see framing before after Door =
     Rose before.faults after.faults × (after.taken_back ≡ before.taken_back)
     × (after.log ≡ before.log) × (after.to_come ≡ before.to_come) × (after.late ≡ before.late)
-IsNone see before after Log = ⊥
-IsNone see before after Memory = IsUndriven see before after
+IsNone see framing before after Log = ⊥
+IsNone see framing before after Memory = IsUndriven see framing before after
 
 -- a batch that was answered, and whose text wasn't written
 abbrev pub HasFinished : ServeEnd → Stream → Stream → List ℕ → Type 0
@@ -110,7 +110,7 @@ pub record HasPassed {L : Type 0} (see : L → Seen) (service : Service) (openin
 abbrev pub IsNoneAtOnce : {L : Type 0} → (L → Seen) → Service → Cells → ℕ → Sight L → Sight L → ServeEnd
     → Type 0
 IsNoneAtOnce {L} see service opening number before after end =
-    IsNone see before after end
+    IsNone see service.framing before after end
     ⊎ ((end ≡ Memory) × ((begun : Batch L) × IsBegun see service opening number begun before after))
 
 -- how a batch ended that was served at once: as in serving, or begun and not driven whole

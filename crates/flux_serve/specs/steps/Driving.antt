@@ -5,6 +5,7 @@ use denote.Param.Members.{Shared}
 use Rattle.flow_model.specs.Keys.{Cells}
 use Rattle.flux_cells.specs.Kept.{Kept, cells_of}
 use Rattle.flux_outside.specs.Streams.{Stream}
+use Rattle.flux_doors.specs.declared.framing.Framing.{Framing}
 use Rattle.flux_batches.specs.Links.{Seen}
 use Rattle.flux_serve.specs.declared.batches.Run.{Run}
 use Rattle.flux_serve.specs.declared.batches.ServeEnd.{ServeEnd}
@@ -35,8 +36,9 @@ tells_by see to_come taken_back open_at out faults late = record {
 }
 
 -- how it ends where no batch is driven whole: before it is begun; or memory ran out in it
-abbrev pub ends_before : {L : Type 0} → (L → Seen) → Cells → ℕ → Sight L → Sight L → ServeEnd → Type 0
-ends_before see opening number before after end = IsNone see before after end
+abbrev pub ends_before : {L : Type 0} → (L → Seen) → Framing → Cells → ℕ → Sight L → Sight L → ServeEnd
+    → Type 0
+ends_before see framing opening number before after end = IsNone see framing before after end
 
 abbrev pub ends_at_once : {L : Type 0} → (L → Seen) → Service → Cells → ℕ → Sight L → Sight L → ServeEnd
     → Type 0

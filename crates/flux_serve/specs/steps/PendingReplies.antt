@@ -7,7 +7,7 @@ use Rattle.flux_outside.specs.Streams.{WroteOrBroke}
 use Rattle.flux_batches.specs.declared.reading.Sent.{Sent}
 use Rattle.flux_batches.specs.declared.reading.Sent.TheVariants.{Text, Failed, Memory}
 use Rattle.flux_batches.specs.declared.reading.ReadLink.{ReadLink}
-use Rattle.flux_batches.specs.Links.{Seen, IsSame, stream_of}
+use Rattle.flux_batches.specs.Links.{Seen, IsUnread, stream_of}
 use Rattle.flux_batches.specs.Replies.{reply_of, flow_behind, IsAnswered}
 use Rattle.flux_serve.specs.declared.replies.PendingReply.{PendingReply}
 use Rattle.flux_serve.specs.declared.queues.WorkerQueue.{WorkerQueue}
@@ -38,7 +38,7 @@ pub record IsFromFront (entries : List Entry) (flow : ℕ) (before after : Seen)
 pub record WasReplied {K : Type 0} (see : K → Seen) (entries : List Entry) (old new : PendingReply K) : Type 0 where
   pub sent_ : let request = old.request in let request' = new.request in request'.sent ≡ request.sent
   pub written_ : new.written ≡ true
-  pub same : let request = old.request in let request' = new.request in IsSame (see request.link) (see request'.link)
+  pub same : let request = old.request in let request' = new.request in IsUnread (see request.link) (see request'.link)
   pub from : let request = old.request in let request' = new.request in let flow = old.flow in
       IsFromFront entries flow.0 (see request.link) (see request'.link) request.sent
 
@@ -82,7 +82,7 @@ IsBack whole entries flow before after sent =
 abbrev pub IsBackOf : {K : Type 0} → (K → Seen) → Bool → List Entry → PendingReply K → K → Type 0
 IsBackOf see whole entries reply link =
     let request = reply.request in let flow = reply.flow in
-    IsSame (see request.link) (see link)
+    IsUnread (see request.link) (see link)
     × IsBack whole entries flow.0 (see request.link) (see link) request.sent
 
 -- links were given back as these, from a flow on, each at its place; those are left, from a flow on
@@ -91,6 +91,6 @@ abbrev pub AreBack : {K : Type 0} → (K → Seen) → Bool → List Entry → �
 AreBack see whole entries flow requests [] left next = (requests ≡ left) × (flow ≡ next)
 AreBack see whole entries flow [] (back ∷ backs) left next = ⊥
 AreBack see whole entries flow (request ∷ rest) (back ∷ backs) left next =
-    IsSame (see request.link) (see back)
+    IsUnread (see request.link) (see back)
     × IsBack whole entries flow (see request.link) (see back) request.sent
     × AreBack see whole entries (flow_behind flow request.sent) rest backs left next

@@ -6,7 +6,7 @@ use Rattle.flux_batches.proofs.reading.read_links.Goals as goal
 
 pub returns-clause-request : goal.returns-clause-request
 returns-clause-request g c =
-    let see : g.row.K.Denot → Seen = seen_by g.K.Link.had g.K.Link.left g.K.Link.written g.K.Link.faults in
+    let see : g.row.K.Denot → Seen = seen_by g.K.Link.had g.K.Link.left g.K.Link.left_before g.K.Link.written g.K.Link.faults in
     let P : List (ReadLink g.row.K.Denot) → Type 0 = λ them. WereRead see c.args.framing c.args.links.items them [] in
     let there = c.make_contiguous.ensures in
     let long = c.read_each.auto.request in

@@ -13,8 +13,10 @@ loop-entry-preserved g c =
     let bytes = reply_of c.args.flow.0 c.args.entries.now in
     let rest = reply_of c.args.flow.0 (drop (c.loop-entry.entry-index + 1) c.args.entries.now) in
     let below : c.loop-entry.entry-index < length c.args.entries.now = omega arith in
+    let same = c.loop-entry.invariant.0 in
+    let more = c.send.ensures.same in
     let P : List ℕ → Type 0 = SoFar before mid bytes in (
-      c.send.ensures.same ∙ c.loop-entry.invariant.0,
+      (more.0 ∙ same.0, more.1 ∙ same.1, more.2 ∙ same.2),
       so_far_piece before mid after bytes c.emission_of.result.now rest
           (subst P (reply-next c.args.flow.0 c.args.entries.now c.loop-entry.entry-index c.entry-item.result c.emission_of.result.now below c.entry-item.is c.emission_of.ensures) c.loop-entry.invariant.1)
           c.in-Ok.ensures.wrote,

@@ -6,8 +6,9 @@ use Rattle.flux_batches.proofs.replying.send.Goals as goal
 pub loop-rest-preserved : goal.loop-rest-preserved
 loop-rest-preserved g c =
     let rest = c.loop-rest.rest.now in
-    let n = c.in_ok-count.count in (
-      c.write.ensures.had ∙ c.loop-rest.invariant.0,
+    let n = c.in_ok-count.count in
+    let same = c.loop-rest.invariant.0 in (
+      (c.write.ensures.had ∙ same.0, c.write.ensures.left ∙ same.1, c.write.ensures.before ∙ same.2),
       rw (take_rest rest n)
           (so_far_more (record { written = g.K.Link.written c.args.link.now; faults = g.K.Link.faults c.args.link.now })
           (record { written = g.K.Link.written c.loop-rest.link; faults = g.K.Link.faults c.loop-rest.link })

@@ -21,7 +21,7 @@ serve_ready-end-requires-clause-source g c = λ κs lives. let ready = c.in-Ok.e
 
 pub returns-in-Ok-clause-done : goal.returns-in-Ok-clause-done
 returns-in-Ok-clause-done g c =
-    let see : g.row.D-Link.Denot → Link = link_by g.D.Link.Link.had g.D.Link.Link.left g.D.Link.Link.written g.D.Link.Link.faults in
+    let see : g.row.D-Link.Denot → Link = link_by g.D.Link.Link.had g.D.Link.Link.left g.D.Link.Link.left_before g.D.Link.Link.written g.D.Link.Link.faults in
     let all = arc_value c.in-Ok.ready.library in
     ready_done built_in c.args.words.now _ _ c.in-Ok.service (docs_in all) c.in-Ok.ready.checked c.in-Ok.ready.framing c.in-Ok.ensures.ready c.serve_ready-end.result c.tell_end.result c.in-Ok.ensures.spelled c.in-Ok.ensures.docs
     (by_as_seen c.in-Ok.service.replying see _ _ _ _ _ c.serve_ready-end.ensures.served)

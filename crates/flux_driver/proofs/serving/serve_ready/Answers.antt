@@ -38,7 +38,7 @@ returns-clause-opened g c = inl (c.serve_batches.ensures.open ∙ c.in-Ok-open.e
 
 pub returns-clause-served : goal.returns-clause-served
 returns-clause-served g c =
-    let see : g.row.D-Link.Denot → Seen = seen_by g.D.Link.Link.had g.D.Link.Link.left g.D.Link.Link.written g.D.Link.Link.faults in
+    let see : g.row.D-Link.Denot → Seen = seen_by g.D.Link.Link.had g.D.Link.Link.left g.D.Link.Link.left_before g.D.Link.Link.written g.D.Link.Link.faults in
     let meaning = g.L.Meaning.meaning in
     let checked = c.args.ready.checked in
     let own : Service = record { program = checked.program; framing = c.args.ready.framing; meaning = meaning (arc_value c.args.ready.library) } in

@@ -11,7 +11,7 @@ use Rattle.flux_serve.proofs.batches.drive_batch.Goals as goal
 
 pub returns-in-Ok-run_links-clause-ran : goal.returns-in-Ok-run_links-clause-ran
 returns-in-Ok-run_links-clause-ran g c log =
-    let see : g.row.D-Link.Denot → Seen = seen_by g.D.Link.Link.had g.D.Link.Link.left g.D.Link.Link.written g.D.Link.Link.faults in
+    let see : g.row.D-Link.Denot → Seen = seen_by g.D.Link.Link.had g.D.Link.Link.left g.D.Link.Link.left_before g.D.Link.Link.written g.D.Link.Link.faults in
     let sight : g.row.D.Denot → Stream → Sight g.row.D-Link.Denot = sight_in g.D.Door.to_come g.D.Door.taken_back g.D.Door.faults g.D.Door.late in
     let run' = c.in-Ok-run_links.run' in
     let requests = c.in-Ok.links.items in
@@ -37,7 +37,7 @@ returns-in-Ok-run_links-clause-ran g c log =
 
 pub returns-in-Err-run_links-clause-none : goal.returns-in-Err-run_links-clause-none
 returns-in-Err-run_links-clause-none g c log =
-    let see : g.row.D-Link.Denot → Seen = seen_by g.D.Link.Link.had g.D.Link.Link.left g.D.Link.Link.written g.D.Link.Link.faults in
+    let see : g.row.D-Link.Denot → Seen = seen_by g.D.Link.Link.had g.D.Link.Link.left g.D.Link.Link.left_before g.D.Link.Link.written g.D.Link.Link.faults in
     let sight : g.row.D.Denot → Stream → Sight g.row.D-Link.Denot = sight_in g.D.Door.to_come g.D.Door.taken_back g.D.Door.faults g.D.Door.late in
     undriven_of see c.args.served.now.framing (sight c.args.door.now log) (sight c.give_back_read.new.door log)
     (g.D.Door.to_come c.take.new.door) (g.D.Door.taken_back c.take.new.door) (g.D.Door.late c.take.new.door) c.in-Ok.links.items

@@ -20,7 +20,7 @@ returns-in-Err-Memory-clause-none g c log = record {
 
 pub returns-in-Err-clause-none : goal.returns-in-Err-clause-none
 returns-in-Err-clause-none g c log =
-    let see : g.row.D-Link.Denot → Seen = seen_by g.D.Link.Link.had g.D.Link.Link.left g.D.Link.Link.written g.D.Link.Link.faults in
+    let see : g.row.D-Link.Denot → Seen = seen_by g.D.Link.Link.had g.D.Link.Link.left g.D.Link.Link.left_before g.D.Link.Link.written g.D.Link.Link.faults in
     let P : Option (List g.row.D-Link.Denot) → Type 0 = λ b. TakesBack b (g.D.Door.taken_back c.give_back.new.door) c.in-Err.links.items in
     let came = c.in-Err.links.items in
     let G : List g.row.D-Link.Denot → Type 0 = λ l. AreGathered (g.D.Door.to_come c.args.door.now) (g.D.Door.to_come c.gather.new.door) (g.D.Door.late c.args.door.now) (g.D.Door.late c.gather.new.door) l in
@@ -32,7 +32,7 @@ returns-in-Err-clause-none g c log =
       formed = inl (subst N (sym c.give_back.ensures.counts.1) (subst C (sym c.give_back.ensures.kept) (subst G (sym c.in-Err.ensures.unread.0) c.in-Ok.ensures.links)));
       size = omega (arith, c.in-Err.links.ok.0, c.in-Err.ensures.unread.1, c.in-Ok.ensures.some.1);
       back = subst P c.gather.ensures.back c.give_back.ensures.back;
-      unwritten = unwritten_same see c.in-Err.links.items;
+      unwritten = unwritten_same see c.args.framing c.in-Err.links.items;
       steady = c.give_back.ensures.counts.0 ∙ c.in-Ok.ensures.steady;
       log_ = refl;
     }

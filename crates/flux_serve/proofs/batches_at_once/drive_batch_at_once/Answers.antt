@@ -18,7 +18,7 @@ returns-in-Err-clause-none g c log = inl (c.in-Err.ensures.none log)
 
 pub returns-in-Err-prepare-clause-none : goal.returns-in-Err-prepare-clause-none
 returns-in-Err-prepare-clause-none g c log =
-    let see : g.row.D-Link.Denot → Seen = seen_by g.D.Link.Link.had g.D.Link.Link.left g.D.Link.Link.written g.D.Link.Link.faults in
+    let see : g.row.D-Link.Denot → Seen = seen_by g.D.Link.Link.had g.D.Link.Link.left g.D.Link.Link.left_before g.D.Link.Link.written g.D.Link.Link.faults in
     let sight : g.row.D.Denot → Stream → Sight g.row.D-Link.Denot = sight_in g.D.Door.to_come g.D.Door.taken_back g.D.Door.faults g.D.Door.late in
     inl (undriven_of see c.args.served.now.framing (sight c.args.door.now log) (sight c.give_back_read.new.door log)
     (g.D.Door.to_come c.take.new.door) (g.D.Door.taken_back c.take.new.door) (g.D.Door.late c.take.new.door) c.in-Ok.links.items
@@ -27,7 +27,7 @@ returns-in-Err-prepare-clause-none g c log =
 
 pub returns-then-whole-clause-ran : goal.returns-then-whole-clause-ran
 returns-then-whole-clause-ran g c log =
-    let see : g.row.D-Link.Denot → Seen = seen_by g.D.Link.Link.had g.D.Link.Link.left g.D.Link.Link.written g.D.Link.Link.faults in
+    let see : g.row.D-Link.Denot → Seen = seen_by g.D.Link.Link.had g.D.Link.Link.left g.D.Link.Link.left_before g.D.Link.Link.written g.D.Link.Link.faults in
     let sight : g.row.D.Denot → Stream → Sight g.row.D-Link.Denot = sight_in g.D.Door.to_come g.D.Door.taken_back g.D.Door.faults g.D.Door.late in
     let service = service_in g.L.Meaning.meaning c.args.served.now in
     let items = c.in-Ok-prepare.prepared.1 in
@@ -61,7 +61,7 @@ returns-then-whole-clause-ran g c log =
 
 pub returns-clause-none : goal.returns-clause-none
 returns-clause-none g c log =
-    let see : g.row.D-Link.Denot → Seen = seen_by g.D.Link.Link.had g.D.Link.Link.left g.D.Link.Link.written g.D.Link.Link.faults in
+    let see : g.row.D-Link.Denot → Seen = seen_by g.D.Link.Link.had g.D.Link.Link.left g.D.Link.Link.left_before g.D.Link.Link.written g.D.Link.Link.faults in
     let sight : g.row.D.Denot → Stream → Sight g.row.D-Link.Denot = sight_in g.D.Door.to_come g.D.Door.taken_back g.D.Door.faults g.D.Door.late in
     let service = service_in g.L.Meaning.meaning c.args.served.now in
     let items = c.in-Ok-prepare.prepared.1 in

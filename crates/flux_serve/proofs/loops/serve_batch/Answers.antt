@@ -13,7 +13,7 @@ use Rattle.flux_serve.proofs.loops.serve_batch.Goals as goal
 
 pub returns-in-Ok-clause-passed : goal.returns-in-Ok-clause-passed
 returns-in-Ok-clause-passed g c =
-    let see : g.row.D-Link.Denot → Seen = seen_by g.D.Link.Link.had g.D.Link.Link.left g.D.Link.Link.written g.D.Link.Link.faults in
+    let see : g.row.D-Link.Denot → Seen = seen_by g.D.Link.Link.had g.D.Link.Link.left g.D.Link.Link.left_before g.D.Link.Link.written g.D.Link.Link.faults in
     let sight : g.row.D.Denot → Stream → Sight g.row.D-Link.Denot = sight_in g.D.Door.to_come g.D.Door.taken_back g.D.Door.faults g.D.Door.late in
     let log : Stream = record { written = g.O.Sink.written c.args.log.now; faults = g.O.Sink.faults c.args.log.now } in
     let log' : Stream = record { written = g.O.Sink.written c.log_batch.new.log; faults = g.O.Sink.faults c.log_batch.new.log } in
@@ -24,7 +24,7 @@ returns-in-Ok-clause-passed g c =
 
 pub returns-in-Ok-clause-stopped : goal.returns-in-Ok-clause-stopped
 returns-in-Ok-clause-stopped g c =
-    let see : g.row.D-Link.Denot → Seen = seen_by g.D.Link.Link.had g.D.Link.Link.left g.D.Link.Link.written g.D.Link.Link.faults in
+    let see : g.row.D-Link.Denot → Seen = seen_by g.D.Link.Link.had g.D.Link.Link.left g.D.Link.Link.left_before g.D.Link.Link.written g.D.Link.Link.faults in
     let sight : g.row.D.Denot → Stream → Sight g.row.D-Link.Denot = sight_in g.D.Door.to_come g.D.Door.taken_back g.D.Door.faults g.D.Door.late in
     let log : Stream = record { written = g.O.Sink.written c.args.log.now; faults = g.O.Sink.faults c.args.log.now } in
     let log' : Stream = record { written = g.O.Sink.written c.log_batch.new.log; faults = g.O.Sink.faults c.log_batch.new.log } in
@@ -37,14 +37,14 @@ returns-in-Ok-clause-stopped g c =
 
 pub returns-in-Err-clause-stopped : goal.returns-in-Err-clause-stopped
 returns-in-Err-clause-stopped g c =
-    let see : g.row.D-Link.Denot → Seen = seen_by g.D.Link.Link.had g.D.Link.Link.left g.D.Link.Link.written g.D.Link.Link.faults in
+    let see : g.row.D-Link.Denot → Seen = seen_by g.D.Link.Link.had g.D.Link.Link.left g.D.Link.Link.left_before g.D.Link.Link.written g.D.Link.Link.faults in
     let sight : g.row.D.Denot → Stream → Sight g.row.D-Link.Denot = sight_in g.D.Door.to_come g.D.Door.taken_back g.D.Door.faults g.D.Door.late in
     let log : Stream = record { written = g.O.Sink.written c.args.log.now; faults = g.O.Sink.faults c.args.log.now } in
     none_stops see (service_in g.L.Meaning.meaning c.args.served.now) (cells_of c.args.opening) c.args.count c.args.number (sight c.args.door.now log) (sight c.drive_next.new.door log) c.in-Err.end (c.in-Err.ensures.none log)
 
 pub returns-in-Ok-clause-before : goal.returns-in-Ok-clause-before
 returns-in-Ok-clause-before g c alone =
-    let see : g.row.D-Link.Denot → Seen = seen_by g.D.Link.Link.had g.D.Link.Link.left g.D.Link.Link.written g.D.Link.Link.faults in
+    let see : g.row.D-Link.Denot → Seen = seen_by g.D.Link.Link.had g.D.Link.Link.left g.D.Link.Link.left_before g.D.Link.Link.written g.D.Link.Link.faults in
     let sight : g.row.D.Denot → Stream → Sight g.row.D-Link.Denot = sight_in g.D.Door.to_come g.D.Door.taken_back g.D.Door.faults g.D.Door.late in
     let log : Stream = record { written = g.O.Sink.written c.args.log.now; faults = g.O.Sink.faults c.args.log.now } in
     let log' : Stream = record { written = g.O.Sink.written c.log_batch.new.log; faults = g.O.Sink.faults c.log_batch.new.log } in
@@ -56,7 +56,7 @@ returns-in-Ok-clause-before g c alone =
 
 pub returns-in-Err-clause-before : goal.returns-in-Err-clause-before
 returns-in-Err-clause-before g c alone =
-    let see : g.row.D-Link.Denot → Seen = seen_by g.D.Link.Link.had g.D.Link.Link.left g.D.Link.Link.written g.D.Link.Link.faults in
+    let see : g.row.D-Link.Denot → Seen = seen_by g.D.Link.Link.had g.D.Link.Link.left g.D.Link.Link.left_before g.D.Link.Link.written g.D.Link.Link.faults in
     let sight : g.row.D.Denot → Stream → Sight g.row.D-Link.Denot = sight_in g.D.Door.to_come g.D.Door.taken_back g.D.Door.faults g.D.Door.late in
     let log : Stream = record { written = g.O.Sink.written c.args.log.now; faults = g.O.Sink.faults c.args.log.now } in
     stopped_none see (service_in g.L.Meaning.meaning c.args.served.now) (cells_of c.args.opening) c.args.count c.args.number (sight c.args.door.now log) (sight c.drive_next.new.door log) c.in-Err.end (c.in-Err.ensures.before alone log)

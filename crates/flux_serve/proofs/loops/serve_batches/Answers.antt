@@ -9,7 +9,7 @@ use Rattle.flux_serve.proofs.loops.serve_batches.Goals as goal
 
 pub batches-init : goal.batches-init
 batches-init g c =
-    let see : g.row.D-Link.Denot → Seen = seen_by g.D.Link.Link.had g.D.Link.Link.left g.D.Link.Link.written g.D.Link.Link.faults in
+    let see : g.row.D-Link.Denot → Seen = seen_by g.D.Link.Link.had g.D.Link.Link.left g.D.Link.Link.left_before g.D.Link.Link.written g.D.Link.Link.faults in
     let service = service_in g.L.Meaning.meaning c.args.served.now in
     let sight : g.row.D.Denot → g.row.O.Denot → Sight g.row.D-Link.Denot = λ door log.
     sight_in g.D.Door.to_come g.D.Door.taken_back g.D.Door.faults g.D.Door.late door (record { written = g.O.Sink.written log; faults = g.O.Sink.faults log }) in
@@ -19,7 +19,7 @@ batches-init g c =
 
 pub returns-in-Err-clause-served : goal.returns-in-Err-clause-served
 returns-in-Err-clause-served g c =
-    let see : g.row.D-Link.Denot → Seen = seen_by g.D.Link.Link.had g.D.Link.Link.left g.D.Link.Link.written g.D.Link.Link.faults in
+    let see : g.row.D-Link.Denot → Seen = seen_by g.D.Link.Link.had g.D.Link.Link.left g.D.Link.Link.left_before g.D.Link.Link.written g.D.Link.Link.faults in
     let service = service_in g.L.Meaning.meaning c.args.served.now in
     let sight : g.row.D.Denot → g.row.O.Denot → Sight g.row.D-Link.Denot = λ door log.
     sight_in g.D.Door.to_come g.D.Door.taken_back g.D.Door.faults g.D.Door.late door (record { written = g.O.Sink.written log; faults = g.O.Sink.faults log }) in
@@ -30,7 +30,7 @@ returns-in-Err-clause-served g c =
 
 pub returns-in-Err-clause-before : goal.returns-in-Err-clause-before
 returns-in-Err-clause-before g c alone =
-    let see : g.row.D-Link.Denot → Seen = seen_by g.D.Link.Link.had g.D.Link.Link.left g.D.Link.Link.written g.D.Link.Link.faults in
+    let see : g.row.D-Link.Denot → Seen = seen_by g.D.Link.Link.had g.D.Link.Link.left g.D.Link.Link.left_before g.D.Link.Link.written g.D.Link.Link.faults in
     let service = service_in g.L.Meaning.meaning c.args.served.now in
     let sight : g.row.D.Denot → g.row.O.Denot → Sight g.row.D-Link.Denot = λ door log.
     sight_in g.D.Door.to_come g.D.Door.taken_back g.D.Door.faults g.D.Door.late door (record { written = g.O.Sink.written log; faults = g.O.Sink.faults log }) in
@@ -41,7 +41,7 @@ returns-in-Err-clause-before g c alone =
 
 pub batches-preserved : goal.batches-preserved
 batches-preserved g c =
-    let see : g.row.D-Link.Denot → Seen = seen_by g.D.Link.Link.had g.D.Link.Link.left g.D.Link.Link.written g.D.Link.Link.faults in
+    let see : g.row.D-Link.Denot → Seen = seen_by g.D.Link.Link.had g.D.Link.Link.left g.D.Link.Link.left_before g.D.Link.Link.written g.D.Link.Link.faults in
     let service = service_in g.L.Meaning.meaning c.args.served.now in
     let sight : g.row.D.Denot → g.row.O.Denot → Sight g.row.D-Link.Denot = λ door log.
     sight_in g.D.Door.to_come g.D.Door.taken_back g.D.Door.faults g.D.Door.late door (record { written = g.O.Sink.written log; faults = g.O.Sink.faults log }) in

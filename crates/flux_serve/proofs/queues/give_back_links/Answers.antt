@@ -10,7 +10,7 @@ use Rattle.flux_serve.proofs.queues.give_back_links.Goals as goal
 
 pub links-init : goal.links-init
 links-init g c =
-    let see : g.row.D-Link.Denot → Seen = seen_by g.D.Link.Link.had g.D.Link.Link.left g.D.Link.Link.written g.D.Link.Link.faults in (
+    let see : g.row.D-Link.Denot → Seen = seen_by g.D.Link.Link.had g.D.Link.Link.left g.D.Link.Link.left_before g.D.Link.Link.written g.D.Link.Link.faults in (
       given-start see c.args.whole c.args.entries.now c.args.came.now.value.items (g.D.Door.taken_back c.args.door.now) c.args.queues.now c.args.count c.requires.count c.requires.replies,
       omega (arith, c.requires.few),
       c.requires.out,
@@ -23,7 +23,7 @@ links-init g c =
 
 pub unreachable-requires : goal.unreachable-requires
 unreachable-requires g c =
-    let see : g.row.D-Link.Denot → Seen = seen_by g.D.Link.Link.had g.D.Link.Link.left g.D.Link.Link.written g.D.Link.Link.faults in
+    let see : g.row.D-Link.Denot → Seen = seen_by g.D.Link.Link.had g.D.Link.Link.left g.D.Link.Link.left_before g.D.Link.Link.written g.D.Link.Link.faults in
     let before = c.links.invariant in
     let queues = c.links.queues in
     let worker = c.links.flow % length queues in
@@ -36,7 +36,7 @@ unreachable-requires g c =
 
 pub links-preserved : goal.links-preserved
 links-preserved g c =
-    let see : g.row.D-Link.Denot → Seen = seen_by g.D.Link.Link.had g.D.Link.Link.left g.D.Link.Link.written g.D.Link.Link.faults in
+    let see : g.row.D-Link.Denot → Seen = seen_by g.D.Link.Link.had g.D.Link.Link.left g.D.Link.Link.left_before g.D.Link.Link.written g.D.Link.Link.faults in
     let before = c.links.invariant in
     let queues = c.links.queues in
     let worker = c.links.flow % length queues in

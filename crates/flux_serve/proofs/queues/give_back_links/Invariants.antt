@@ -6,7 +6,7 @@ use Rattle.flux_serve.proofs.queues.give_back_links.Given as goal
 -- the links so far were given back
 abbrev pub invariant-links : goal.invariant-links
 invariant-links g l =
-    GivenSo (seen_by g.D.Link.Link.had g.D.Link.Link.left g.D.Link.Link.written g.D.Link.Link.faults) l.whole l.entries l.came.value.items
+    GivenSo (seen_by g.D.Link.Link.had g.D.Link.Link.left g.D.Link.Link.left_before g.D.Link.Link.written g.D.Link.Link.faults) l.whole l.entries l.came.value.items
     (g.D.Door.taken_back l.fn.door) (g.D.Door.taken_back l.door) l.queues l.flow l.left
     × (l.flow + l.left ≤ 64) × (g.D.Door.out l.door ≡ l.left) × (length l.queues ≡ length l.fn.queues)
     × (g.D.Door.to_come l.door ≡ g.D.Door.to_come l.fn.door) × (g.D.Door.faults l.door ≡ g.D.Door.faults l.fn.door)

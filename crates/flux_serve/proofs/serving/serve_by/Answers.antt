@@ -9,7 +9,7 @@ use Rattle.flux_serve.proofs.serving.serve_by.Goals as goal
 
 pub serve_batches-requires-clause-drives : goal.serve_batches-requires-clause-drives
 serve_batches-requires-clause-drives g c κs within p p' q q' opening number result none few post =
-    let see : g.row.D-Link.Denot → Seen = seen_by g.D.Link.Link.had g.D.Link.Link.left g.D.Link.Link.written g.D.Link.Link.faults in
+    let see : g.row.D-Link.Denot → Seen = seen_by g.D.Link.Link.had g.D.Link.Link.left g.D.Link.Link.left_before g.D.Link.Link.written g.D.Link.Link.faults in
     let all = post.1 in
     let outs = all.1 in
     let opens = outs.1 in

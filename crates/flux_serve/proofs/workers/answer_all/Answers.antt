@@ -7,7 +7,7 @@ use Rattle.flux_serve.proofs.workers.answer_all.Goals as goal
 
 pub returns-clause-replies : goal.returns-clause-replies
 returns-clause-replies g c =
-    let see : g.row.K.Denot → Seen = seen_by g.K.Link.had g.K.Link.left g.K.Link.written g.K.Link.faults in
+    let see : g.row.K.Denot → Seen = seen_by g.K.Link.had g.K.Link.left g.K.Link.left_before g.K.Link.written g.K.Link.faults in
     let there = c.make_contiguous.ensures in
     let all = c.make_contiguous.result.now in
     let long : length c.rounds.new.replies ≡ length all = c.rounds.auto.replies in

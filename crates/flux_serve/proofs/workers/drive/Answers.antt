@@ -9,13 +9,13 @@ use Rattle.flux_serve.proofs.workers.drive.Goals as goal
 
 pub join_all-seat-requires-clause-seats : goal.join_all-seat-requires-clause-seats
 join_all-seat-requires-clause-seats g c place none below =
-    let see : g.row.K.Denot → Seen = seen_by g.K.Link.had g.K.Link.left g.K.Link.written g.K.Link.faults in
+    let see : g.row.K.Denot → Seen = seen_by g.K.Link.had g.K.Link.left g.K.Link.left_before g.K.Link.written g.K.Link.faults in
     has-worked see _ (slice_index_or c.seat_all-seat.new.queues place none) (slice_index_or c.shift.new.queues place none)
     (c.shift.ensures place none (omega (arith, below, c.shift.auto.queues)))
 
 pub returns-in-Ok-clause-replies : goal.returns-in-Ok-clause-replies
 returns-in-Ok-clause-replies g c place none below =
-    let see : g.row.K.Denot → Seen = seen_by g.K.Link.had g.K.Link.left g.K.Link.written g.K.Link.faults in
+    let see : g.row.K.Denot → Seen = seen_by g.K.Link.had g.K.Link.left g.K.Link.left_before g.K.Link.written g.K.Link.faults in
     let core = c.close.result in
     worked-joined see _ core.entries c.join_all-seat.result (slice_index_or c.args.queues.now place none) (slice_index_or c.seat_all-seat.new.queues place none)
     (slice_index_or c.shift.new.queues place none) (slice_index_or c.join_all-seat.new.queues place none)
@@ -32,5 +32,5 @@ returns-in-Err-clause-on g c =
 
 pub returns-in-Err-clause-replies : goal.returns-in-Err-clause-replies
 returns-in-Err-clause-replies g c place none below =
-    let see : g.row.K.Denot → Seen = seen_by g.K.Link.had g.K.Link.left g.K.Link.written g.K.Link.faults in
+    let see : g.row.K.Denot → Seen = seen_by g.K.Link.had g.K.Link.left g.K.Link.left_before g.K.Link.written g.K.Link.faults in
     replies-same see _ _

@@ -6,7 +6,7 @@ use Rattle.flux_serve.proofs.workers.round.Goals as goal
 
 pub loop-place-preserved : goal.loop-place-preserved
 loop-place-preserved g c =
-    let see : g.row.K.Denot → Seen = seen_by g.K.Link.had g.K.Link.left g.K.Link.written g.K.Link.faults in
+    let see : g.row.K.Denot → Seen = seen_by g.K.Link.had g.K.Link.left g.K.Link.left_before g.K.Link.written g.K.Link.faults in
     let before = c.loop-place.invariant in
     let at = c.loop-place.place in
     let replies = c.loop-place.replies in

@@ -8,5 +8,5 @@ use Rattle.flux_serve.proofs.workers.round.Given as goal
 abbrev pub invariant-loop-place : goal.invariant-loop-place
 invariant-loop-place g l =
     (l.seat.shared ≡ l.shared) × BeginsWith l.seat.seen l.fn.seat.seen
-    × KeepReplies (seen_by g.K.Link.had g.K.Link.left g.K.Link.written g.K.Link.faults) l.fn.seat.seen l.seat.seen l.fn.replies l.replies
+    × KeepReplies (seen_by g.K.Link.had g.K.Link.left g.K.Link.left_before g.K.Link.written g.K.Link.faults) l.fn.seat.seen l.seat.seen l.fn.replies l.replies
     × (length l.replies ≡ length l.fn.replies)

@@ -7,5 +7,5 @@ use Rattle.flux_serve.proofs.workers.rounds.Given as goal
 abbrev pub invariant-loop : goal.invariant-loop
 invariant-loop g l =
     (l.seat.shared ≡ l.shared)
-    × KeepReplies (seen_by g.K.Link.had g.K.Link.left g.K.Link.written g.K.Link.faults) l.fn.seat.seen l.seat.seen l.fn.replies l.replies
+    × KeepReplies (seen_by g.K.Link.had g.K.Link.left g.K.Link.left_before g.K.Link.written g.K.Link.faults) l.fn.seat.seen l.seat.seen l.fn.replies l.replies
     × (length l.replies ≡ length l.fn.replies)

@@ -55,7 +55,7 @@ returns-in-Stands-clause-reply g c = inl refl
 
 pub returns-in-Replies-clause-reply : goal.returns-in-Replies-clause-reply
 returns-in-Replies-clause-reply g c =
-    let see : g.row.K.Denot → Seen = seen_by g.K.Link.had g.K.Link.left g.K.Link.written g.K.Link.faults in
+    let see : g.row.K.Denot → Seen = seen_by g.K.Link.had g.K.Link.left g.K.Link.left_before g.K.Link.written g.K.Link.faults in
     let old = c.args.reply.now in
     let new = c.write.new.self in
     let request = old.request in
