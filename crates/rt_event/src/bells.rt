@@ -9,7 +9,7 @@ use std::alloc::Global;
 use std::sync::{Mutex, Wait};
 
 /// A worker with nothing to do looks at its bell so often before it sleeps.
-const LOOKS: u32 = 20_000;
+const LOOKS: u32 = 60_000;
 
 /// Waits until a bell has been rung more often than this, or for so many milliseconds. Where calls cost little the wait is
 /// shorter than it takes to sleep and be woken, so the worker looks for some microseconds before it sleeps.
