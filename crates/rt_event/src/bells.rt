@@ -6,11 +6,10 @@ use flux_library::Library;
 use flux_model::FlowNo;
 use flux_values::Memory;
 use std::alloc::Global;
-use std::hint::spin_loop;
 use std::sync::{Mutex, Wait};
 
 /// A worker with nothing to do looks at its bell so often before it sleeps.
-const LOOKS: u32 = 200;
+const LOOKS: u32 = 60_000;
 
 /// Waits until a bell has been rung more often than this, or for so many milliseconds. Where calls cost little the wait is
 /// shorter than it takes to sleep and be woken, so the worker looks for some microseconds before it sleeps.
@@ -19,7 +18,6 @@ pub fn await_bell<R: Wait>(rt: &R, bell: &Bell, rung: u32, milliseconds: u64) {
         if bell.rung() != rung {
             return;
         }
-        spin_loop();
     }
     bell.sleep(rt, rung, milliseconds);
 }

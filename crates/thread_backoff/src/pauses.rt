@@ -9,7 +9,7 @@ use std::time::Duration;
 const YIELDS: u32 = 16;
 
 /// So many where a turn is awaited. Turns are short, and a sleep is longer than some of them.
-const YIELDS_FOR_TURN: u32 = 64;
+const YIELDS_FOR_TURN: u32 = 128;
 
 /// The first sleep has so many microseconds, and each later one twice as many.
 const FIRST_SLEEP: u64 = 8;
