@@ -8,7 +8,7 @@ _flux() {
     if [ "$word" = "=" ]; then word=""; elif [ "$before" = "=" ]; then before="${COMP_WORDS[COMP_CWORD - 2]}"; fi
     if [ "$COMP_CWORD" = 1 ]; then
         values="check plan format run audit load serve help simulate swarm"
-        [[ "$1" != */* ]] || values+=" prove version nodes lsp install"
+        [[ "$1" != */* ]] || values+=" prove version nodes lsp install new --nodes"
         mapfile -t COMPREPLY < <(compgen -W "$values" -- "$word")
         return
     fi

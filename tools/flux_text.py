@@ -3,6 +3,7 @@
 The program's own reading is the proved one. This one only helps to say more about a text, and to draw it; where a
 line is no declaration, it goes on after the next `;`.
 """
+import os
 import re
 from collections import namedtuple
 from pathlib import Path
@@ -192,8 +193,10 @@ def declarations(data):
 
 
 def library():
-    """The rows of docs/nodes.tsv."""
-    rows = (TOP / "docs/nodes.tsv").read_text().splitlines()
+    """The rows of docs/nodes.tsv, and of one's own nodes where FLUX_NODES names their folder."""
+    own = os.environ.get("FLUX_NODES")
+    tables = [TOP / "docs/nodes.tsv", *([Path(own) / "nodes.tsv"] if own else [])]
+    rows = [row for it in tables if it.is_file() for row in it.read_text().splitlines()]
     return [Node(*row.split("\t")) for row in rows if row and not row.startswith("#")]
 
 
