@@ -65,14 +65,14 @@ fn assemble<L: Library>(
 }
 
 /// The numbers of a script once more.
-fn copy_numbers(alloc: Global, numbers: &List<FlowNo>) -> Result<List<FlowNo>, Memory>
-    ensures { IfOk result (λ copy. copy ≡ numbers.now) }
+fn copy_numbers(alloc: Global, numbers: &[FlowNo]) -> Result<List<FlowNo>, Memory>
+    ensures { IfOk result (λ copies. copies ≡ numbers.now) }
 {
-    let mut copy = List::new(alloc);
+    let mut copies = List::new(alloc);
     for number in numbers {
-        copy.add(*number)?;
+        copies.add(*number)?;
     }
-    Ok(copy)
+    Ok(copies)
 }
 
 /// The order in which the flows of a batch go on, by the words.
@@ -83,7 +83,7 @@ fn order_by(alloc: Global, replying: &Replying) -> Result<BatchOrder, Memory>
         Replying::AtEnd(Runtime::Event) => Ok(BatchOrder::Round),
         Replying::AtEnd(Runtime::EventWithHelpers(_)) => Ok(BatchOrder::Any),
         Replying::AtEnd(Runtime::Script(numbers)) => {
-            Ok(BatchOrder::Listed(copy_numbers(alloc, numbers)?))
+            Ok(BatchOrder::Listed(copy_numbers(alloc, numbers.as_slice())?))
         }
         Replying::AtEnd(Runtime::PerFlow) => Ok(BatchOrder::Any),
         Replying::AtEnd(Runtime::Pool(_)) => Ok(BatchOrder::Any),
