@@ -11,7 +11,7 @@ use Rattle.flow_core.specs.States.{CoreState, setup_in}
 use Rattle.flow_core.specs.Runs.{GoesToEnd}
 use Rattle.rt_all.specs.Orders.{runtime_by, IsOrder}
 use Rattle.flux_commands.specs.Driving.{DrivesTo}
-use Rattle.flux_driver.specs.Serving.{order_of}
+use Rattle.flux_driver.specs.Serving as serving
 use Rattle.flux_driver.specs.steps.Orders.{KeepsOrder}
 
 order_of : (runtime : Runtime) (setup : Setup) (old new : List Entry) → IsOrder (runtime_by runtime) setup old new
@@ -23,7 +23,7 @@ order_of words.PerFlow setup old new order = tt
 order_of (words.Pool workers) setup old new order = tt
 
 -- and so does each batch
-pub keeps-order : (runtime : Runtime) → KeepsOrder (runtime_by runtime) (order_of (AtEnd runtime))
+pub keeps-order : (runtime : Runtime) → KeepsOrder (runtime_by runtime) (serving.order_of (AtEnd runtime))
 keeps-order words.Event setup entries order = order refl
 keeps-order (words.EventWithHelpers helpers) setup entries order = tt
 keeps-order (words.Script numbers) setup entries order = order

@@ -23,9 +23,3 @@ returns-in-Ok-clause-keeps g c =
     let served = c.args.served.now in
     let R : AnyRuntime → Type 0 = λ runtime. KeepsOrder runtime served.order in
     subst R (sym c.drive_by_threads.ensures.same) c.requires.keeps
-
-pub returns-in-Err-clause-keeps : goal.returns-in-Err-clause-keeps
-returns-in-Err-clause-keeps g c =
-    let served = c.args.served.now in
-    let R : AnyRuntime → Type 0 = λ runtime. KeepsOrder runtime served.order in
-    subst R (sym c.drive_by_threads.ensures.same) c.requires.keeps
