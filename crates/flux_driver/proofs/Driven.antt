@@ -5,11 +5,14 @@ use Rattle.flow_model.specs.declared.journals.Entry.{Entry}
 use Rattle.flow_model.specs.Setup.{Setup}
 use Rattle.flux_cli.specs.declared.values.Runtime.{Runtime}
 use Rattle.flux_cli.specs.declared.values.Runtime.TheVariants as words
+use Rattle.flux_cli.specs.declared.replies.Replying.TheVariants.{AtEnd}
 use Rattle.flux_runs.specs.Orders.{IsOrderOf}
 use Rattle.flow_core.specs.States.{CoreState, setup_in}
 use Rattle.flow_core.specs.Runs.{GoesToEnd}
 use Rattle.rt_all.specs.Orders.{runtime_by, IsOrder}
 use Rattle.flux_commands.specs.Driving.{DrivesTo}
+use Rattle.flux_driver.specs.Serving as serving
+use Rattle.flux_driver.specs.steps.Orders.{KeepsOrder}
 
 order_of : (runtime : Runtime) (setup : Setup) (old new : List Entry) → IsOrder (runtime_by runtime) setup old new
     → IsOrderOf runtime setup old new
@@ -18,6 +21,14 @@ order_of (words.EventWithHelpers helpers) setup old new order = tt
 order_of (words.Script numbers) setup old new order = order
 order_of words.PerFlow setup old new order = tt
 order_of (words.Pool workers) setup old new order = tt
+
+-- and so does each batch
+pub keeps-order : (runtime : Runtime) → KeepsOrder (runtime_by runtime) (serving.order_of (AtEnd runtime))
+keeps-order words.Event setup entries order = order refl
+keeps-order (words.EventWithHelpers helpers) setup entries order = tt
+keeps-order (words.Script numbers) setup entries order = order
+keeps-order words.PerFlow setup entries order = tt
+keeps-order (words.Pool workers) setup entries order = tt
 
 module _ {L : Type 0} (meaning : L → LibraryMeaning) (runtime : Runtime) (old new : CoreState L) where
   abbrev own : Setup

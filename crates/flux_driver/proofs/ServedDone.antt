@@ -23,7 +23,7 @@ use Rattle.flux_driver.specs.Seen.{Link, Seen}
 use Rattle.flux_commands.specs.Inputs.{HasServable}
 use Rattle.flux_commands.specs.Documents.{AreDocs}
 use Rattle.flux_commands.specs.Answers.{Libraries, OrMemory}
-use Rattle.flux_driver.specs.Serving.{end_status, end_line, sight_of, IsOpened, HasServedBy, HasServedFile}
+use Rattle.flux_driver.specs.Serving.{end_status, end_line, sight_of, IsOpened, HasServedBy, order_of, HasServedFile}
 use Rattle.flux_commands.specs.Asked.{HasAsked}
 use Rattle.flux_driver.specs.Top.{MayBreak, AreLater, Decides, IsComplete, HasDone}
 use Rattle.flux_commands.specs.Counts.{AreSteady}
@@ -71,7 +71,7 @@ module _ (library : Libraries) (words : List (List ℕ)) (before after : Seen) (
   own_end = has.end
 
   abbrev own_service : Service
-  own_service = let there = has.there in record { program = program_of there.decls; framing = there.framing; meaning = library has.docs }
+  own_service = let there = has.there in record { program = program_of there.decls; framing = there.framing; order = order_of serving.replying; meaning = library has.docs }
 
   -- what is known of it, whenever replies were written
   known : HasServedAtOnce (λ (link : Link). link) own_service serving.batches (sight_of before) (sight_of after) own_end
@@ -129,7 +129,7 @@ module _ (library : Libraries) (words : List (List ℕ)) (before after : Seen) (
   own_program = ready.is
 
   served_file : (end : ServeEnd) → (let told = before.told in AreDocs told.folders (option_copied service.docs) docs)
-      → HasServedBy service.replying (λ (link : Link). link) (record { program = checked.program; framing = framing; meaning = library docs }) service.batches (sight_of before) (sight_of after) end
+      → HasServedBy service.replying (λ (link : Link). link) (record { program = checked.program; framing = framing; order = order_of service.replying; meaning = library docs }) service.batches (sight_of before) (sight_of after) end
       → (let own = before.door in let later = after.door in IsOpened end service.port own.open_at later.open_at (sight_of before) (sight_of after)) → WroteOrBroke before.err after.err (end_line end)
       → HasServedFile library service.file.now (record { port = service.port; batches = service.batches; docs = option_copied service.docs; replying = service.replying }) before after
   unfolding has_servable
@@ -139,12 +139,12 @@ module _ (library : Libraries) (words : List (List ℕ)) (before after : Seen) (
     there = there_;
     end = end;
     opened = opened;
-    served = subst (λ (p : Program). HasServedBy service.replying (λ (link : Link). link) (record { program = p; framing = framing; meaning = library docs }) service.batches (sight_of before) (sight_of after) end) own_program served;
+    served = subst (λ (p : Program). HasServedBy service.replying (λ (link : Link). link) (record { program = p; framing = framing; order = order_of service.replying; meaning = library docs }) service.batches (sight_of before) (sight_of after) end) own_program served;
     said = said;
   }
 
   pub ready_done : (end : ServeEnd) (status : Status) → Spells words (command_of service) → (let told = before.told in AreDocs told.folders (option_copied service.docs) docs)
-      → HasServedBy service.replying (λ (link : Link). link) (record { program = checked.program; framing = framing; meaning = library docs }) service.batches (sight_of before) (sight_of after) end
+      → HasServedBy service.replying (λ (link : Link). link) (record { program = checked.program; framing = framing; order = order_of service.replying; meaning = library docs }) service.batches (sight_of before) (sight_of after) end
       → (let own = before.door in let later = after.door in IsOpened end service.port own.open_at later.open_at (sight_of before) (sight_of after))
       → WroteOrBroke before.err after.err (end_line end) → after.told ≡ before.told → AreLater before after
       → (let folder = before.folder in let folder_after = after.folder in let store = before.store in let store_after = after.store in HasAsked library words before.told statuses.Done folder.asked folder_after.asked store.asked store_after.asked)

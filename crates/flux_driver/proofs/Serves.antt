@@ -8,6 +8,7 @@ use Rattle.flux_doors.specs.declared.framing.Framing.{Framing}
 use Rattle.flux_batches.specs.Links.{Seen}
 use Rattle.flux_batches.proofs.Giving.{back_none}
 use Rattle.flux_serve.specs.declared.batches.ServeEnd.TheVariants.{Door, Memory}
+use Rattle.flux_serve.specs.declared.orders.BatchOrder.{BatchOrder}
 use Rattle.flux_serve.specs.Batches.{Service}
 use Rattle.flux_serve.specs.Ends.{Sight, HasServed}
 use Rattle.flux_cli.specs.Behind.{Serving}
@@ -45,8 +46,9 @@ module _ {L : Type 0} (see : L → Seen) (wanted : ℕ) (some : 0 < wanted) wher
 
 -- ---- the same service, from the same sight
 
-pub service_same : (p q : Program) (f g : Framing) (m n : LibraryMeaning) → p ≡ q → f ≡ g → m ≡ n → ◌≡◌ {A = Service} (record { program = p; framing = f; meaning = m }) (record { program = q; framing = g; meaning = n })
-service_same p q f g m n program framing meaning = λ i. record { program = program i; framing = framing i; meaning = meaning i }
+pub service_same : (p q : Program) (f g : Framing) (o r : BatchOrder) (m n : LibraryMeaning) → p ≡ q → f ≡ g → o ≡ r → m ≡ n
+    → ◌≡◌ {A = Service} (record { program = p; framing = f; order = o; meaning = m }) (record { program = q; framing = g; order = r; meaning = n })
+service_same p q f g o r m n program framing order meaning = λ i. record { program = program i; framing = framing i; order = order i; meaning = meaning i }
 
 pub sight_same : {L : Type 0} (to_come to_come_after : Option (List (List L))) (back back_after : Option (List L)) (faults faults_after late late_after : ℕ) (log : Stream)
     → to_come_after ≡ to_come → back_after ≡ back → faults_after ≡ faults → late_after ≡ late

@@ -5,12 +5,15 @@ use Rattle.flux_syntax.specs.ProgramOfText.{program_of}
 use Rattle.flux_outside.specs.Streams.{WroteOrBroke}
 use Rattle.flux_serve.specs.declared.batches.ServeEnd.{ServeEnd}
 use Rattle.flux_serve.specs.declared.batches.ServeEnd.TheVariants.{Closed, Counted, Door, Log, Memory}
+use Rattle.flux_serve.specs.declared.orders.BatchOrder.{BatchOrder}
+use Rattle.flux_serve.specs.declared.orders.BatchOrder.TheVariants as orders
 use Rattle.flux_serve.specs.Batches.{Service}
 use Rattle.flux_serve.specs.Ends.{Sight, HasServed}
 use Rattle.flux_serve.specs.AtOnce.{HasServedAtOnce}
 use Rattle.flux_batches.specs.Links as links
 use Rattle.flux_cli.specs.declared.replies.Replying.{Replying}
 use Rattle.flux_cli.specs.declared.replies.Replying.TheVariants.{AtEnd, AtOnce}
+use Rattle.flux_cli.specs.declared.values.Runtime.TheVariants.{Event, EventWithHelpers, Script, PerFlow, Pool}
 use Rattle.flux_cli.specs.Behind.{Serving}
 use Rattle.flux_cli.specs.Commands.{serve, Spells}
 use Rattle.flux_commands.specs.declared.statuses.Status.{Status}
@@ -68,6 +71,16 @@ sight_of seen = let door = seen.door in record {
   log = seen.out;
 }
 
+-- the order in which the flows of a batch go on, by the words: by `event` flow after flow, each up to
+-- its first call, its wait or its end; by a script as it says; by threads and helpers, and at once, any
+abbrev pub order_of : Replying → BatchOrder
+order_of (AtEnd Event) = orders.Round
+order_of (AtEnd (EventWithHelpers helpers)) = orders.Any
+order_of (AtEnd (Script numbers)) = orders.Listed numbers
+order_of (AtEnd PerFlow) = orders.Any
+order_of (AtEnd (Pool workers)) = orders.Any
+order_of (AtOnce workers) = orders.Any
+
 -- what is promised of serving with replies after each batch, or at once; no clause says when one is written, or by
 -- how many workers
 abbrev pub HasServedBy : {L : Type 0} → Replying → (L → links.Seen) → Service → ℕ → Sight L → Sight L
@@ -82,7 +95,8 @@ HasServedBy (AtOnce workers) see service wanted before after end =
 --   there            the file has a sound program that can be served;
 --   end, opened      serving ended so, and the door is open at the port that the words name; or it was never opened,
 --                    and nothing came;
---   served           so many batches were served, or fewer; with `--at-once` the next one may have been broken off;
+--   served           so many batches were served, or fewer, each in the order of the words; with `--at-once` the next one
+--                    may have been broken off;
 --   said             the end's line is on `err`, or a front of it where `err` failed.
 pub record HasServedFile (library : Libraries) (file : List ℕ) (serving : Serving) (before after : Seen)
     : Type 0 where
@@ -93,7 +107,12 @@ pub record HasServedFile (library : Libraries) (file : List ℕ) (serving : Serv
   pub opened : let own = before.door in let later = after.door in
       IsOpened end serving.port own.open_at later.open_at (sight_of before) (sight_of after)
   pub served : let own = there in HasServedBy serving.replying (λ link. link)
-      (record { program = program_of own.decls; framing = own.framing; meaning = library docs })
+      (record {
+        program = program_of own.decls;
+        framing = own.framing;
+        order = order_of serving.replying;
+        meaning = library docs;
+      })
       serving.batches (sight_of before) (sight_of after) end
   pub said : WroteOrBroke before.err after.err (end_line end)
 

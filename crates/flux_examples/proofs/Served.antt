@@ -10,6 +10,8 @@ use Rattle.flux_sources.specs.Sources.{role_of, IsServed}
 use Rattle.flux_examples.specs.SmallServing.{with_role, sig_with, line, sources_of_one}
 use Rattle.flux_examples.specs.Serving.{ServingFits, ServingMisfits}
 use Rattle.flux_examples.proofs.Doors.{rose, stands}
+use Rattle.flux_examples.proofs.Rounds.{goes_round}
+use Rattle.flux_examples.proofs.Orders.{first_begins, listed_first}
 
 -- a number for each role
 abbrev role_number : Role → ℕ
@@ -48,6 +50,7 @@ fit = record {
   plain = λ framing is. not_plain framing (by_role Plain framing is);
   closed = (refl, refl, refl, refl, refl);
   failed = (rose, refl, refl, refl, refl);
+  in_order = goes_round;
 }
 
 pub misfit : ServingMisfits
@@ -58,4 +61,6 @@ misfit = record {
   failed = λ stops. stands stops.0;
   lost = λ stops. let same : 0 ≡ 1 = ap first_count stops.3 in omega (arith, same);
   counted = λ before after stops. stops;
+  turned = first_begins;
+  unlisted = listed_first;
 }

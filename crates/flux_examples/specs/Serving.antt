@@ -6,8 +6,15 @@ use Rattle.flux_batches.specs.Links.{Seen}
 use Rattle.flux_serve.specs.declared.batches.ServeEnd.{ServeEnd}
 use Rattle.flux_serve.specs.declared.batches.ServeEnd.TheVariants.{Closed, Counted, Door}
 use Rattle.flux_sources.specs.Sources.{IsServed, IsNotServed}
+use Rattle.flow_model.specs.declared.journals.Entry.{Entry}
+use Rattle.flow_model.specs.declared.journals.Event.TheVariants.{Enter}
+use Rattle.flux_serve.specs.declared.orders.BatchOrder.TheVariants.{Any, Round, Listed}
+use Rattle.flux_serve.specs.Orders.{IsInOrder}
 use Rattle.flux_serve.specs.Batches.{Service, empty_cells}
 use Rattle.flux_serve.specs.Ends.{Sight, HasStopped}
+use Rattle.flux_examples.specs.Small.{no, by}
+use Rattle.flux_examples.specs.Legality.{failing, failed}
+use Rattle.flux_examples.specs.Orders.{side_by_side}
 use Rattle.flux_examples.specs.SmallServing.{link, itself, with_role, line, sources_of_one, door}
 
 -- a program that reads heads
@@ -15,6 +22,7 @@ abbrev pub heads : Service
 heads = record {
   program = sources_of_one (line ∷ []);
   framing = Head;
+  order = Any;
   meaning = with_role HeadSource;
 }
 
@@ -31,6 +39,8 @@ abbrev pub somebody : List (List Seen)
 somebody = (link (codes "a") [] 0 ∷ []) ∷ []
 
 pub record ServingFits : Type 0 where
+  -- a batch of one flow goes flow after flow
+  pub in_order : IsInOrder Round failing failed
   -- the links of one source of heads are read as heads
   pub heads_ : IsServed (with_role HeadSource) (sources_of_one (line ∷ [])) Head
   -- a program without a source isn't served, nor one with two, nor one whose node reads no links
@@ -52,3 +62,8 @@ pub record ServingMisfits : Type 0 where
   pub lost : Stops (door somebody 0 0) (door nobody 1 0) Door → ⊥
   -- no batch ends it since as many were served as were wanted
   pub counted : (before after : Sight Seen) → Stops before after Counted → ⊥
+  -- a batch that goes flow after flow doesn't begin with its second flow, nor one with the first whose
+  -- script lists the second
+  pub turned : (later : List Entry) → IsInOrder Round side_by_side (by 1 (Enter (no 1)) ∷ later) → ⊥
+  pub unlisted : (later : List Entry)
+      → IsInOrder (Listed (record { 0 = 1 } ∷ [])) side_by_side (by 0 (Enter (no 0)) ∷ later) → ⊥

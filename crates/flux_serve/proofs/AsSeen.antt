@@ -17,6 +17,7 @@ use Rattle.flux_batches.specs.Replies.{AreAnswered, flow_behind, TakesBack}
 use Rattle.flux_batches.specs.Gathered.{AreFirst, AreAll, AreGathered}
 use Rattle.flux_serve.specs.declared.batches.ServeEnd.{ServeEnd}
 use Rattle.flux_serve.specs.declared.batches.ServeEnd.TheVariants.{Closed, Counted, Door, Log, Memory}
+use Rattle.flux_serve.specs.Orders.{IsInOrder}
 use Rattle.flux_serve.specs.Batches.{Service, Batch, batch_setup, IsDriven, cells_behind, number_behind, empty_cells}
 use Rattle.flux_serve.specs.Ends.{Sight, as_seen, HasDriven, AreServed, cells_at_end, number_at_end, AreUnwritten, IsUndriven, Stands, HasStopped, HasEnded, HasServed}
 
@@ -107,11 +108,13 @@ module _ {L : Type 0} (see : L → Seen) where
       let journal = batch.journal in
       let Q : List Item → Type 0 = λ its. IsLegal (batch_setup service opening its) journal.entries in
       let W : List Item → Type 0 = λ its. IsWhole (batch_setup service opening its) journal.entries in
+      let O : List Item → Type 0 = λ its. IsInOrder service.order (batch_setup service opening its) journal.entries in
       record {
         read = read_seen service.framing batch.came batch.requests d.read;
         each = each_seen batch.requests d.each;
         legal = subst Q (sym (items_seen number batch.requests)) d.legal;
         whole = subst W (sym (items_seen number batch.requests)) d.whole;
+        order = subst O (sym (items_seen number batch.requests)) d.order;
         replies = answered_seen journal.entries 0 batch.requests batch.back d.replies;
       }
 

@@ -17,6 +17,7 @@ use Rattle.flux_batches.specs.Gathered.{AreGathered}
 use Rattle.flux_serve.specs.declared.batches.Run.{Run}
 use Rattle.flux_serve.specs.declared.batches.ServeEnd.{ServeEnd}
 use Rattle.flux_serve.specs.declared.batches.ServeEnd.TheVariants.{Closed, Counted, Door, Log, Memory}
+use Rattle.flux_serve.specs.Orders.{IsInOrder}
 use Rattle.flux_serve.specs.Batches.{Service, batch_items, batch_setup}
 use Rattle.flux_serve.specs.Ends.{Sight, IsUndriven, HasDriven, Stands, HasStopped}
 use Rattle.flux_serve.specs.steps.Batches.{with_log, IsTaken, IsNone, HasFinished, HasRun, HasPassed}
@@ -35,6 +36,7 @@ pub record Parts {L : Type 0} (see : L → Seen) (service : Service) (opening : 
   pub is : run.items ≡ items_from number requests
   pub legal : let journal = run.journal in IsLegal (batch_setup service opening run.items) journal.entries
   pub whole : let journal = run.journal in IsWhole (batch_setup service opening run.items) journal.entries
+  pub order : let journal = run.journal in IsInOrder service.order (batch_setup service opening run.items) journal.entries
   pub cells_ : let journal = run.journal in cells_of run.cells ≡ cells_after (batch_setup service opening run.items) journal.entries
   pub next_ : run.next ≡ number + length requests
   pub answered : let journal = run.journal in AreAllAnswered see journal.entries requests taken_back after.taken_back
@@ -51,6 +53,7 @@ ran_of {L} see service opening number before after requests run p =
     let journal = run.journal in
     let Q : List Item → Type 0 = λ i. IsLegal (batch_setup service opening i) journal.entries in
     let W : List Item → Type 0 = λ i. IsWhole (batch_setup service opening i) journal.entries in
+    let O : List Item → Type 0 = λ i. IsInOrder service.order (batch_setup service opening i) journal.entries in
     let T : Option (List L) → Type 0 = λ b. TakesBack b after.taken_back a.backs in
     let C : Option (List (List L)) → Type 0 = λ c. AreGathered before.to_come c before.late after.late t.came in
     let D : ℕ → Type 0 = λ n. AreGathered before.to_come p.to_come before.late n t.came in
@@ -59,7 +62,7 @@ ran_of {L} see service opening number before after requests run p =
       driven = record {
         formed = subst C (sym p.come) (subst D (sym p.late_) t.formed);
         size = t.size;
-        driven = record { read = t.read; each = p.each; legal = subst Q p.is p.legal; whole = subst W p.is p.whole; replies = a.answered };
+        driven = record { read = t.read; each = p.each; legal = subst Q p.is p.legal; whole = subst W p.is p.whole; order = subst O p.is p.order; replies = a.answered };
         back = subst T p.back a.taken;
         steady = p.steady;
         gained = p.log_;

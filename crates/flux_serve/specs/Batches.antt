@@ -15,11 +15,15 @@ use Rattle.flux_doors.specs.declared.framing.Framing.{Framing}
 use Rattle.flux_batches.specs.declared.reading.ReadLink.{ReadLink}
 use Rattle.flux_batches.specs.Links.{Seen, WereRead, AreRead, items_from}
 use Rattle.flux_batches.specs.Replies.{AreAnswered}
+use Rattle.flux_serve.specs.declared.orders.BatchOrder.{BatchOrder}
+use Rattle.flux_serve.specs.Orders.{IsInOrder}
 
--- what is served: a program, how its links are read, and what its library means
+-- what is served: a program, how its links are read, in which order the flows of a batch go on, and
+-- what its library means
 pub record Service : Type 0 where
   pub program : Program
   pub framing : Framing
+  pub order : BatchOrder
   pub meaning : LibraryMeaning
 
 -- what a batch's journal is judged by: the program with its locks, the batch's items, the cells at
@@ -44,8 +48,8 @@ pub record Batch (L : Type 0) : Type 0 where
 abbrev pub batch_items : {L : Type 0} → ℕ → Batch L → List Item
 batch_items number batch = items_from number batch.requests
 
--- its links were read, its journal is legal and whole for its items from these cells, and each link
--- was written the reply of its flow
+-- its links were read, its journal is legal and whole for its items from these cells and in the order
+-- that is served, and each link was written the reply of its flow
 pub record IsDriven {L : Type 0} (see : L → Seen) (service : Service) (opening : Cells) (number : ℕ)
     (batch : Batch L) : Type 0 where
   pub read : WereRead see service.framing batch.came batch.requests []
@@ -54,6 +58,8 @@ pub record IsDriven {L : Type 0} (see : L → Seen) (service : Service) (opening
       IsLegal (batch_setup service opening (batch_items number batch)) journal.entries
   pub whole : let journal = batch.journal in
       IsWhole (batch_setup service opening (batch_items number batch)) journal.entries
+  pub order : let journal = batch.journal in
+      IsInOrder service.order (batch_setup service opening (batch_items number batch)) journal.entries
   pub replies : let journal = batch.journal in
       AreAnswered see journal.entries 0 batch.requests batch.back []
 

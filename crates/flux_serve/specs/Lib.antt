@@ -1,4 +1,5 @@
 pub mod Served
+pub mod Orders
 pub mod Batches
 pub mod Runs
 pub mod Ends

@@ -10,15 +10,19 @@ use Rattle.flow_model.specs.CellsAfter.{cells_after}
 use Rattle.flow_model.specs.Legal.{IsLegal, IsWhole}
 use Rattle.flux_cells.specs.Kept.{Kept, cells_of}
 use Rattle.flux_batches.specs.Links.{IsLinkItem}
+use Rattle.flux_serve.specs.Orders.{IsInOrder}
 use Rattle.flux_serve.specs.Batches.{Service, batch_setup}
 
--- a journal that is legal and whole for these items from these cells, and the cells after it
+-- a journal that is legal and whole for these items from these cells, and in the order that is served;
+-- and the cells after it
 pub record IsRun (service : Service) (opening : Kept) (items : List Item) (run : Journal × Kept)
     : Type 0 where
   pub legal : let journal = run.0 in
       IsLegal (batch_setup service (cells_of opening) items) journal.entries
   pub whole : let journal = run.0 in
       IsWhole (batch_setup service (cells_of opening) items) journal.entries
+  pub order : let journal = run.0 in
+      IsInOrder service.order (batch_setup service (cells_of opening) items) journal.entries
   pub cells_ : let journal = run.0 in
       cells_of run.1 ≡ cells_after (batch_setup service (cells_of opening) items) journal.entries
 

@@ -8,6 +8,7 @@ ghost use Rattle.flux_cells.specs.Kept.{cells_of};
 ghost use Rattle.flux_outside.specs.Streams.{Stream, Wrote};
 ghost use Rattle.flux_journal.specs.Logs.{printed_batch};
 ghost use Rattle.flux_batches.specs.Links.{seen_by, AreRead, items_from};
+ghost use Rattle.flux_serve.specs.Orders.{IsInOrder};
 ghost use Rattle.flux_serve.specs.Batches.{batch_setup};
 ghost use Rattle.flux_serve.specs.Runs.{MayRun, Runs};
 ghost use Rattle.flux_serve.specs.steps.Batches.{sight_in, service_in, IsTaken, IsNone, HasFinished, HasRun};
@@ -117,6 +118,8 @@ fn run_links<
         IsLegal (batch_setup (service_in L.meaning served.now) (cells_of opening) run.items) journal.entries) }
     ensures whole { IfOk result (λ run. let journal = run.journal in
         IsWhole (batch_setup (service_in L.meaning served.now) (cells_of opening) run.items) journal.entries) }
+    ensures order { IfOk result (λ run. let journal = run.journal in IsInOrder served.now.order
+        (batch_setup (service_in L.meaning served.now) (cells_of opening) run.items) journal.entries) }
     ensures cells { IfOk result (λ run. let journal = run.journal in cells_of run.cells
         ≡ cells_after (batch_setup (service_in L.meaning served.now) (cells_of opening) run.items) journal.entries) }
 {

@@ -14,6 +14,7 @@ ghost use Rattle.flux_serve.specs.steps.Batches.{sight_in, service_in, MayServe,
 ghost use Rattle.flux_serve.specs.steps.PendingReplies.{IsEmptyQueue, AreBack};
 
 use crate::batches::{Run, ServeEnd, take};
+use crate::orders::BatchOrder;
 use crate::queues::{WorkerQueue, deal, empty_queues, give_back_links};
 use crate::runs::{Served, open};
 use crate::workers::drive;
@@ -154,6 +155,7 @@ pub fn drive_batch_at_once<
     number: u64,
 ) -> Result<Run, ServeEnd>
     requires can { MayServe L.meaning served.now }
+    requires any { served.now.order ≡ BatchOrder.Any }
     requires some { 0 < workers }
     requires out { D.out door.old ≡ 0 }
     requires numbers { number + 64 < 2 ^ 63 }

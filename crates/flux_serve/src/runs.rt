@@ -9,10 +9,12 @@ ghost use Rattle.flux_cells.specs.Kept.{cells_of};
 ghost use Rattle.flux_batches.specs.Links.{IsLinkItem};
 ghost use Rattle.flux_serve.specs.Served.{CanServe};
 ghost use Rattle.flow_core.specs.States.{opened};
+ghost use Rattle.flux_serve.specs.Orders.{IsInOrder};
 ghost use Rattle.flux_serve.specs.Batches.{Service, batch_setup};
 ghost use Rattle.flux_serve.specs.Runs.{MayRun, Runs};
 ghost use Rattle.flux_serve.specs.steps.Batches.{service_in};
 
+use crate::orders::BatchOrder;
 use flow_core::{Core, Gate, Runtime, Setup};
 use flow_model::Journal;
 use flux_cells::Cells;
@@ -26,13 +28,14 @@ use std::marker::Sync;
 use std::sync::{Arc, Wait};
 use std::thread::Threads;
 
-/// What is served: a program with its plans, its library, and how its links are read.
+/// What is served: a program with its plans, its library, how its links are read, and in which order the flows of a batch go on.
 #[derive(Drop)]
 pub struct Served<L: Library> {
     pub program: Arc<Program>,
     pub plans: Arc<List<VerifiedPlan>>,
     pub library: Arc<L>,
     pub framing: Framing,
+    pub order: BatchOrder,
 }
 
 /// The core of a batch, whose flows have done nothing.
@@ -59,7 +62,7 @@ pub fn open<L: Library>(
     Core::new(alloc, setup)
 }
 
-/// Drives a batch's items to their end, from the cells that the batch before left.
+/// Drives a batch's items to their end, from the cells that the batch before left, in an order of the runtime's own.
 pub fn run<L: Library, R: Runtime, G: Gate, Rt: Threads + Wait + Sync>(
     rt: &Rt,
     alloc: Global,
@@ -71,15 +74,18 @@ pub fn run<L: Library, R: Runtime, G: Gate, Rt: Threads + Wait + Sync>(
 ) -> Result<(Journal, Cells), Memory>
     requires can { CanServe (L.meaning (arc_value served.now.library)) (arc_value served.now.program)
         (arc_value served.now.plans) served.now.framing }
+    requires any { served.now.order ≡ BatchOrder.Any }
     requires ready { R.ready runtime.old }
     requires items { AllByRecursion IsLinkItem items }
     requires few { length items ≤ 4096 }
     ensures again { R.ready runtime.new }
-    ensures legal { let service : Service = (record { program = arc_value served.now.program; framing = served.now.framing; meaning = L.meaning (arc_value served.now.library) }) in
+    ensures legal { let service : Service = (record { program = arc_value served.now.program; framing = served.now.framing; order = served.now.order; meaning = L.meaning (arc_value served.now.library) }) in
         IfOk result (λ run. IsLegal (batch_setup service (cells_of opening) items) run.0.entries) }
-    ensures whole { let service : Service = (record { program = arc_value served.now.program; framing = served.now.framing; meaning = L.meaning (arc_value served.now.library) }) in
+    ensures whole { let service : Service = (record { program = arc_value served.now.program; framing = served.now.framing; order = served.now.order; meaning = L.meaning (arc_value served.now.library) }) in
         IfOk result (λ run. IsWhole (batch_setup service (cells_of opening) items) run.0.entries) }
-    ensures cells { let service : Service = (record { program = arc_value served.now.program; framing = served.now.framing; meaning = L.meaning (arc_value served.now.library) }) in
+    ensures order { let service : Service = (record { program = arc_value served.now.program; framing = served.now.framing; order = served.now.order; meaning = L.meaning (arc_value served.now.library) }) in
+        IfOk result (λ run. IsInOrder served.now.order (batch_setup service (cells_of opening) items) run.0.entries) }
+    ensures cells { let service : Service = (record { program = arc_value served.now.program; framing = served.now.framing; order = served.now.order; meaning = L.meaning (arc_value served.now.library) }) in
         IfOk result (λ run. cells_of run.1 ≡ cells_after (batch_setup service (cells_of opening) items) run.0.entries) }
 {
     let core = open(alloc, served, items, opening)?;
@@ -108,6 +114,7 @@ pub fn run_items<
     ensures again { MayRun F.Fn run.now state.new }
     ensures legal { IfOk result (λ run. IsLegal (batch_setup (service_in L.meaning served.now) (cells_of opening) items) run.0.entries) }
     ensures whole { IfOk result (λ run. IsWhole (batch_setup (service_in L.meaning served.now) (cells_of opening) items) run.0.entries) }
+    ensures order { IfOk result (λ run. IsInOrder served.now.order (batch_setup (service_in L.meaning served.now) (cells_of opening) items) run.0.entries) }
     ensures cells { IfOk result (λ run. cells_of run.1
         ≡ cells_after (batch_setup (service_in L.meaning served.now) (cells_of opening) items) run.0.entries) }
 {

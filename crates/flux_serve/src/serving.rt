@@ -14,6 +14,7 @@ ghost use Rattle.flux_serve.specs.steps.Batches.{sight_in, service_in, MayServe,
 
 use crate::batches::{ServeEnd, drive_batch};
 use crate::loops::serve_batches;
+use crate::orders::BatchOrder;
 use crate::runs::{Served, run};
 use flow_core::{Gate, Runtime};
 use flow_model::Journal;
@@ -58,7 +59,7 @@ pub fn serve_by<
     ensures open { D.open_at door.new ≡ D.open_at door.old }
     ensures later { (D.faults door.old ≤ D.faults door.new) × (D.late door.old ≤ D.late door.new) }
     ensures later_log { O.faults log.old ≤ O.faults log.new }
-    ensures served { let service : Service = (record { program = arc_value served.now.program; framing = served.now.framing; meaning = L.meaning (arc_value served.now.library) }) in
+    ensures served { let service : Service = (record { program = arc_value served.now.program; framing = served.now.framing; order = served.now.order; meaning = L.meaning (arc_value served.now.library) }) in
         HasServed
         (seen_by D.Link.had D.Link.left D.Link.left_before D.Link.written D.Link.faults)
         service batches
@@ -119,6 +120,8 @@ pub fn serve<L: Library, D: Door, O: Sink, R: Runtime, G: Gate, Rt: Threads + Wa
 ) -> ServeEnd
     requires can { CanServe (L.meaning (arc_value served.now.library)) (arc_value served.now.program)
         (arc_value served.now.plans) served.now.framing }
+    // No runtime promises an order.
+    requires any { served.now.order ≡ BatchOrder.Any }
     requires ready { R.ready runtime.old }
     requires out { D.out door.old ≡ 0 }
     ensures again { R.ready runtime.new }
@@ -127,7 +130,7 @@ pub fn serve<L: Library, D: Door, O: Sink, R: Runtime, G: Gate, Rt: Threads + Wa
     ensures open { D.open_at door.new ≡ D.open_at door.old }
     ensures later { (D.faults door.old ≤ D.faults door.new) × (D.late door.old ≤ D.late door.new) }
     ensures later_log { O.faults log.old ≤ O.faults log.new }
-    ensures served { let service : Service = (record { program = arc_value served.now.program; framing = served.now.framing; meaning = L.meaning (arc_value served.now.library) }) in
+    ensures served { let service : Service = (record { program = arc_value served.now.program; framing = served.now.framing; order = served.now.order; meaning = L.meaning (arc_value served.now.library) }) in
         HasServed
         (seen_by D.Link.had D.Link.left D.Link.left_before D.Link.written D.Link.faults)
         service batches
@@ -156,6 +159,7 @@ pub fn serve<L: Library, D: Door, O: Sink, R: Runtime, G: Gate, Rt: Threads + Wa
         &|runtime: &mut R, items: List<Item>, opening: Cells|
             requires ready { R.ready runtime.old }
             requires can { MayServe L.meaning served.now }
+            requires any { served.now.order ≡ BatchOrder.Any }
             requires items { AllByRecursion IsLinkItem items }
             requires few { length items ≤ 4096 }
             ensures again { R.ready runtime.new }

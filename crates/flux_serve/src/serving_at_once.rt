@@ -13,6 +13,7 @@ ghost use Rattle.flux_serve.specs.steps.Batches.{sight_in, service_in, MayServe,
 use crate::batches::ServeEnd;
 use crate::batches_at_once::drive_batch_at_once;
 use crate::loops::serve_batches;
+use crate::orders::BatchOrder;
 use crate::runs::Served;
 use flow_core::Gate;
 use flux_cells::Cells;
@@ -46,6 +47,8 @@ pub fn serve_at_once<
 ) -> ServeEnd
     requires can { CanServe (L.meaning (arc_value served.now.library)) (arc_value served.now.program)
         (arc_value served.now.plans) served.now.framing }
+    // Workers keep no order.
+    requires any { served.now.order ≡ BatchOrder.Any }
     requires some { 0 < workers }
     requires few { workers ≤ 16 }
     requires out { D.out door.old ≡ 0 }
@@ -54,7 +57,7 @@ pub fn serve_at_once<
     ensures open { D.open_at door.new ≡ D.open_at door.old }
     ensures later { (D.faults door.old ≤ D.faults door.new) × (D.late door.old ≤ D.late door.new) }
     ensures later_log { O.faults log.old ≤ O.faults log.new }
-    ensures served { let service : Service = (record { program = arc_value served.now.program; framing = served.now.framing; meaning = L.meaning (arc_value served.now.library) }) in
+    ensures served { let service : Service = (record { program = arc_value served.now.program; framing = served.now.framing; order = served.now.order; meaning = L.meaning (arc_value served.now.library) }) in
         HasServedAtOnce
         (seen_by D.Link.had D.Link.left D.Link.left_before D.Link.written D.Link.faults)
         service batches
@@ -82,6 +85,7 @@ pub fn serve_at_once<
         &mut workers,
         &|workers: &mut u8, door: &mut D, opening: Cells, number: u64|
             requires can { MayServe L.meaning served.now }
+            requires any { served.now.order ≡ BatchOrder.Any }
             requires some { 0 < workers.old }
             requires out { D.out door.old ≡ 0 }
             requires numbers { number + 64 < 2 ^ 63 }

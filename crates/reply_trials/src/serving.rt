@@ -6,7 +6,7 @@ ghost use Rattle.flux_doors.specs.Memory.{door_out};
 use flow_core::Gate;
 use flux_doors::{Door, MemoryDoor, MemoryLink};
 use flux_outside::MemorySink;
-use flux_serve::{ServeEnd, Served, serve_at_once};
+use flux_serve::{BatchOrder, ServeEnd, Served, serve_at_once};
 use flux_sources::framing_of;
 use flux_values::{Bytes, List, Memory};
 use nodes_counter::Counter;
@@ -56,6 +56,7 @@ pub fn serve_text<D: Door, G: Gate + Sync, R: Threads + Wait + Sync>(
         plans: setup.plans.clone()?,
         library: setup.library.clone()?,
         framing,
+        order: BatchOrder::Any,
     };
     let mut log = MemorySink::new(alloc, 1_048_576, 65_536, List::new(alloc))?;
     let workers = workers.clamp(1, 16);

@@ -49,6 +49,7 @@ abbrev pub service_in : {L : Type 0} → (L → LibraryMeaning) → Served L →
 service_in meaning served = record {
   program = arc_value served.program;
   framing = served.framing;
+  order = served.order;
   meaning = meaning (arc_value served.library);
 }
 

@@ -4,7 +4,7 @@ use Rattle.flux_outside.specs.Causes.{Rose}
 use Rattle.flux_batches.specs.Links.{Seen, seen_by}
 use Rattle.flux_serve.specs.Batches.{Service}
 use Rattle.flux_serve.specs.Ends.{Sight}
-use Rattle.flux_driver.specs.Serving.{HasServedBy}
+use Rattle.flux_driver.specs.Serving.{HasServedBy, order_of}
 use Rattle.flux_driver.proofs.Serves.{service_same, sight_same}
 use Rattle.flux_driver.proofs.ServedBy.{unplanned_by, unopened_by}
 use Rattle.flux_driver.proofs.serving.serve_ready.Goals as goal
@@ -41,7 +41,7 @@ returns-clause-served g c =
     let see : g.row.D-Link.Denot → Seen = seen_by g.D.Link.Link.had g.D.Link.Link.left g.D.Link.Link.left_before g.D.Link.Link.written g.D.Link.Link.faults in
     let meaning = g.L.Meaning.meaning in
     let checked = c.args.ready.checked in
-    let own : Service = record { program = checked.program; framing = c.args.ready.framing; meaning = meaning (arc_value c.args.ready.library) } in
+    let own : Service = record { program = checked.program; framing = c.args.ready.framing; order = order_of c.args.service.replying; meaning = meaning (arc_value c.args.ready.library) } in
     let after : Sight g.row.D-Link.Denot = record {
       to_come = g.D.Door.to_come c.serve_batches.new.door;
       taken_back = g.D.Door.taken_back c.serve_batches.new.door;
@@ -60,4 +60,4 @@ returns-clause-served g c =
     let B : Sight g.row.D-Link.Denot → Type 0 = λ b. HasServedBy c.args.service.replying see own c.args.service.batches b after c.serve_batches.result in
     subst B (sight_same _ _ _ _ _ _ _ _ _ (c.open.ensures.kept.0 ∙ c.expect.ensures.kept.0) (c.open.ensures.kept.1 ∙ c.expect.ensures.kept.1)
     (let cause = c.in-Ok-open.ensures.cause in cause.steady ∙ c.expect.ensures.counts.0) (c.open.ensures.late ∙ c.expect.ensures.counts.1))
-    (subst S (service_same _ _ _ _ _ _ c.in-Ok.ensures.program c.in-Ok.ensures.framing (ap meaning c.in-Ok.ensures.library)) c.serve_batches.ensures.served)
+    (subst S (service_same _ _ _ _ _ _ _ _ c.in-Ok.ensures.program c.in-Ok.ensures.framing c.in-Ok.ensures.order (ap meaning c.in-Ok.ensures.library)) c.serve_batches.ensures.served)

@@ -26,6 +26,7 @@ returns-in-Ok-run_links-clause-ran g c log =
       is = c.in-Ok-run_links.ensures.items;
       legal = c.in-Ok-run_links.ensures.legal;
       whole = c.in-Ok-run_links.ensures.whole;
+      order = c.in-Ok-run_links.ensures.order;
       cells_ = c.in-Ok-run_links.ensures.cells;
       next_ = c.in-Ok-run_links.ensures.next ∙ ap (λ n. c.args.number + n) c.in-Ok.links.ok.0;
       answered = subst A c.as_slice.ensures c.answer_links.ensures.answered;

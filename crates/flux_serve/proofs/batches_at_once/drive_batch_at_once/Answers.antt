@@ -6,6 +6,8 @@ use Rattle.flux_cells.specs.Kept.{cells_of}
 use Rattle.flux_outside.specs.Streams.{Stream}
 use Rattle.flux_batches.specs.Links.{Seen, seen_by}
 use Rattle.flux_serve.specs.declared.batches.Run.{Run}
+use Rattle.flux_serve.specs.declared.orders.BatchOrder.{BatchOrder}
+use Rattle.flux_serve.specs.Orders.{IsInOrder}
 use Rattle.flux_serve.specs.Batches.{batch_setup}
 use Rattle.flux_serve.specs.Ends.{Sight}
 use Rattle.flux_serve.specs.steps.Batches.{sight_in, service_in}
@@ -38,6 +40,7 @@ returns-then-whole-clause-ran g c log =
     let W : CoreState g.row.L.Denot → Type 0 = λ k. IsWhole (setup_in g.L.Meaning.meaning k) journal.entries in
     let K : CoreState g.row.L.Denot → Type 0 = λ k. cells_of ran.1 ≡ cells_after (setup_in g.L.Meaning.meaning k) journal.entries in
     let legal : IsLegal (batch_setup service (cells_of c.args.opening) items) journal.entries = subst L c.in-Ok-prepare.ensures.core c.run_queues-journal.ensures.legal in
+    let O : BatchOrder → Type 0 = λ o. IsInOrder o (batch_setup service (cells_of c.args.opening) items) journal.entries in
     let run' : Run = record { items = items; journal = journal; cells = ran.1; next = c.args.number + c.len-2.result } in
     ran_of see service (cells_of c.args.opening) c.args.number (sight c.args.door.now log) (sight c.run_queues-journal.new.door log) requests run' (record {
       to_come = g.D.Door.to_come c.take.new.door;
@@ -49,6 +52,7 @@ returns-then-whole-clause-ran g c log =
       is = c.in-Ok-prepare.ensures.items;
       legal = legal;
       whole = subst W c.in-Ok-prepare.ensures.core (c.run_queues-journal.ensures.whole c.if-whole.true);
+      order = subst O (sym c.requires.any) tt;
       cells_ = subst K c.in-Ok-prepare.ensures.core c.run_queues-journal.ensures.cells;
       next_ = ap (λ n. c.args.number + n) (c.len-2.ensures ∙ c.in-Ok.links.ok.0);
       answered = all-answered see (batch_setup service (cells_of c.args.opening) items) journal.entries legal requests

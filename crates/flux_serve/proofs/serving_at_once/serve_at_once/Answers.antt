@@ -11,7 +11,7 @@ serve_batches-requires-clause-drives g c κs within p p' q q' opening number res
     let bounds = laters.1 in
     let runs = bounds.1 in
     record {
-      again = λ s d cells n same free fits. (c.requires.can, (subst (λ (w : ℕ). 0 < w) (sym same) some.0, (free, (fits, search sendable depth 60))));
+      again = λ s d cells n same free fits. (c.requires.can, (c.requires.any, (subst (λ (w : ℕ). 0 < w) (sym same) some.0, (free, (fits, search sendable depth 60)))));
       out_ = outs.0;
       open_ = opens.0;
       later = laters.0;
