@@ -10,12 +10,12 @@ use Rattle.flux_cli.specs.declared.values.JournalFormat.{JournalFormat}
 use Rattle.flux_cli.specs.declared.loads.TheConstants.{LOAD_LIMIT, FIRST_LIMIT}
 use Rattle.flux_cli.specs.Names.{IsNamed}
 use Rattle.flux_cli.specs.Values.{SpellsNumber, IsRuntime, IsFormat}
-use Rattle.flux_cli.specs.Behind.{Serving, HasParts, FitsServe}
+use Rattle.flux_cli.specs.Forms.{Serving, HasParts, FitsServe}
 use Rattle.flux_cli.specs.Commands.{Command, check, plan, format, run, audit, load, serve, help, simulate, swarm, Spells, SpellsNone, NeedsThreads}
 use Rattle.flux_cli.specs.steps.Given.{files_of, listed, IsGiven}
 use Rattle.flux_cli.specs.steps.Found.{IsThreaded}
 use Rattle.flux_cli.specs.steps.Asking.{IsCommand, AskThreads}
-use Rattle.flux_cli.proofs.Behind.{Nothing, run_fits, load_fits, run_given, load_given, behind_name, spelled_whole, first_and_rest}
+use Rattle.flux_cli.proofs.Forms.{Nothing, run_fits, load_fits, run_given, load_given, behind_name, spelled_whole, first_and_rest}
 
 -- a false answer, where it isn't so
 pub not_so : (P : Type 0) → (P → ⊥) → IsTrue false ↔ P

@@ -12,7 +12,7 @@ use Rattle.flux_cli.specs.Costs.{IsProcessors, AreCosts}
 use Rattle.flux_cli.specs.declared.replies.Replying.{Replying}
 use Rattle.flux_cli.specs.declared.replies.Replying.TheVariants as replies
 use Rattle.flux_cli.specs.Replies.{IsAtOnce, IsReplying}
-use Rattle.flux_cli.specs.Behind.{RunOptions, Serving, Simulating, HasParts, FitsRun, FitsAudit, FitsLoad, FitsServe, FitsSimulate, FitsSwarm}
+use Rattle.flux_cli.specs.Forms.{RunOptions, Serving, Simulating, HasParts, FitsRun, FitsAudit, FitsLoad, FitsServe, FitsSimulate, FitsSwarm}
 use Rattle.flux_cli.specs.Parts.{Part, word, option, Begins, BeginWith, if_for, words_in, values_of}
 use Rattle.flux_cli.specs.steps.Given.{files_of, listed, HoldsAll, Adds, IsFull, IsTooMuch, IsGiven, AreSoFar}
 use Rattle.flux_cli.proofs.Laid.{begin_more, past, one_part, one_parting, words_in-append, values_of-append, if_for-same}

@@ -5,5 +5,5 @@ pub mod Numbers
 pub mod WhenReplied
 pub mod CostLists
 pub mod OneCommand
-pub mod Behind
+pub mod Forms
 pub mod AskingThreads

@@ -10,8 +10,8 @@ use Rattle.flux_cli.specs.declared.loads.TheConstants.{LOAD_LIMIT, FIRST_LIMIT}
 use Rattle.flux_cli.specs.Names.{IsNamed}
 use Rattle.flux_cli.specs.Parts.{Part, values_of}
 use Rattle.flux_cli.specs.Values.{SpellsNumber}
-use Rattle.flux_cli.specs.Behind.{RunOptions, Serving, Simulating, IsFile, HasParts, FitsRun, FitsAudit, FitsLoad, FitsServe, FitsSimulate, FitsSwarm}
-use Rattle.flux_cli.specs.Commands.{Command, check, plan, format, run, audit, load, serve, help, simulate, swarm, name_of, StandsBehind, Spells}
+use Rattle.flux_cli.specs.Forms.{RunOptions, Serving, Simulating, IsFile, HasParts, FitsRun, FitsAudit, FitsLoad, FitsServe, FitsSimulate, FitsSwarm}
+use Rattle.flux_cli.specs.Commands.{Command, check, plan, format, run, audit, load, serve, help, simulate, swarm, name_of, FollowsName, Spells}
 use Rattle.flux_cli.proofs.Laid.{one_parting}
 use Rattle.flux_cli.proofs.Numbers.{one_number, one_runtime, one_format, one_port, one_batches, one_replying}
 use Rattle.flux_cli.proofs.CostLists.{one_processors, one_costs}
@@ -136,7 +136,7 @@ same_swarm f i j h g k l m d e parts a b =
 on_parts : (words : List (List ℕ)) (First Second : List Part → Type 0) (X : Type 0) → HasParts words First → HasParts words Second → ((parts : List Part) → First parts → Second parts → X) → X
 on_parts words First Second X a b f = f b.parts (subst First (one_parting a.parts b.parts words a.laid b.laid) a.fits) b.fits
 
-one_behind : (words : List (List ℕ)) (a b : Command) → letters (name_of a) ≡ letters (name_of b) → StandsBehind a words → StandsBehind b words → a ≡ b
+one_behind : (words : List (List ℕ)) (a b : Command) → letters (name_of a) ≡ letters (name_of b) → FollowsName a words → FollowsName b words → a ≡ b
 unfolding letters
 one_behind words (check f) (check g) e s t = ap check (one_file words f g s t)
 one_behind words (plan f) (plan g) e s t = ap plan (one_file words f g s t)
@@ -160,4 +160,4 @@ one_command words a b s t =
     let first : s.first ≡ t.first = cc in
     let rest : s.rest ≡ t.rest = cc in
     let name = one_name (name_of a) (name_of b) t.first (subst (IsNamed (name_of a)) first s.named) t.named in
-    one_behind t.rest a b (ap letters name) (subst (StandsBehind a) rest s.behind) t.behind
+    one_behind t.rest a b (ap letters name) (subst (FollowsName a) rest s.behind) t.behind

@@ -5,7 +5,7 @@ use Rattle.flux_cli.specs.declared.names.CommandName.TheVariants as names
 use Rattle.flux_cli.specs.declared.values.Runtime.{Runtime}
 use Rattle.flux_cli.specs.Values.{StartsThreads}
 use Rattle.flux_cli.specs.Names.{IsNamed}
-use Rattle.flux_cli.specs.Behind.{RunOptions, Serving, Simulating, IsFile, HasParts, FitsRun, FitsAudit, FitsLoad, FitsServe, FitsSimulate, FitsSwarm}
+use Rattle.flux_cli.specs.Forms.{RunOptions, Serving, Simulating, IsFile, HasParts, FitsRun, FitsAudit, FitsLoad, FitsServe, FitsSimulate, FitsSwarm}
 
 -- `check FILE`, `plan FILE`, `format FILE`, `run FILE ITEMS` with options, `audit FILE ITEMS JOURNAL` with documents,
 -- `load N K` with a runtime, `serve FILE` with a port and options, `help` or `--help`, `simulate FILE ITEMS` with
@@ -36,18 +36,18 @@ name_of (simulate file items simulating) = names.Simulate
 name_of (swarm file items journal hash docs) = names.Swarm
 
 -- these words come after its name
-abbrev pub StandsBehind : Command → List (List ℕ) → Type 0
-StandsBehind (check file) words = IsFile file words
-StandsBehind (plan file) words = IsFile file words
-StandsBehind (format file) words = IsFile file words
-StandsBehind (run file items options) words = HasParts words (FitsRun file items options)
-StandsBehind (audit file items journal docs) words =
+abbrev pub FollowsName : Command → List (List ℕ) → Type 0
+FollowsName (check file) words = IsFile file words
+FollowsName (plan file) words = IsFile file words
+FollowsName (format file) words = IsFile file words
+FollowsName (run file items options) words = HasParts words (FitsRun file items options)
+FollowsName (audit file items journal docs) words =
     HasParts words (FitsAudit file items journal docs)
-StandsBehind (load count first runtime) words = HasParts words (FitsLoad count first runtime)
-StandsBehind (serve file serving) words = HasParts words (FitsServe file serving)
-StandsBehind help words = words ≡ []
-StandsBehind (simulate file items simulating) words = HasParts words (FitsSimulate file items simulating)
-StandsBehind (swarm file items journal hash docs) words =
+FollowsName (load count first runtime) words = HasParts words (FitsLoad count first runtime)
+FollowsName (serve file serving) words = HasParts words (FitsServe file serving)
+FollowsName help words = words ≡ []
+FollowsName (simulate file items simulating) words = HasParts words (FitsSimulate file items simulating)
+FollowsName (swarm file items journal hash docs) words =
     HasParts words (FitsSwarm file items journal hash docs)
 
 -- the words spell this command: the first is its name
@@ -56,7 +56,7 @@ pub record Spells (words : List (List ℕ)) (command : Command) : Type 0 where
   pub rest : List (List ℕ)
   pub are : words ≡ first ∷ rest
   pub named : IsNamed (name_of command) first
-  pub behind : StandsBehind command rest
+  pub behind : FollowsName command rest
 
 -- the words spell no command
 abbrev pub SpellsNone : List (List ℕ) → Type 0

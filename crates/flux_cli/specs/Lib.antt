@@ -3,7 +3,7 @@ pub mod Parts
 pub mod Values
 pub mod Costs
 pub mod Replies
-pub mod Behind
+pub mod Forms
 pub mod Commands
 pub mod Asking
 pub mod steps

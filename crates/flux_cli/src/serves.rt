@@ -2,7 +2,7 @@
 
 ghost use Rattle.std.specs.Prelude.{◌↔◌, ℕ, List, IfOk, IsTrue};
 ghost use Rattle.flux_cli.specs.declared.names.CommandName.TheVariants.{Serve};
-ghost use Rattle.flux_cli.specs.Behind.{Serving, HasParts, FitsServe};
+ghost use Rattle.flux_cli.specs.Forms.{Serving, HasParts, FitsServe};
 ghost use Rattle.flux_cli.specs.steps.Asking.{IsAskedBehind, IsServeRead};
 
 use crate::commands::Asked;

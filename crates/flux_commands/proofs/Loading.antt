@@ -41,7 +41,7 @@ use Rattle.flux_audit.specs.declared.verdicts.Verdict.TheVariants as verdicts
 use Rattle.flux_audit.specs.Verdicts.{HasVerdict}
 use Rattle.flux_load.specs.Loads.{program_text, items_text}
 use Rattle.flux_cli.specs.declared.values.Runtime.{Runtime}
-use Rattle.flux_cli.specs.Behind.{RunOptions, Simulating}
+use Rattle.flux_cli.specs.Forms.{RunOptions, Simulating}
 use Rattle.flux_cli.specs.Commands.{Command, check, plan, format, run, audit, load, simulate, swarm}
 use Rattle.flux_commands.specs.declared.files.TheConstants.{PROGRAM_FILE_LIMIT, ITEMS_FILE_LIMIT, JOURNAL_FILE_LIMIT}
 use Rattle.flux_commands.specs.declared.loaded.Loaded.{Loaded}

@@ -13,7 +13,7 @@ use Rattle.flux_hoist.specs.declared.checked.Checked.{Checked}
 use Rattle.flux_check.specs.Judgement.{IsChecked}
 use Rattle.flux_doors.specs.declared.framing.Framing.{Framing}
 use Rattle.flux_sources.specs.Sources.{IsServed, IsNotServed}
-use Rattle.flux_cli.specs.Behind.{Serving}
+use Rattle.flux_cli.specs.Forms.{Serving}
 use Rattle.flux_cli.specs.Commands.{Command, serve, Spells}
 use Rattle.flux_commands.specs.declared.files.TheConstants.{PROGRAM_FILE_LIMIT}
 use Rattle.flux_commands.specs.declared.prepared.Prepared.{Prepared}

@@ -1,7 +1,7 @@
 -- Runs of items on simulated processors.
 use Rattle.std.specs.Prelude.{ℕ, List}
 use Rattle.flux_values.specs.Meanings.{LibraryMeaning}
-use Rattle.flux_cli.specs.Behind.{Simulating}
+use Rattle.flux_cli.specs.Forms.{Simulating}
 use Rattle.flux_runs.specs.Simulations.{IsSimulationText}
 use Rattle.flux_commands.specs.Told.{Files}
 use Rattle.flux_commands.specs.Origins.{Origin}

@@ -13,7 +13,7 @@ use Rattle.flux_serve.specs.declared.batches.ServeEnd.TheVariants.{Closed, Count
 use Rattle.flux_serve.specs.Batches.{Service}
 use Rattle.flux_serve.specs.AtOnce.{HasServedAtOnce}
 use Rattle.flux_serve.proofs.AtOnceSeen.{at_once_door_rose, at_once_door_same, at_once_log_rose, at_once_log_same}
-use Rattle.flux_cli.specs.Behind.{Serving}
+use Rattle.flux_cli.specs.Forms.{Serving}
 use Rattle.flux_cli.specs.Commands.{serve, Spells}
 use Rattle.flux_commands.specs.declared.statuses.Status.{Status}
 use Rattle.flux_commands.specs.declared.statuses.Status.TheVariants as statuses

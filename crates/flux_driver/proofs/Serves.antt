@@ -11,7 +11,7 @@ use Rattle.flux_serve.specs.declared.batches.ServeEnd.TheVariants.{Door, Memory}
 use Rattle.flux_serve.specs.declared.orders.BatchOrder.{BatchOrder}
 use Rattle.flux_serve.specs.Batches.{Service}
 use Rattle.flux_serve.specs.Ends.{Sight, HasServed}
-use Rattle.flux_cli.specs.Behind.{Serving}
+use Rattle.flux_cli.specs.Forms.{Serving}
 use Rattle.flux_cli.specs.Values.{IsBatches}
 use Rattle.flux_cli.specs.Commands.{serve, Spells}
 

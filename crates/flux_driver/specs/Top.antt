@@ -11,7 +11,7 @@ use Rattle.flux_commands.specs.Documents.{TellsAll}
 use Rattle.flux_commands.specs.Asked.{HasAsked}
 use Rattle.flux_commands.specs.Answers.{Libraries, Decided, IsAnswer, OrMemory}
 use Rattle.flux_driver.specs.Serving.{HasServedWords}
-use Rattle.flux_cli.specs.Behind.{Serving}
+use Rattle.flux_cli.specs.Forms.{Serving}
 
 -- ---- what was printed and said
 

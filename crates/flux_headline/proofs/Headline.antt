@@ -1,7 +1,7 @@
 -- What `run` has done, and why it answers 0, from what a call of the program has done.
 use Rattle.std.proofs.Common.{◌≡◌, ◌⊎◌, inl, inr, ℕ, List, subst}
 use Rattle.flux_values.specs.Meanings.{LibraryMeaning}
-use Rattle.flux_cli.specs.Behind.{RunOptions}
+use Rattle.flux_cli.specs.Forms.{RunOptions}
 use Rattle.flux_cli.specs.Commands.{run}
 use Rattle.flux_outside.specs.Streams.{Gains, WroteOrBroke}
 use Rattle.flux_commands.specs.declared.files.TheConstants.{PROGRAM_FILE_LIMIT, ITEMS_FILE_LIMIT}

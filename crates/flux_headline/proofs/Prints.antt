@@ -1,7 +1,7 @@
 -- What commands that look at a text have printed, and why they answer 0.
 use Rattle.std.proofs.Common.{◌≡◌, ◌⊎◌, inl, inr, ℕ, List, Option, None, refl, sym, subst}
 use Rattle.flux_values.specs.Meanings.{LibraryMeaning}
-use Rattle.flux_cli.specs.Behind.{Serving}
+use Rattle.flux_cli.specs.Forms.{Serving}
 use Rattle.flux_cli.specs.Commands.{Command, check, plan, format, help, serve}
 use Rattle.flux_outside.specs.Streams.{Gains, WroteOrBroke}
 use Rattle.flux_commands.specs.declared.files.TheConstants.{PROGRAM_FILE_LIMIT}

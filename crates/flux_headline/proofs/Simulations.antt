@@ -1,7 +1,7 @@
 -- What `simulate` has done, and why it answers 0.
 use Rattle.std.proofs.Common.{◌≡◌, ◌⊎◌, inl, inr, ℕ, List, subst}
 use Rattle.flux_values.specs.Meanings.{LibraryMeaning}
-use Rattle.flux_cli.specs.Behind.{Simulating}
+use Rattle.flux_cli.specs.Forms.{Simulating}
 use Rattle.flux_cli.specs.Commands.{simulate}
 use Rattle.flux_outside.specs.Streams.{Gains, WroteOrBroke}
 use Rattle.flux_commands.specs.declared.files.TheConstants.{PROGRAM_FILE_LIMIT, ITEMS_FILE_LIMIT}

@@ -45,7 +45,7 @@ use Rattle.flux_syntax.specs.declared.declarations.Decl.{Decl}
 use Rattle.flux_syntax.specs.Declares.{Declares}
 use Rattle.flux_syntax.specs.ProgramOfText.{program_of}
 use Rattle.flux_check.specs.Judgement.{AreSound}
-use Rattle.flux_cli.specs.Behind.{RunOptions}
+use Rattle.flux_cli.specs.Forms.{RunOptions}
 use Rattle.flux_cli.specs.Commands.{run, Spells}
 use Rattle.flux_runs.specs.Setups.{setup_of}
 use Rattle.flux_runs.specs.Printed.{printed_in}

@@ -4,7 +4,7 @@ use Rattle.flux_library.specs.Documents.{DocMap}
 use Rattle.flux_outside.specs.Streams.{Gains}
 use Rattle.flux_items.specs.declared.rules.ItemFault.{ItemFault}
 use Rattle.flux_items.specs.Faults.{IsFaultOf}
-use Rattle.flux_cli.specs.Behind.{Simulating}
+use Rattle.flux_cli.specs.Forms.{Simulating}
 use Rattle.flux_cli.specs.Commands.{simulate, Spells}
 use Rattle.flux_commands.specs.declared.statuses.Status.{Status}
 use Rattle.flux_commands.specs.declared.statuses.Status.TheVariants as statuses

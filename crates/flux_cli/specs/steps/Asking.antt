@@ -6,9 +6,9 @@ use Rattle.flux_cli.specs.declared.commands.Asked.{Asked}
 use Rattle.flux_cli.specs.declared.serves.Service.{Service}
 use Rattle.flux_cli.specs.declared.replies.Replying.{Replying}
 use Rattle.flux_cli.specs.Replies.{IsReplying}
-use Rattle.flux_cli.specs.Behind.{Serving, IsFile, HasParts, FitsServe}
+use Rattle.flux_cli.specs.Forms.{Serving, IsFile, HasParts, FitsServe}
 use Rattle.flux_cli.specs.steps.Given.{listed}
-use Rattle.flux_cli.specs.Commands.{Command, name_of, StandsBehind, Spells, SpellsNone, NeedsThreads}
+use Rattle.flux_cli.specs.Commands.{Command, name_of, FollowsName, Spells, SpellsNone, NeedsThreads}
 use Rattle.flux_cli.specs.Asking.{asked}
 
 -- the command that the words spell was read, or that they spell none
@@ -19,7 +19,7 @@ IsAsked words None = SpellsNone words
 -- a command of a name, with the words after it
 pub record IsCommand (name : CommandName) (words : List (List ℕ)) (command : Command) : Type 0 where
   pub is : name_of command ≡ name
-  pub behind : StandsBehind command words
+  pub behind : FollowsName command words
 
 -- the same of the words after a name
 abbrev pub IsAskedBehind : CommandName → List (List ℕ) → Option Asked → Type 0

@@ -1,4 +1,4 @@
-use Rattle.flux_cli.proofs.Behind.{audit_of_serving, audit_of_simulating, some_given, audit_of_files, audit_of_options}
+use Rattle.flux_cli.proofs.Forms.{audit_of_serving, audit_of_simulating, some_given, audit_of_files, audit_of_options}
 use Rattle.flux_cli.proofs.audits.read_audit.Goals.{then-is_some-via-then-is_some, then-is_some-via-else-is_some+then-is_some-2}
 use Rattle.flux_cli.proofs.audits.read_audit.Goals as goal
 

@@ -1,4 +1,4 @@
-use Rattle.flux_cli.proofs.Behind.{all_asked}
+use Rattle.flux_cli.proofs.Forms.{all_asked}
 use Rattle.flux_cli.proofs.commands.read_words.Goals as goal
 
 pub returns-clause-command : goal.returns-clause-command

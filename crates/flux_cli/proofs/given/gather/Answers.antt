@@ -1,7 +1,7 @@
 use Rattle.std.proofs.Common.{rules}
 use Rattle.flux_cli.specs.steps.Found.{part_of}
 use Rattle.flux_cli.proofs.Gathered.{one_more, none_there, too_much_there}
-use Rattle.flux_cli.proofs.Behind.{if_none}
+use Rattle.flux_cli.proofs.Forms.{if_none}
 use Rattle.flux_cli.proofs.given.gather.Goals as goal
 
 pub returns-in_err-part-clause-none : goal.returns-in_err-part-clause-none

@@ -1,6 +1,6 @@
 use Rattle.std.proofs.Common.{ap}
 use Rattle.flux_cli.specs.steps.Given.{files_of}
-use Rattle.flux_cli.proofs.Behind.{load_of_serving, load_of_simulating, some_given, load_of_options, load_of_files, load_of_count, load_of_first, load_of_runtime}
+use Rattle.flux_cli.proofs.Forms.{load_of_serving, load_of_simulating, some_given, load_of_options, load_of_files, load_of_count, load_of_first, load_of_runtime}
 use Rattle.flux_cli.proofs.loads.read_load.Goals.{then-is_some-via-then-is_some, then-is_some-via-else-is_some+then-is_some-2}
 use Rattle.flux_cli.proofs.loads.read_load.Goals as goal
 

@@ -1,7 +1,7 @@
 use Rattle.std.proofs.Common.{ap}
 use Rattle.flux_cli.specs.declared.names.CommandName.TheVariants.{Load}
 use Rattle.flux_cli.specs.steps.Given.{files_of}
-use Rattle.flux_cli.proofs.Behind.{some_given, load_of_too_much, load_of_serving, load_of_simulating, load_of_options, load_of_files, load_of_count, load_of_first}
+use Rattle.flux_cli.proofs.Forms.{some_given, load_of_too_much, load_of_serving, load_of_simulating, load_of_options, load_of_files, load_of_count, load_of_first}
 use Rattle.flux_cli.proofs.AskingThreads.{none_listed, nothing_asks, load_asks}
 use Rattle.flux_cli.proofs.needs.load_needs.Goals.{then-is_some-via-then-is_some, then-is_some-via-else-is_some+then-is_some-2}
 use Rattle.flux_cli.proofs.needs.load_needs.Goals as goal

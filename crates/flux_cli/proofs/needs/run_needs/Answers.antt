@@ -1,7 +1,7 @@
 use Rattle.std.proofs.Common.{ap}
 use Rattle.flux_cli.specs.declared.names.CommandName.TheVariants.{Run}
 use Rattle.flux_cli.specs.steps.Given.{files_of}
-use Rattle.flux_cli.proofs.Behind.{run_of_too_much, run_of_serving, run_of_simulating, run_of_files, run_of_format}
+use Rattle.flux_cli.proofs.Forms.{run_of_too_much, run_of_serving, run_of_simulating, run_of_files, run_of_format}
 use Rattle.flux_cli.proofs.AskingThreads.{nothing_asks, run_asks}
 use Rattle.flux_cli.proofs.needs.run_needs.Goals as goal
 

@@ -1,7 +1,7 @@
 use Rattle.std.proofs.Common.{◌∙◌, sym}
 use Rattle.std.proofs.lemmas.Bool.Decides.{Decides-eqb}
 use Rattle.std.proofs.lemmas.Slice.Eq.{slice_eq-Decides}
-use Rattle.flux_cli.proofs.Behind.{serve_spelled, serve_found}
+use Rattle.flux_cli.proofs.Forms.{serve_spelled, serve_found}
 use Rattle.flux_cli.proofs.needs.spells_serve.Goals as goal
 
 pub returns-in-len1-up : goal.returns-in-len1-up

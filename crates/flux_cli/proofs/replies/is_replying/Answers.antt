@@ -1,6 +1,6 @@
 use Rattle.std.proofs.Common.{ap}
 use Rattle.flux_cli.specs.steps.Given.{listed}
-use Rattle.flux_cli.proofs.Behind.{none_given}
+use Rattle.flux_cli.proofs.Forms.{none_given}
 use Rattle.flux_cli.proofs.WhenReplied.{at_end_says, at_once_says}
 use Rattle.flux_cli.proofs.replies.is_replying.Goals as goal
 

@@ -1,4 +1,4 @@
-use Rattle.flux_cli.proofs.Behind.{run_of_too_much, run_of_serving, run_of_simulating, run_of_files, run_of_format, run_of_runtime}
+use Rattle.flux_cli.proofs.Forms.{run_of_too_much, run_of_serving, run_of_simulating, run_of_files, run_of_format, run_of_runtime}
 use Rattle.flux_cli.proofs.runs.read_run.Goals as goal
 
 pub returns-in_default : goal.returns-in_default

@@ -1,6 +1,6 @@
 use Rattle.std.proofs.Common.{ap}
 use Rattle.flux_cli.specs.steps.Given.{files_of}
-use Rattle.flux_cli.proofs.Behind.{some_given, none_given, serve_of_too_much, serve_of_files, serve_of_journal, serve_of_simulating, serve_of_port, serve_of_batches, serve_given}
+use Rattle.flux_cli.proofs.Forms.{some_given, none_given, serve_of_too_much, serve_of_files, serve_of_journal, serve_of_simulating, serve_of_port, serve_of_batches, serve_given}
 use Rattle.flux_cli.proofs.serves.read_service.Goals as goal
 
 pub returns-in_err-given : goal.returns-in_err-given

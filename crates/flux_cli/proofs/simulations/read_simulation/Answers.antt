@@ -1,4 +1,4 @@
-use Rattle.flux_cli.proofs.Behind.{some_given, simulate_of_too_much, simulate_of_serving, simulate_of_options, simulate_of_files, simulate_of_processors, simulate_of_costs}
+use Rattle.flux_cli.proofs.Forms.{some_given, simulate_of_too_much, simulate_of_serving, simulate_of_options, simulate_of_files, simulate_of_processors, simulate_of_costs}
 use Rattle.flux_cli.proofs.simulations.read_simulation.Goals.{then-is_some-via-then-is_some, then-is_some-via-else-is_some+then-is_some-2}
 use Rattle.flux_cli.proofs.simulations.read_simulation.Goals as goal
 

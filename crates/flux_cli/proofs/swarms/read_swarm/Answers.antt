@@ -2,7 +2,7 @@ use Rattle.std.proofs.Common.{◌≡◌, refl, ap, sym, ◌∙◌}
 use Rattle.std.specs.Prelude.{Some}
 use Rattle.nodes_tracker.specs.Asks.{hash_of}
 use Rattle.flux_cli.specs.steps.Given.{files_of}
-use Rattle.flux_cli.proofs.Behind.{some_given, none_given, swarm_of_too_much, swarm_of_serving, swarm_of_simulating, swarm_of_options, swarm_of_files, swarm_of_hash, swarm_given}
+use Rattle.flux_cli.proofs.Forms.{some_given, none_given, swarm_of_too_much, swarm_of_serving, swarm_of_simulating, swarm_of_options, swarm_of_files, swarm_of_hash, swarm_given}
 use Rattle.flux_cli.proofs.swarms.read_swarm.Goals.{then-is_some-via-then-is_some, then-is_some-via-else-is_some+then-is_some-2}
 use Rattle.flux_cli.proofs.swarms.read_swarm.Goals as goal
 

@@ -1,4 +1,4 @@
-use Rattle.flux_cli.proofs.Behind.{serve_needs}
+use Rattle.flux_cli.proofs.Forms.{serve_needs}
 use Rattle.flux_driver.proofs.outermost.top_alone.Goals as goal
 
 pub act-requires-clause-printed : goal.act-requires-clause-printed

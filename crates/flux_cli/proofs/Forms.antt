@@ -20,8 +20,8 @@ use Rattle.flux_cli.specs.Parts.{Part, BeginWith}
 use Rattle.flux_cli.specs.Values.{SpellsNumber, IsRuntime, IsFormat, IsPort, IsBatches}
 use Rattle.flux_cli.specs.Costs.{IsProcessors, AreCosts}
 use Rattle.flux_cli.specs.Replies.{IsReplying}
-use Rattle.flux_cli.specs.Behind.{RunOptions, Serving, Simulating, HasParts, HasNoServing, HasNoSimulating, FitsRun, FitsAudit, FitsLoad, FitsServe, FitsSimulate, FitsSwarm}
-use Rattle.flux_cli.specs.Commands.{Command, check, plan, format, run, audit, load, serve, help, simulate, swarm, name_of, StandsBehind, Spells, SpellsNone, IsServe, NeedsThreads}
+use Rattle.flux_cli.specs.Forms.{RunOptions, Serving, Simulating, HasParts, HasNoServing, HasNoSimulating, FitsRun, FitsAudit, FitsLoad, FitsServe, FitsSimulate, FitsSwarm}
+use Rattle.flux_cli.specs.Commands.{Command, check, plan, format, run, audit, load, serve, help, simulate, swarm, name_of, FollowsName, Spells, SpellsNone, IsServe, NeedsThreads}
 use Rattle.flux_cli.specs.Asking.{asked}
 use Rattle.flux_cli.specs.steps.Given.{files_of, listed, IsGiven, IsTooMuch}
 use Rattle.flux_cli.specs.steps.Asking.{IsAsked, IsCommand, IsAskedBehind, IsServeRead}
@@ -421,7 +421,7 @@ behind_name words rest first name command are named spells =
     let same_rest : spells.rest ≡ rest = cc in
     record {
       is = one_name (name_of command) name first (subst (IsNamed (name_of command)) same_first spells.named) named;
-      behind = subst (StandsBehind command) same_rest spells.behind;
+      behind = subst (FollowsName command) same_rest spells.behind;
     }
 
 -- a name and the words after it

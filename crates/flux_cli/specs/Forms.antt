@@ -1,4 +1,4 @@
--- What follows the word of each command.
+-- The words after the name of each command.
 use Rattle.std.specs.Prelude.{◌≡◌, ℕ, List, [], ◌∷◌, Option, Some, option_to_list}
 use Rattle.nodes_tracker.specs.Asks.{hash_of}
 use Rattle.flux_cli.specs.declared.names.OptionName.TheVariants as names
