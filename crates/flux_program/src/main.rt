@@ -89,7 +89,10 @@ fn answer_in<S: Store, F: Folder, O: Sink, E: Sink, D: Door, Rt: Threads + Wait 
     world: &mut Result<World<S, F, O, E, D>, Memory>,
 ) -> ExitCode
     requires { IfOk world.old (λ before. D.out before.door ≡ 0) }
-    ensures words { IsErr words → exit_status result ≡ code_of Status.Memory }
+    // Each accepted link has gone back to the door.
+    ensures out { IfOk world.new (λ after. D.out after.door ≡ 0) }
+    ensures there { IsErr world.new → IsErr world.old }
+    ensures words { IsErr words → (exit_status result ≡ code_of Status.Memory) × (world.new ≡ world.old) }
     ensures world { IsErr world.old → exit_status result ≡ code_of Status.Memory }
     ensures done { let seen = seen_by S.files S.asked S.faults F.folders F.asked F.faults O.written O.faults
         E.written E.faults (door_by (link_by D.Link.had D.Link.left D.Link.left_before D.Link.written D.Link.faults)
