@@ -35,7 +35,7 @@ pub record TakesFront (old : PassState) (flow : FlowNo) (new : PassState) : Type
     takes = old.takes ++ record { place = place; number = flow.0 } ∷ [];
   }
 
--- there was a moment in which the queue held nothing, and the pass is as it was
+-- nothing is taken, and the pass is as it was: the rule lets a queue hold nothing while a pass is so
 pub record WasEmpty (old new : PassState) : Type 0 where
   pub moment : let queue = old.queue in
       Held 0 (HasMoment (Working queue.flows old.held old.moves old.puts old.takes))

@@ -85,8 +85,8 @@ impl FlowQueue {
         pass.held = None;
     }
 
-    /// Takes the number at the front; None only where there was none at some moment of this call. A number that the pass
-    /// held before is given up.
+    /// Takes the number at the front, or None where there is none. A number that the pass held before is given up. The
+    /// clause of None says that the rule lets the queue hold nothing then; that it did no clause says.
     pub fn take<R: Wait>(&self, rt: &R, pass: &mut QueuePass) -> Option<FlowNo>
         requires { pass.old.queue ≡ self.now }
         ensures some { IfSome result (λ flow. TakesFront pass.old flow pass.new) }

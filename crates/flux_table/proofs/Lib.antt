@@ -4,3 +4,4 @@ pub mod Orderly
 pub mod Sets
 pub mod Blocking
 pub mod Keys
+pub mod InUse

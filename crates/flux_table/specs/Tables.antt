@@ -1,5 +1,5 @@
 -- A table is two maps: from each key to its holders, and from each key to its line.
-use Rattle.std.specs.Prelude.{List, [], Option, Some, None}
+use Rattle.std.specs.Prelude.{◌≢◌, List, [], Option, Some, None}
 use Rattle.std.specs.Map.{lookup}
 use Rattle.flow_model.specs.declared.journals.Key.{Key}
 use Rattle.flow_model.specs.Keys.{same_key}
@@ -12,6 +12,10 @@ Locks = List (Key × LockState)
 
 abbrev pub lock_at : Locks → Key → Option LockState
 lock_at locks key = lookup (same_key key) locks
+
+-- each lock that is kept has a holder or a waiter, so what a table takes doesn't grow with the keys that were used
+abbrev pub AreInUse : Locks → Type 0
+AreInUse locks = (key : Key) → lock_at locks key ≢ Some record { holders = []; line = [] }
 
 -- how each flow holds each key
 abbrev pub Holders : Type 0

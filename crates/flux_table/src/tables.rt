@@ -20,7 +20,7 @@ pub enum Taken {
     Busy { holder: FlowNo },
 }
 
-/// Who holds each key, and who waits for it.
+/// Who holds each key, and who waits for it. A key is kept as long as a flow does either, and no longer.
 pub struct Table {
     locks: BTreeMap<Key, Lock>,
     alloc: Global,
@@ -33,11 +33,13 @@ impl Drop for Table {
 }
 
 impl Model for Table {
-    ghost use Rattle.flux_table.specs.Tables.{Locks};
+    ghost use Rattle.flux_table.specs.Tables.{Locks, AreInUse};
 
     ghost Value = { Locks };
 
     ghost view = { λ t. t.locks.entries };
+
+    ghost invariant = { λ t. AreInUse t.locks.entries };
 }
 
 impl Table {

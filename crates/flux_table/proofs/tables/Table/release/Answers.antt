@@ -1,8 +1,10 @@
 use Rattle.std.proofs.Common.{◌≡◌, ◌∙◌, sym, subst, refl, IsSome, Some, None}
 use Rattle.std.proofs.lemmas.Bool.{false≢true}
+use Rattle.std.proofs.lemmas.Option.{none-some, same_Some}
 use Rattle.flux_table.specs.Tables.{lock_at, holding_in}
 use Rattle.flux_table.specs.Changes.{Releases}
 use Rattle.flux_table.proofs.Keys.{found_is, changed_is, changed_twice, releases_is, idle_holding, idle_line}
+use Rattle.flux_table.proofs.InUse.{idle, in_use_after}
 use Rattle.flux_table.proofs.tables.Table.release.Goals as goal
 
 pub returns-in_default : goal.returns-in_default
@@ -30,3 +32,21 @@ returns-else-is_idle c =
     (changed_is c.self.inside.locks.entries (c.get_mut.follows.lender lock).entries c.args.key (Some lock) written)
     (sym (c.in-Some.ensures.value ∙ found_is c.self.inside.locks.entries c.args.key))
     c.release.ensures.holders c.release.ensures.line)
+
+pub invariant_of-self-then-is_idle : goal.invariant_of-self-then-is_idle
+invariant_of-self-then-is_idle c =
+    let locks = c.self.inside.locks.entries in
+    let lock = c.release.new.self in
+    let written = ((c.get_mut.follows.holds lock).3 (subst IsSome c.in-Some.ensures.value refl)).0 in
+    in_use_after locks c.remove.new.self.entries c.args.key None
+    (changed_twice locks (c.get_mut.follows.lender lock).entries c.remove.new.self.entries c.args.key (Some lock) None written c.remove.ensures.updates.0)
+    c.self.invariant (none-some idle)
+
+pub invariant_of-self-else-is_idle : goal.invariant_of-self-else-is_idle
+invariant_of-self-else-is_idle c =
+    let locks = c.self.inside.locks.entries in
+    let lock = c.release.new.self in
+    let written = ((c.get_mut.follows.holds lock).3 (subst IsSome c.in-Some.ensures.value refl)).0 in
+    in_use_after locks (c.get_mut.follows.lender lock).entries c.args.key (Some lock)
+    (changed_is locks (c.get_mut.follows.lender lock).entries c.args.key (Some lock) written) c.self.invariant
+    (λ same. false≢true (c.if-is_idle.ensures.1 (same_Some lock idle same)))

@@ -1,10 +1,11 @@
 use Rattle.std.proofs.Common.{◌≡◌, ◌∙◌, sym, ap, subst, refl, IsSome, Some, None}
 use Rattle.std.proofs.lemmas.Result.{on_err_weaker}
 use Rattle.flux_table.specs.Locks.{held_by}
-use Rattle.flux_table.specs.Tables.{lock_at, holding_in, line_in}
+use Rattle.flux_table.specs.Tables.{lock_at, holding_in, line_in, AreInUse}
 use Rattle.flux_table.specs.Blockers.{Blocks, IsLowestOf}
 use Rattle.flux_table.specs.Changes.{Takes, with_held, one_more, line_without}
 use Rattle.flux_table.proofs.Keys.{found_is, changed_is, takes_is, both_ok, unchanged}
+use Rattle.flux_table.proofs.InUse.{in_use_after, holder_in_use, taken_in_use}
 use Rattle.flux_table.proofs.tables.Table.take.Goals as goal
 
 -- the lock of the key
@@ -42,3 +43,24 @@ returns-in_ok-insert-in-None-clause-ok c =
     (ap (λ m. lock_at m.entries c.args.key) c.get_mut.follows.holds-at-none ∙ sym (c.in-None.ensures.value ∙ found_is c.self.inside.locks.entries c.args.key))
     (fresh.holders ∙ ap (λ s. with_held (held_by s.holders) c.args.flow.0 (Some (one_more (held_by s.holders c.args.flow.0) c.args.mode))) c.new-lock.ensures)
     (fresh.line ∙ ap (λ s. line_without s.line c.args.flow.0) c.new-lock.ensures))
+
+pub invariant_of-self : goal.invariant_of-self
+invariant_of-self c =
+    let locks = c.self.inside.locks.entries in
+    let after = c.take.new.self in
+    let changed = changed_is locks (c.get_mut.follows.lender after).entries c.args.key (Some after)
+    ((c.get_mut.follows.holds after).3 (subst IsSome c.in-Some.ensures.value refl)).0 in
+    in_use_after locks (c.get_mut.follows.lender after).entries c.args.key (Some after) changed c.self.invariant
+    (taken_in_use c.take.result c.in-Some.lock.now after c.args.flow.0 (one_more (held_by c.in-Some.lock.now.holders c.args.flow.0) c.args.mode)
+    c.take.ensures.holders c.take.ensures.err
+    (λ same. c.self.invariant c.args.key (sym (c.in-Some.ensures.value ∙ found_is locks c.args.key) ∙ same)))
+
+pub invariant_of-self-in-None : goal.invariant_of-self-in-None
+invariant_of-self-in-None c =
+    let before = c.get_mut.follows.lender-at-none.entries in
+    let lock = c.take-in-None.new.self in
+    let none = held_by c.new-lock.result.holders in
+    in_use_after before c.insert.new.self.entries c.args.key (Some lock)
+    (changed_is before c.insert.new.self.entries c.args.key (Some lock) c.in_ok-insert-in-None.ensures.updates.0)
+    (subst AreInUse (sym (ap (λ m. m.entries) c.get_mut.follows.holds-at-none)) c.self.invariant)
+    (holder_in_use lock none c.args.flow.0 (one_more (none c.args.flow.0) c.args.mode) c.in_ok-take-in-None.ensures.holders)

@@ -1,9 +1,10 @@
 use Rattle.std.proofs.Common.{◌≡◌, ◌++◌, ◌∷◌, [], ◌∙◌, sym, ap, subst, refl, IsSome, Some, None}
 use Rattle.std.proofs.lemmas.Result.{on_ok_weaker, on_err_weaker}
 use Rattle.flux_table.specs.Locks.{held_by, StandsNowhere}
-use Rattle.flux_table.specs.Tables.{lock_at, holding_in, line_in}
+use Rattle.flux_table.specs.Tables.{lock_at, holding_in, line_in, AreInUse}
 use Rattle.flux_table.specs.Changes.{Waits}
 use Rattle.flux_table.proofs.Keys.{found_is, changed_is, waits_is, unchanged}
+use Rattle.flux_table.proofs.InUse.{in_use_after, waited_in_use, stood_in_use}
 use Rattle.flux_table.proofs.tables.Table.wait.Goals as goal
 
 -- the lock of the key
@@ -42,3 +43,23 @@ returns-in_ok-insert-in-None-clause-ok c =
     (ap (λ m. lock_at m.entries c.args.key) c.get_mut.follows.holds-at-none ∙ sym (c.in-None.ensures.value ∙ found_is c.self.inside.locks.entries c.args.key))
     (ap held_by (fresh.holders ∙ ap (λ s. s.holders) c.new-lock.ensures))
     (fresh.line ∙ ap (λ s. s.line ++ record { flow = c.args.flow; mode = c.args.mode } ∷ []) c.new-lock.ensures))
+
+pub invariant_of-self : goal.invariant_of-self
+invariant_of-self c =
+    let locks = c.self.inside.locks.entries in
+    let after = c.wait.new.self in
+    let changed = changed_is locks (c.get_mut.follows.lender after).entries c.args.key (Some after)
+    ((c.get_mut.follows.holds after).3 (subst IsSome c.in-Some.ensures.value refl)).0 in
+    in_use_after locks (c.get_mut.follows.lender after).entries c.args.key (Some after) changed c.self.invariant
+    (stood_in_use c.wait.result c.in-Some.lock.now after (record { flow = c.args.flow; mode = c.args.mode })
+    c.wait.ensures.line c.wait.ensures.err
+    (λ same. c.self.invariant c.args.key (sym (c.in-Some.ensures.value ∙ found_is locks c.args.key) ∙ same)))
+
+pub invariant_of-self-in-None : goal.invariant_of-self-in-None
+invariant_of-self-in-None c =
+    let before = c.get_mut.follows.lender-at-none.entries in
+    let lock = c.wait-in-None.new.self in
+    in_use_after before c.insert.new.self.entries c.args.key (Some lock)
+    (changed_is before c.insert.new.self.entries c.args.key (Some lock) c.in_ok-insert-in-None.ensures.updates.0)
+    (subst AreInUse (sym (ap (λ m. m.entries) c.get_mut.follows.holds-at-none)) c.self.invariant)
+    (waited_in_use lock c.new-lock.result.line (record { flow = c.args.flow; mode = c.args.mode }) c.in_ok-wait-in-None.ensures.line)
