@@ -113,8 +113,8 @@ module _ (setup : Setup) (tracker : HasTrackersNodes setup.meaning) where
     asks-six before (entry ∷ after) is =
         all-both (of_hash hash (asked_in setup.program entry.event)) (asks_of setup.program hash after)
         (event-six entry.event (λ made e ask asked.
-            let stands : entries ≡ before ++ record { flow = entry.flow; event = Call made } ∷ after = is ∙ ap (λ (event : Event). before ++ record { flow = entry.flow; event = event } ∷ after) e in
-            asked-six entry.flow.0 (cells_after setup before) made ask (right before after entry.flow made stands) asked))
+        let stands : entries ≡ before ++ record { flow = entry.flow; event = Call made } ∷ after = is ∙ ap (λ (event : Event). before ++ record { flow = entry.flow; event = event } ∷ after) e in
+        asked-six entry.flow.0 (cells_after setup before) made ask (right before after entry.flow made stands) asked))
         (asks-six (before ++ entry ∷ []) after (is ∙ sym (append_assoc before (entry ∷ []) after)))
 
     last-six : (address : List ℕ) (asks : List Ask) → AllByRecursion HasSix asks → (ask : Ask) → last_of address asks ≡ Some ask → length address ≡ 6

@@ -173,8 +173,7 @@ module _ (setup : Setup) (kinds : ℕ → NodeKinds) (sound : IsSound setup.mean
         let answer = law.answers made.args read fit kinds_are.each in
         let shown = prints made.args read fit kinds_are.each (cells-held setup flow made.node.0 cells holds (setup.meaning.node name)) in
         let is : IsAnswerOf sig made.answer = subst (IsAnswerOf sig) (sym right) answer in
-        let can : IsPrintable made.answer = subst IsPrintable (sym right) shown in
-        (
+        let can : IsPrintable made.answer = subst IsPrintable (sym right) shown in (
           record {
             node = lt;
             args = kinds_are.each;
