@@ -70,7 +70,7 @@ module _ (docs : DocMap) (told : Files) (count first : ℕ) (few : count ≤ LOA
       let same = of-ok (items_in (given count first ++ None ∷ [])) given_.its (answers_items load_rules are_rules (items_text count first) (Ok given_.its) theirs (items_in (given count first ++ None ∷ [])) own) in
       ap length same ∙ many count first (None ∷ []) ∙ omega arith
 
-  pub load-upheld : IsLoadUpheld ran
+  pub load-upheld : IsLoadUpheld docs told count first runtime text ran
   load-upheld = let given_ = ran.given in let has = given_.has in let own = has.program_ in let source = own.has in record {
     many = as-many;
     upheld = λ later file items journal format are. record {

@@ -37,7 +37,7 @@ use Rattle.flux_audit.specs.declared.verdicts.Verdict.{Verdict}
 use Rattle.flux_audit.specs.declared.verdicts.Verdict.TheVariants.{Yes}
 use Rattle.flux_audit.specs.Printed.{printed_verdict}
 use Rattle.flux_audit.specs.Verdicts.{HasVerdict}
-use Rattle.flux_upheld.specs.Laws.{CanBeRead, IsProgramSound}
+use Rattle.flux_upheld.specs.Laws.{CanBeRead, AreUpheld, IsProgramSound}
 use Rattle.flux_upheld.proofs.Holding.{none-held}
 use Rattle.flux_upheld.proofs.BuiltInPrints.{joined-prints, all-prints, own-prints}
 use Rattle.flux_upheld.proofs.Counted.{entries-bounded}
@@ -47,14 +47,14 @@ use Rattle.flux_cli.specs.declared.values.JournalFormat.{JournalFormat}
 use Rattle.flux_cli.specs.declared.values.JournalFormat.TheVariants.{One, Two}
 use Rattle.flux_cli.specs.declared.values.Runtime.{Runtime}
 use Rattle.flux_cli.specs.Forms.{RunOptions}
-use Rattle.flux_cli.specs.Commands.{run, audit, Spells}
+use Rattle.flux_cli.specs.Commands.{Command, run, audit, Spells}
 use Rattle.flux_runs.specs.declared.printing.Printing.TheVariants as printings
 use Rattle.flux_runs.specs.Setups.{setup_of}
 use Rattle.flux_runs.specs.Printed.{printed_in}
 use Rattle.flux_commands.specs.declared.files.TheConstants.{PROGRAM_FILE_LIMIT, ITEMS_FILE_LIMIT, JOURNAL_FILE_LIMIT}
 use Rattle.flux_commands.specs.declared.statuses.Status.{Status}
 use Rattle.flux_commands.specs.declared.statuses.Status.TheVariants as statuses
-use Rattle.flux_commands.specs.Told.{Files, Folders, Gives}
+use Rattle.flux_commands.specs.Told.{Files, Folders, Told, Gives}
 use Rattle.flux_commands.specs.Origins.{Origin, named, GivesText}
 use Rattle.flux_commands.specs.Documents.{AreDocs, TellsDocs, TellsAll}
 use Rattle.flux_commands.specs.Inputs.{GivesItems}
@@ -151,10 +151,12 @@ module _ (docs : DocMap) (told : Files) (program items : Origin) (given : GivesI
   sizes-few =
       let has = given.has in let own = has.program_ in let sound = own.sound in let are = given.are in let within = are.within in
       let setup : Setup = setup_given given in
-      let all = sum-items (item_size setup) given.its in
-      let each = sum-same (λ (item : Item). slice_index (map (source_size sound.locks (program_of has.decls)) (let q : Program = program_of has.decls in q.sources)) item.source.0) (λ (item : Item). item_size setup (Some item)) given.its
-      (λ item. line-size setup (let q : Program = program_of has.decls in q.sources) item.source.0) in
-      let small = within.small in
+      let q : Program = program_of has.decls in
+      let sizes : List ℕ = map (source_size sound.locks q) q.sources in
+      let all : sum_below (flow_size (setup_given given)) (length given.its) ≡ sum_by (λ (item : Item). item_size setup (Some item)) given.its = sum-items (item_size setup) given.its in
+      let each : sum_by (λ (item : Item). slice_index sizes item.source.0) given.its ≡ sum_by (λ (item : Item). item_size setup (Some item)) given.its =
+      sum-same (λ (item : Item). slice_index sizes item.source.0) (λ (item : Item). item_size setup (Some item)) given.its (λ item. line-size setup q.sources item.source.0) in
+      let small : sum_by (λ (item : Item). slice_index sizes item.source.0) given.its ≤ 4194304 = within.small in
       omega (arith, all, each, small)
 
   module _ (runtime : Runtime) (journal : Journal) (ran : IsTrueRun (program_of (let has = given.has in has.decls)) given.its (built_in docs) runtime journal.entries) where
@@ -170,7 +172,7 @@ module _ (docs : DocMap) (told : Files) (program items : Origin) (given : GivesI
 
     fits : length journal.entries < 2 ^ 64
     fits =
-        let most = entries-bounded (setup_given given) journal.entries legal-is in
+        let most : length journal.entries ≤ 2 * sum_below (flow_size (setup_given given)) (length given.its) + length given.its = entries-bounded (setup_given given) journal.entries legal-is in
         let sizes = sizes-few in
         let are = given.are in let within = are.within in let few = within.few in
         omega (arith, most, sizes, few)
@@ -182,7 +184,7 @@ module _ (docs : DocMap) (told : Files) (program items : Origin) (given : GivesI
     pub upheld-in : (format : JournalFormat) → HasVerdict (setup_given given) (printed_in format (program_of (let has = given.has in has.decls)) (length given.its) journal) (Yes (length journal.entries))
     upheld-in format = let is = program-is in by format (legal_is_upheld (setup_given given) journal can-read is.named legal-is whole-is fits)
       where
-        by : (own : JournalFormat) → _ → HasVerdict (setup_given given) (printed_in own (program_of (let has = given.has in has.decls)) (length given.its) journal) (Yes (length journal.entries))
+        by : (own : JournalFormat) → AreUpheld (setup_given given) journal → HasVerdict (setup_given given) (printed_in own (program_of (let has = given.has in has.decls)) (length given.its) journal) (Yes (length journal.entries))
         by One both = both.one
         by Two both = both.two
 
@@ -236,7 +238,7 @@ run_texts_are_upheld docs before later file items journal text runtime format ra
 
 -- ---- calls
 
-no-door : (told : _) (command : _) (status : Status) (text line : List ℕ) → Decided built_in command told status text line ⊎ Happened built_in command told status text line → status ≡ statuses.Door → ⊥
+no-door : (told : Told) (command : Command) (status : Status) (text line : List ℕ) → Decided built_in command told status text line ⊎ Happened built_in command told status text line → status ≡ statuses.Door → ⊥
 no-door told command statuses.Door text line (inl decided) e = decided
 no-door told command statuses.Door text line (inr happened) e = happened
 no-door told command other text line cause e = absurd cc
@@ -249,7 +251,7 @@ module _ (before after : Seen) (file items : List ℕ) (options : RunOptions) (r
   abbrev docs : DocMap
   docs = let there = ran.there in there.docs
 
-  given-run : (let own = before.told in GivesItems (built_in (let there = ran.there in there.docs)) own.files (named file) (named items))
+  abbrev given-run : (let own = before.told in GivesItems (built_in (let there = ran.there in there.docs)) own.files (named file) (named items))
   given-run = let there = ran.there in record {
     has = record {
       decls = there.decls;
@@ -262,7 +264,7 @@ module _ (before after : Seen) (file items : List ℕ) (options : RunOptions) (r
   }
 
   -- the run as `IsPrinted` has it
-  run-text : (let own = before.told in IsRunText (built_in (let there = ran.there in there.docs)) own.files (named file) (named items) options.runtime (printings.Journal options.journal) (text_of ran))
+  abbrev run-text : (let own = before.told in IsRunText (built_in (let there = ran.there in there.docs)) own.files (named file) (named items) options.runtime (printings.Journal options.journal) (text_of ran))
   run-text = record {
     given = given-run;
     journal = ran.journal;
@@ -297,10 +299,6 @@ module _ (before after : Seen) (file items : List ℕ) (options : RunOptions) (r
         let their = start.told in
         let there = ran.there in
         let tells_ = tells-later in
-        let mine = audited in
-        let own = mine.given in
-        let has = own.has in
-        let program = has.program_ in
         let given = found.given in
         let has_found = given.has in
         let program_found = has_found.program_ in
@@ -329,20 +327,23 @@ module _ (before after : Seen) (file items : List ℕ) (options : RunOptions) (r
       let same = same-count found.docs agreed.events found.audited in
       record { done = is; printed = subst (λ (n : ℕ). Gains start.out finish.out (printed_verdict (Yes n))) same agreed.printed }
 
+  abbrev IsCause : List ℕ → List ℕ → Type 0
+  IsCause text line = Decided built_in (audit file items journal options.docs) start.told status text line ⊎ Happened built_in (audit file items journal options.docs) start.told status text line
+
+  settled : (text line : List ℕ) → IsCause text line ⊎ (status ≡ statuses.Memory) → OrMemory status (Decides status statuses.Done) → OrMemory status (HasUpheld start finish status (count_of ran))
+  settled text line cause (inr memory) = inr memory
+  settled text line cause (inl (inl is)) = inl (when-done is)
+  settled text line cause (inl (inr (inl read))) = absurd (not_read built_in words start finish status rose done read)
+  settled text line cause (inl (inr (inr (inl write, due)))) = absurd (not_write built_in words start finish status rose done write)
+  settled text line (inr memory) (inl (inr (inr (inr door, due)))) = inr memory
+  settled text line (inl cause) (inl (inr (inr (inr door, due)))) = absurd (no-door start.told (audit file items journal options.docs) status text line cause door)
+
   answers : OrMemory status (HasUpheld start finish status (count_of ran))
   answers =
       let command = audit file items journal options.docs in
       let answered = answered_of built_in words start finish status command spelled (λ other serving e. absurd cc) done.answered in
-      elim (done.complete command spelled tells-later statuses.Done (printed_verdict (Yes (count_of ran))) [] decided) [
-        | inl (inl is) ↦ inl (when-done is)
-        | inl (inr (inl read)) ↦ absurd (not_read built_in words start finish status rose done read)
-        | inl (inr (inr (inl write, due))) ↦ absurd (not_write built_in words start finish status rose done write)
-        | inl (inr (inr (inr door, due))) ↦ elim (of_command built_in words start.told command spelled status answered.text answered.line answered.cause) [
-          | inl cause ↦ absurd (no-door start.told command status answered.text answered.line cause door)
-          | inr memory ↦ inr memory
-        ]
-        | inr memory ↦ inr memory
-      ]
+      settled answered.text answered.line (of_command built_in words start.told command spelled status answered.text answered.line answered.cause)
+      (done.complete command spelled tells-later statuses.Done (printed_verdict (Yes (count_of ran))) [] decided)
 
 pub runs_are_upheld : RunsAreUpheld
 runs_are_upheld before after file items options ran words start finish status journal tells kept spelled done rose =

@@ -26,7 +26,7 @@ all-in P [] x all is = absurd is
 all-in P (y ∷ xs) x all (inl same) = subst P same all.0
 all-in P (y ∷ xs) x all (inr is) = all-in P xs x all.1 is
 
-all-from_in : {X : Type 0} (P : X → Type 0) (xs : List X) → ((x : X) → In x xs → P x) → AllByRecursion P xs
+pub all-from_in : {X : Type 0} (P : X → Type 0) (xs : List X) → ((x : X) → In x xs → P x) → AllByRecursion P xs
 all-from_in P [] each = tt
 all-from_in P (x ∷ xs) each = (each x (inl refl), all-from_in P xs (λ y is. each y (inr is)))
 
