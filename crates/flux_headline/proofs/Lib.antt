@@ -14,7 +14,4 @@ mod LoadLines
 mod LoadItems
 mod LoadsDone
 mod Groups
-mod Upheld
-mod LoadsUpheld
-mod Addresses
 mod OneSimulation

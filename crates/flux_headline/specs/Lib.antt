@@ -1,6 +1,5 @@
 pub mod Headline
 pub mod Audits
-pub mod Upheld
 pub mod Loads
 pub mod Simulations
 pub mod Swarms
