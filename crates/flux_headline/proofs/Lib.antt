@@ -14,3 +14,4 @@ mod LoadLines
 mod LoadItems
 mod LoadsDone
 mod Groups
+mod OneSimulation

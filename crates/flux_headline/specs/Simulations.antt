@@ -1,5 +1,6 @@
 -- What `simulate` has done where the program answered 0, and that it answers so where nothing is in the way.
-use Rattle.std.specs.Prelude.{◌≡◌, List, [], ℕ}
+use Rattle.std.specs.Prelude.{◌≡◌, List, [], ℕ, IsSome}
+use Rattle.flux_values.specs.Meanings.{LibraryMeaning}
 use Rattle.flux_library.specs.Documents.{DocMap}
 use Rattle.flux_outside.specs.Streams.{Gains}
 use Rattle.flux_items.specs.declared.rules.ItemFault.{ItemFault}
@@ -8,7 +9,7 @@ use Rattle.flux_cli.specs.Forms.{Simulating}
 use Rattle.flux_cli.specs.Commands.{simulate, Spells}
 use Rattle.flux_commands.specs.declared.statuses.Status.{Status}
 use Rattle.flux_commands.specs.declared.statuses.Status.TheVariants as statuses
-use Rattle.flux_commands.specs.Told.{Told}
+use Rattle.flux_commands.specs.Told.{Files, Told}
 use Rattle.flux_driver.specs.Seen.{Seen}
 use Rattle.flux_commands.specs.Origins.{named}
 use Rattle.flux_commands.specs.Documents.{AreDocs, TellsAll}
@@ -57,3 +58,11 @@ SimulationsAreAnswered = (library : Libraries) (words : List (List ℕ)) (before
     → Spells words (simulate file items simulating) → TellsAll before.told (simulate file items simulating)
     → CanBeSimulated library before.told file items simulating → NoneRose before after
     → HasDone library words before status after → OrMemory status (status ≡ statuses.Done)
+
+-- what `simulate` prints of two files, where files are reported, is one text: its three numbers are those of the rule of
+-- simulated processors
+abbrev pub SimulationsAreOne : Type 0
+SimulationsAreOne = (meaning : LibraryMeaning) (told : Files) (words : List (List ℕ)) (file items : List ℕ)
+    (simulating : Simulating) (text other : List ℕ) → IsSome told → Spells words (simulate file items simulating)
+    → IsSimulated meaning told (named file) (named items) simulating text
+    → IsSimulated meaning told (named file) (named items) simulating other → text ≡ other

@@ -3,7 +3,7 @@
 ghost use Rattle.flux_headline.specs.Headline.{RunsAreTrue, RunsAreAnswered};
 ghost use Rattle.flux_headline.specs.Audits.{YesIsTrue, NoIsTrue, AuditsAreAnswered};
 ghost use Rattle.flux_headline.specs.Loads.{LoadsAreTrue, LoadsAreAnswered};
-ghost use Rattle.flux_headline.specs.Simulations.{SimulationsAreTrue, SimulationsAreAnswered};
+ghost use Rattle.flux_headline.specs.Simulations.{SimulationsAreTrue, SimulationsAreAnswered, SimulationsAreOne};
 ghost use Rattle.flux_headline.specs.Swarms.{SwarmsAreTrue, SwarmsAreRefuted, SwarmsAreAnswered, TrackersNodesAreBuiltIn};
 ghost use Rattle.flux_headline.specs.Groups.{CounterIsBuiltIn, WebIsBuiltIn, CachingIsBuiltIn, TrackerIsBuiltIn};
 ghost use Rattle.flux_headline.specs.Prints.{PrintsAreTrue, LooksAreAnswered};
@@ -58,6 +58,11 @@ pub fn simulations_are_true()
 /// is short.
 pub fn simulations_are_answered()
     ensures { SimulationsAreAnswered }
+{}
+
+/// What `simulate` prints of two files is one text: its three numbers are those of the rule of simulated processors.
+pub fn simulations_are_one()
+    ensures { SimulationsAreOne }
 {}
 
 /// Where the words spell `swarm` and `top` has answered 0, the journal is that of a true run, and it has printed how many

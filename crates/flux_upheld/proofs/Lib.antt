@@ -1,0 +1,14 @@
+pub mod Walked
+pub mod Keyed
+pub mod Holding
+pub mod Readable
+pub mod Counted
+pub mod Printing
+pub mod CounterPrints
+pub mod WebPrints
+pub mod CachingPrints
+pub mod TrackerPrints
+pub mod BuiltInPrints
+pub mod Ordered
+pub mod Sounds
+pub mod Upholding
