@@ -14,4 +14,7 @@ mod LoadLines
 mod LoadItems
 mod LoadsDone
 mod Groups
+mod Upheld
+mod LoadsUpheld
+mod Addresses
 mod OneSimulation

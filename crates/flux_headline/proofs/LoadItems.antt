@@ -77,7 +77,7 @@ gives_item number lt = record { name = codes "Tick"; spelled = spells number lt;
 -- ---- all of them
 
 -- what the lines give
-abbrev given : ℕ → ℕ → List (Option Item)
+abbrev pub given : ℕ → ℕ → List (Option Item)
 given zero first = []
 given (suc count) first = given count first ++ Some (item (number_at first count)) ∷ []
 
@@ -98,7 +98,7 @@ each_gives (suc count) first =
     give_more (bodies count first) (body number ∷ []) (given count first) (Some (item number) ∷ [])
     (each_gives count first) (gives_item number (one_digit first count), tt)
 
-many : (count first : ℕ) (others : List (Option Item))
+pub many : (count first : ℕ) (others : List (Option Item))
     → length (items_in (given count first ++ others)) ≡ count + length (items_in others)
 many zero first others = omega arith
 many (suc count) first others =

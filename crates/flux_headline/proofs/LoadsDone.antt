@@ -40,7 +40,7 @@ use Rattle.flux_headline.proofs.LoadItems.{load_rules, faultless}
 -- ---- the texts have no fault
 
 -- the items are read by the rules of the one source
-same_rules : (docs : DocMap) → load_rules ≡ rules_in (built_in docs) program_decls (program_sound docs)
+pub same_rules : (docs : DocMap) → load_rules ≡ rules_in (built_in docs) program_decls (program_sound docs)
 unfolding joined all_meaning own_meaning
 same_rules docs = refl
 

@@ -1,5 +1,6 @@
 pub mod Headline
 pub mod Audits
+pub mod Upheld
 pub mod Loads
 pub mod Simulations
 pub mod Swarms

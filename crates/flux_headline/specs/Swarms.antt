@@ -1,12 +1,14 @@
 -- What `swarm` has done where the program answered 0 or 8, and that it answers one of them where
 -- nothing is in the way.
-use Rattle.std.specs.Prelude.{◌≡◌, ◌⊎◌, List, [], ℕ, Option}
+use Rattle.std.specs.Prelude.{◌≡◌, ◌⊎◌, List, [], length, ℕ, Option}
+use Rattle.std.specs.List.{AllByRecursion}
 use Rattle.flux_library.specs.Documents.{DocMap}
 use Rattle.flux_outside.specs.Streams.{Gains}
 use Rattle.flux_cli.specs.Commands.{swarm, Spells}
 use Rattle.flux_swarms.specs.Tracked.{HasTrackersNodes}
 use Rattle.flux_commands.specs.declared.statuses.Status.{Status}
 use Rattle.flux_commands.specs.declared.statuses.Status.TheVariants as statuses
+use Rattle.flux_commands.specs.Told.{Files}
 use Rattle.flux_driver.specs.Seen.{Seen}
 use Rattle.flux_commands.specs.Origins.{named}
 use Rattle.flux_commands.specs.Documents.{AreDocs, TellsAll}
@@ -46,6 +48,12 @@ SwarmsAreTrue = (library : Libraries) (words : List (List ℕ)) (before after : 
 -- a program, the peers are the swarm in the cell
 abbrev pub TrackersNodesAreBuiltIn : Type 0
 TrackersNodesAreBuiltIn = (docs : DocMap) → HasTrackersNodes (built_in docs)
+
+-- each address of a peer that it lists has six bytes, so that no field of a line is empty
+abbrev pub AddressesHaveSixBytes : Type 0
+AddressesHaveSixBytes = (docs : DocMap) (told : Files) (file items journal hash text : List ℕ)
+    → (swarmed : IsSwarmed (built_in docs) told (named file) (named items) journal hash text)
+    → let of = swarmed.is in AllByRecursion (λ peer. length peer.address ≡ 6) of.peers
 
 -- where they spell it and the program has answered 8, the journal isn't that of a true run, and it has
 -- printed why

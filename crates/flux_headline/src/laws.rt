@@ -2,9 +2,10 @@
 
 ghost use Rattle.flux_headline.specs.Headline.{RunsAreTrue, RunsAreAnswered};
 ghost use Rattle.flux_headline.specs.Audits.{YesIsTrue, NoIsTrue, AuditsAreAnswered};
+ghost use Rattle.flux_headline.specs.Upheld.{RunTextsReadBack, RunTextsAreUpheld, RunsAreUpheld, LoadsAreUpheld};
 ghost use Rattle.flux_headline.specs.Loads.{LoadsAreTrue, LoadsAreAnswered};
 ghost use Rattle.flux_headline.specs.Simulations.{SimulationsAreTrue, SimulationsAreAnswered, SimulationsAreOne};
-ghost use Rattle.flux_headline.specs.Swarms.{SwarmsAreTrue, SwarmsAreRefuted, SwarmsAreAnswered, TrackersNodesAreBuiltIn};
+ghost use Rattle.flux_headline.specs.Swarms.{SwarmsAreTrue, SwarmsAreRefuted, SwarmsAreAnswered, TrackersNodesAreBuiltIn, AddressesHaveSixBytes};
 ghost use Rattle.flux_headline.specs.Groups.{CounterIsBuiltIn, WebIsBuiltIn, CachingIsBuiltIn, TrackerIsBuiltIn};
 ghost use Rattle.flux_headline.specs.Prints.{PrintsAreTrue, LooksAreAnswered};
 ghost use Rattle.flux_headline.specs.ServedHeadline.{ServingIsTrue, ServingIsAnswered};
@@ -35,6 +36,20 @@ pub fn audits_are_true()
 /// or 8, unless memory is short.
 pub fn audits_are_answered()
     ensures { AuditsAreAnswered }
+{}
+
+/// What `run` prints reads back as the journal of the run and as no other, and `audit` says `ok` to it, with the number of
+/// that journal's entries.
+pub fn runs_are_upheld()
+    ensures reads { RunTextsReadBack }
+    ensures upheld { RunTextsAreUpheld }
+    ensures calls { RunsAreUpheld }
+{}
+
+/// The journal of which `load` prints a summary is one to which `audit` says `ok`, and its items are as many as were asked
+/// for.
+pub fn loads_are_upheld()
+    ensures { LoadsAreUpheld }
 {}
 
 /// Where the words spell `load` and `top` has answered 0, it has printed the summary of a true run of its own texts.
@@ -91,6 +106,13 @@ pub fn trackers_nodes_are_built_in()
     ensures { TrackersNodesAreBuiltIn }
 {
     groups_are_built_in();
+}
+
+/// Each address that `swarm` lists has six bytes.
+pub fn addresses_have_six_bytes()
+    ensures { AddressesHaveSixBytes }
+{
+    trackers_nodes_are_built_in();
 }
 
 /// Where a sound program, items of it and a journal's file are there, and no reading or writing fails, `swarm` answers 0

@@ -15,10 +15,11 @@ mod limits;
 mod loads;
 
 pub use laws::{
-    audits_are_answered, audits_are_true, groups_are_built_in, loads_are_answered, loads_are_true,
-    looks_are_answered, prints_are_true, runs_are_answered, runs_are_true, serving_is_answered,
-    serving_is_true, simulations_are_answered, simulations_are_one, simulations_are_true,
-    statuses_are_explained, swarms_are_answered, swarms_are_true, trackers_nodes_are_built_in,
+    addresses_have_six_bytes, audits_are_answered, audits_are_true, groups_are_built_in,
+    loads_are_answered, loads_are_true, loads_are_upheld, looks_are_answered, prints_are_true,
+    runs_are_answered, runs_are_true, runs_are_upheld, serving_is_answered, serving_is_true,
+    simulations_are_answered, simulations_are_one, simulations_are_true, statuses_are_explained,
+    swarms_are_answered, swarms_are_true, trackers_nodes_are_built_in,
 };
 pub use limits::limits_are_these;
 pub use loads::{loads_are_done, program_is_sound};
