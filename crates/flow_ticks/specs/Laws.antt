@@ -13,16 +13,17 @@ abbrev pub EachCosts : Program → List ℕ → Type 0
 EachCosts program costs =
     (node : ℕ) → node < length program.nodes → 1 ≤ cost_of costs (record { 0 = node })
 
--- a legal and whole journal, the ticks of its entries, the runs of its calls and the last tick, by the rule
-pub record ComesByTheRule (setup : Setup) (costs : List ℕ) (processors : ℕ) (entries : List Entry) (at : List ℕ)
-    (runs : List Run) (ticks : ℕ) : Type 0 where
+-- a legal and whole journal, the ticks of its entries, the runs of its calls and the last tick, by
+-- the rule
+pub record ComesByTheRule (setup : Setup) (costs : List ℕ) (processors : ℕ) (entries : List Entry)
+    (at : List ℕ) (runs : List Run) (ticks : ℕ) : Type 0 where
   pub legal : IsLegal setup entries
   pub whole : IsWhole setup entries
   pub rule : IsByTheRule setup costs processors entries at runs ticks
 
 -- two such have the same of each
-pub record AreOne (entries others : List Entry) (at times : List ℕ) (runs their : List Run) (ticks last : ℕ)
-    : Type 0 where
+pub record AreOne (entries others : List Entry) (at times : List ℕ) (runs their : List Run)
+    (ticks last : ℕ) : Type 0 where
   pub entries_ : entries ≡ others
   pub at_ : at ≡ times
   pub runs_ : runs ≡ their
@@ -30,8 +31,8 @@ pub record AreOne (entries others : List Entry) (at times : List ℕ) (runs thei
 
 -- what comes by the rule, for one setup, costs and number of processors, is one
 abbrev pub RuleIsOne : Type 0
-RuleIsOne = (setup : Setup) (costs : List ℕ) (processors : ℕ) (entries others : List Entry) (at times : List ℕ)
-    (runs their : List Run) (ticks last : ℕ) → EachCosts setup.program costs
+RuleIsOne = (setup : Setup) (costs : List ℕ) (processors : ℕ) (entries others : List Entry)
+    (at times : List ℕ) (runs their : List Run) (ticks last : ℕ) → EachCosts setup.program costs
     → ComesByTheRule setup costs processors entries at runs ticks
     → ComesByTheRule setup costs processors others times their last
     → AreOne entries others at times runs their ticks last

@@ -31,8 +31,8 @@ use Rattle.flux_upheld.specs.Printable.{HoldsValues, AnswersCanBePrinted}
 
 -- ---- journals
 
--- Where a legal journal can be read back: a sound program, a lawful library whose answers can be printed, items of their
--- sources' kinds, not too many, and cells that hold values at the start.
+-- Where a legal journal can be read back: a sound program, a lawful library whose answers can be
+-- printed, items of their sources' kinds, not too many, and cells that hold values at the start.
 pub record CanBeRead (setup : Setup) : Type 0 where
   pub kinds : ℕ → NodeKinds
   pub sound : IsSound setup.meaning setup.program kinds
@@ -42,22 +42,24 @@ pub record CanBeRead (setup : Setup) : Type 0 where
   pub few : length setup.items < 2 ^ 32
   pub opening_ : (key : Key) → HoldsValues (setup.opening key)
 
--- there, each part of each entry is one that a journal's text can hold, and so the text reads as the journal
+-- there, each part of each entry is one that a text can hold, and so the text reads as the journal
 abbrev pub LegalIsReadable : Type 0
 LegalIsReadable = (setup : Setup) (entries : List Entry) → CanBeRead setup → IsLegal setup entries
     → AreEntriesOf setup.program entries
 
--- a legal journal has at most twice as many entries as the sizes of its flows come to, and one more for each flow
+-- a legal journal has at most twice as many entries as the sizes of its flows come to, and one more
+-- for each flow
 abbrev pub LegalIsBounded : Type 0
 LegalIsBounded = (setup : Setup) (entries : List Entry) → IsLegal setup entries
     → length entries ≤ 2 * sum_below (flow_size setup) (length setup.items) + length setup.items
 
--- what is printed of a legal and whole journal, in either format, is upheld, with as many events as it has entries
+-- what is printed of a journal, in either format, is upheld, with as many events as it has entries
 pub record AreUpheld (setup : Setup) (journal : Journal) : Type 0 where
   pub one : HasVerdict setup (printed_journal setup.program journal) (Yes (length journal.entries))
   pub two : HasVerdict setup (printed_journal_2 setup.program (length setup.items) journal)
       (Yes (length journal.entries))
 
+-- so it is for each legal and whole one
 abbrev pub LegalIsUpheld : Type 0
 LegalIsUpheld = (setup : Setup) (journal : Journal) → CanBeRead setup → IsNamed setup.program
     → IsLegal setup journal.entries → IsWhole setup journal.entries → length journal.entries < 2 ^ 64
@@ -67,8 +69,8 @@ LegalIsUpheld = (setup : Setup) (journal : Journal) → CanBeRead setup → IsNa
 
 -- the answers of two libraries as one can be printed where those of each can
 abbrev pub JoinedCanBePrinted : Type 0
-JoinedCanBePrinted = (first second : LibraryMeaning) → AnswersCanBePrinted first → AnswersCanBePrinted second
-    → AnswersCanBePrinted (joined first second)
+JoinedCanBePrinted = (first second : LibraryMeaning) → AnswersCanBePrinted first
+    → AnswersCanBePrinted second → AnswersCanBePrinted (joined first second)
 
 -- so can those of the program's own libraries, with any documents
 abbrev pub AllCanBePrinted : Type 0
@@ -80,11 +82,14 @@ OwnCanBePrinted = AnswersCanBePrinted own_meaning
 
 -- ---- programs
 
--- the program of a text's sound declarations is sound for the library, with what its signatures say, and has names
+-- the program of sound declarations is sound for the library, with the kinds that its signatures say,
+-- and has names
 pub record IsProgramSound (meaning : LibraryMeaning) (decls : List Decl) : Type 0 where
-  pub sound : IsSound meaning (program_of decls) (λ number. node_kinds (sig_of meaning.kind decls number))
+  pub sound : IsSound meaning (program_of decls)
+      (λ number. node_kinds (sig_of meaning.kind decls number))
   pub named : IsNamed (program_of decls)
 
+-- so it is where a text declares them
 abbrev pub SoundDeclarationsAreSound : Type 0
-SoundDeclarationsAreSound = (meaning : LibraryMeaning) (decls : List Decl) (text : List ℕ) → Declares decls text
-    → AreSound meaning decls → IsProgramSound meaning decls
+SoundDeclarationsAreSound = (meaning : LibraryMeaning) (decls : List Decl) (text : List ℕ)
+    → Declares decls text → AreSound meaning decls → IsProgramSound meaning decls
