@@ -59,8 +59,8 @@ SimulationsAreAnswered = (library : Libraries) (words : List (List ℕ)) (before
     → CanBeSimulated library before.told file items simulating → NoneRose before after
     → HasDone library words before status after → OrMemory status (status ≡ statuses.Done)
 
--- what `simulate` prints of two files, where files are reported, is one text: its three numbers are those of the rule of
--- simulated processors
+-- what `simulate` prints of two files with the same documents and options, where files are
+-- reported, is one text: its three numbers are those of the rule of simulated processors
 abbrev pub SimulationsAreOne : Type 0
 SimulationsAreOne = (meaning : LibraryMeaning) (told : Files) (words : List (List ℕ)) (file items : List ℕ)
     (simulating : Simulating) (text other : List ℕ) → IsSome told → Spells words (simulate file items simulating)

@@ -105,15 +105,15 @@ abbrev pub count_of : {library : Libraries} {before after : Seen} {file items : 
     → HasRun library before after file items options → ℕ
 count_of ran = let journal : Journal = ran.journal in length journal.entries
 
--- `audit` has said `ok` to a text with so many events, and no more
+-- `audit` has said `ok` to a text with so many events
 pub record HasUpheld (before after : Seen) (status : Status) (events : ℕ) : Type 0 where
   pub done : status ≡ statuses.Done
   pub printed : Gains before.out after.out (printed_verdict (Yes events))
 
 -- Where `run` has answered 0, so that `ran` says what it has done, and later `audit` is called with
--- a file of what it has printed, the same two files and the same documents, `audit` says `ok` with
--- the number of the run's entries: where all of this is reported and no count rose, unless memory
--- was short.
+-- a file of what it has printed, the same two files and the same folders, `audit` says `ok` with the
+-- number of the run's entries: where all of this is reported and no count rose, unless memory was
+-- short.
 abbrev pub RunsAreUpheld : Type 0
 RunsAreUpheld = (before after : Seen) (file items : List ℕ) (options : RunOptions)
     (ran : HasRun built_in before after file items options)

@@ -39,15 +39,14 @@ pub fn audits_are_answered()
 {}
 
 /// What `run` prints reads back as the journal of the run and as no other, and `audit` says `ok` to it, with the number of
-/// that journal's entries.
+/// that journal's entries, where it is within the limit of journals' files.
 pub fn runs_are_upheld()
     ensures reads { RunTextsReadBack }
     ensures upheld { RunTextsAreUpheld }
     ensures calls { RunsAreUpheld }
 {}
 
-/// The journal of which `load` prints a summary is one to which `audit` says `ok`, and its items are as many as were asked
-/// for.
+/// The journal of which `load` prints a summary is one that `audit` upholds, and its items are as many as were asked for.
 pub fn loads_are_upheld()
     ensures { LoadsAreUpheld }
 {}
@@ -75,7 +74,8 @@ pub fn simulations_are_answered()
     ensures { SimulationsAreAnswered }
 {}
 
-/// What `simulate` prints of two files is one text: its three numbers are those of the rule of simulated processors.
+/// What `simulate` prints of two files, with the same documents and options, is one text: its three numbers are those of the
+/// rule of simulated processors.
 pub fn simulations_are_one()
     ensures { SimulationsAreOne }
 {}

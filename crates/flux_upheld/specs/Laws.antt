@@ -42,7 +42,7 @@ pub record CanBeRead (setup : Setup) : Type 0 where
   pub few : length setup.items < 2 ^ 32
   pub opening_ : (key : Key) → HoldsValues (setup.opening key)
 
--- there, each part of each entry is one that a text can hold, and so the text reads as the journal
+-- there, each part of each entry is one that a text can hold
 abbrev pub LegalIsReadable : Type 0
 LegalIsReadable = (setup : Setup) (entries : List Entry) → CanBeRead setup → IsLegal setup entries
     → AreEntriesOf setup.program entries
@@ -59,7 +59,7 @@ pub record AreUpheld (setup : Setup) (journal : Journal) : Type 0 where
   pub two : HasVerdict setup (printed_journal_2 setup.program (length setup.items) journal)
       (Yes (length journal.entries))
 
--- so it is for each legal and whole one
+-- so it is where the program has names, for a legal and whole journal of fewer than 2^64 entries
 abbrev pub LegalIsUpheld : Type 0
 LegalIsUpheld = (setup : Setup) (journal : Journal) → CanBeRead setup → IsNamed setup.program
     → IsLegal setup journal.entries → IsWhole setup journal.entries → length journal.entries < 2 ^ 64

@@ -1,4 +1,4 @@
--- Libraries whose answers can be printed and read back.
+-- Libraries whose answers can be printed and read back, beside what the laws of libraries say.
 use Rattle.std.specs.Prelude.{◌≡◌, ℕ, ◌<◌, ◌^◌, List, Some, All}
 use Rattle.std.specs.List.{AllByRecursion}
 use Rattle.std.specs.FinMap.{get}
