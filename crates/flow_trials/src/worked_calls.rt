@@ -1,5 +1,5 @@
-//! Worked sequences of calls: flows that are stepped and finished by hand, a call that is recalled and finished twice, a plan that the
-//! verifier refuses, and values at the edges of their spelling.
+//! Worked sequences of calls: flows that are stepped and finished by hand, a call that is recalled and finished twice, and values at
+//! the edges of their spelling.
 
 ghost use Rattle.std.specs.Prelude.{◌≡◌};
 ghost use Rattle.flow_state.specs.Calls.{library_name};
