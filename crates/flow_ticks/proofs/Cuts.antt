@@ -85,9 +85,9 @@ rising-front (x ∷ a) b rising = (front a rising.0, rising-front a b rising.1)
     front (y ∷ c) all = (all.0, front c all.1)
 
 -- what comes later has no lesser tick
-pub rising-behind : (a : Timed) (x : ℕ × Entry) (b : Timed) → AreRising (a ++ x ∷ b) → AllByRecursion (λ other. x.0 ≤ other.0) b
-rising-behind [] x b rising = rising.0
-rising-behind (y ∷ a) x b rising = rising-behind a x b rising.1
+pub rising-after : (a : Timed) (x : ℕ × Entry) (b : Timed) → AreRising (a ++ x ∷ b) → AllByRecursion (λ other. x.0 ≤ other.0) b
+rising-after [] x b rising = rising.0
+rising-after (y ∷ a) x b rising = rising-after a x b rising.1
 
 pub rising-before : (a : Timed) (x : ℕ × Entry) (b : Timed) → AreRising (a ++ x ∷ b) → AllByRecursion (λ other. other.0 ≤ x.0) a
 rising-before [] x b rising = tt

@@ -19,7 +19,7 @@ use Rattle.flow_orders.specs.declared.runs.Run.{Run}
 use Rattle.flow_orders.specs.Costs.{cost_of}
 use Rattle.flow_orders.specs.Ticks.{Timed}
 use Rattle.flow_orders.specs.Rule.{IsCallBelow, IsLowestAlone, GoesAlone, IsTurnAt, IsSettled}
-use Rattle.flow_ticks.proofs.Cuts.{bare, all-in, all-both, all-weaker, among, in-here, AreRising, rising-front, rising-behind, rising-before, IsCut, cut-at}
+use Rattle.flow_ticks.proofs.Cuts.{bare, all-in, all-both, all-weaker, among, in-here, AreRising, rising-front, rising-after, rising-before, IsCut, cut-at}
 use Rattle.flow_ticks.proofs.Moves.{IsOther, IsEither, one-call, one-answer, whole-no_move}
 use Rattle.flow_ticks.proofs.One.{IsSimulated, flow-within, move-at, call-alone, run-of, call-of, run-some, settled-cut}
 use Rattle.flow_ticks.proofs.Starts.{starts-there}
@@ -111,7 +111,7 @@ module _ (setup : Setup) (costs : List ℕ) (processors : ℕ) (costly : (node :
         after = x ∷ rest;
         is = is;
         below = below;
-        above = (lt, all-weaker (λ (z : ℕ × Entry). x.0 ≤ z.0) (λ z. tick < z.0) rest (λ z le. omega (arith, lt, le)) (rising-behind before x rest rising));
+        above = (lt, all-weaker (λ (z : ℕ × Entry). x.0 ≤ z.0) (λ z. tick < z.0) rest (λ z le. omega (arith, lt, le)) (rising-after before x rest rising));
       } in
       let can = goes.can in
       by (settled-cut setup costs processors costly own mine sim tick before cut flow can.live)
@@ -121,10 +121,10 @@ module _ (setup : Setup) (costs : List ℕ) (processors : ℕ) (costly : (node :
       by (inr (inl (call, one))) = goes.no_call call
       by (inr (inr (call, none, over))) = goes.no_call call
 
-  -- a call behind an entry of its tick: that one is a call of a lower flow
-  behind : (own : Timed) (mine : List Run) (sim : IsSimulated setup costs processors own mine) (before : Timed) (x : ℕ × Entry) (rest : Timed) → own ≡ before ++ x ∷ rest → (flow : FlowNo) (made : CallMade)
+  -- a call after an entry of its tick: that one is a call of a lower flow
+  call-after : (own : Timed) (mine : List Run) (sim : IsSimulated setup costs processors own mine) (before : Timed) (x : ℕ × Entry) (rest : Timed) → own ≡ before ++ x ∷ rest → (flow : FlowNo) (made : CallMade)
       → In (x.0, record { flow = flow; event = Call made }) rest → (let e : Entry = x.1 in IsCallBelow flow.0 e)
-  behind own mine sim before x rest is flow made there =
+  call-after own mine sim before x rest is flow made there =
       let split = among rest (x.0, record { flow = flow; event = Call made }) there in
       let laid : own ≡ (before ++ x ∷ split.before) ++ (x.0, record { flow = flow; event = Call made }) ∷ split.after =
       is ∙ ap (λ (j : Timed). before ++ x ∷ j) split.is ∙ sym (append_assoc before (x ∷ split.before) ((x.0, record { flow = flow; event = Call made }) ∷ split.after)) in
@@ -138,10 +138,10 @@ module _ (setup : Setup) (costs : List ℕ) (processors : ℕ) (costly : (node :
     their-rising = let s = both.other in subst AreRising both.their_is s.rising
 
     own-from : AreFrom x.0 (x ∷ own_rest)
-    own-from = (omega arith, rising-behind before x own_rest own-rising)
+    own-from = (omega arith, rising-after before x own_rest own-rising)
 
     their-from : AreFrom y.0 (y ∷ their_rest)
-    their-from = (omega arith, rising-behind before y their_rest their-rising)
+    their-from = (omega arith, rising-after before y their_rest their-rising)
 
     from-earlier : (tick at : ℕ) (rest : Timed) → tick ≤ at → AreFrom at rest → AreFrom tick rest
     from-earlier tick at rest le from = all-weaker (λ (z : ℕ × Entry). at ≤ z.0) (λ z. tick ≤ z.0) rest (λ z l. omega (arith, le, l)) from
@@ -219,7 +219,7 @@ module _ (setup : Setup) (costs : List ℕ) (processors : ℕ) (costly : (node :
             on : (call : CallMade) → In (x.0, record { flow = here.flow; event = Call call }) (y ∷ their_rest) → there.flow.0 < here.flow.0
             on call (inl same) = absurd (apart (sym (ap (λ (z : ℕ × Entry). (let e : Entry = z.1 in e.flow.0)) same)))
             on call (inr later) =
-                let below = behind their others both.other before y their_rest both.their_is here.flow call (subst (λ (t : ℕ). In (t, record { flow = here.flow; event = Call call }) their_rest) tick later) in
+                let below = call-after their others both.other before y their_rest both.their_is here.flow call (subst (λ (t : ℕ). In (t, record { flow = here.flow; event = Call call }) their_rest) tick later) in
                 below.below
 
         lower-here : x.0 ≡ y.0 → (here.flow.0 ≡ there.flow.0 → ⊥) → here.flow.0 < there.flow.0
@@ -228,7 +228,7 @@ module _ (setup : Setup) (costs : List ℕ) (processors : ℕ) (costly : (node :
             on : (call : CallMade) → In (y.0, record { flow = there.flow; event = Call call }) (x ∷ own_rest) → here.flow.0 < there.flow.0
             on call (inl same) = absurd (apart (ap (λ (z : ℕ × Entry). (let e : Entry = z.1 in e.flow.0)) same))
             on call (inr later) =
-                let below = behind own mine both.sim before x own_rest both.is there.flow call (subst (λ (t : ℕ). In (t, record { flow = there.flow; event = Call call }) own_rest) (sym tick) later) in
+                let below = call-after own mine both.sim before x own_rest both.is there.flow call (subst (λ (t : ℕ). In (t, record { flow = there.flow; event = Call call }) own_rest) (sym tick) later) in
                 below.below
 
         at-once : x.0 ≡ y.0 → (here.flow.0 ≡ there.flow.0) ⊎ (here.flow.0 ≡ there.flow.0 → ⊥) → x ≡ y
@@ -251,11 +251,11 @@ module _ (setup : Setup) (costs : List ℕ) (processors : ℕ) (costly : (node :
         never other (inr later) = by (cases_lt x.0 y.0) (cases_lt y.0 x.0)
           where
             from : AreFrom y.0 their_rest
-            from = rising-behind before y their_rest (their-rising own their mine others before x y own_rest their_rest both)
+            from = rising-after before y their_rest (their-rising own their mine others before x y own_rest their_rest both)
 
             at-once : x.0 ≡ y.0 → ⊥
             at-once tick =
-                let below = behind their others both.other before y their_rest both.their_is here.flow other (subst (λ (t : ℕ). In (t, record { flow = here.flow; event = Call other }) their_rest) tick later) in
+                let below = call-after their others both.other before y their_rest both.their_is here.flow other (subst (λ (t : ℕ). In (t, record { flow = here.flow; event = Call other }) their_rest) tick later) in
                 plain below.made below.is
 
             by : (x.0 < y.0) ⊎ (y.0 ≤ x.0) → (y.0 < x.0) ⊎ (x.0 ≤ y.0) → ⊥

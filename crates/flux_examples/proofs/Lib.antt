@@ -12,3 +12,4 @@ mod Links
 mod Replies
 mod RepliesAtOnce
 mod Served
+mod Printing

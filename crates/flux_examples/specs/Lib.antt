@@ -18,3 +18,4 @@ pub mod Links
 pub mod Replies
 pub mod RepliesAtOnce
 pub mod Serving
+pub mod Printing

@@ -93,8 +93,8 @@ last-wait : (flow : FlowNo) (entries : List Entry) → ends-waiting (events_by f
 last-wait flow [] e = absurd cc
 last-wait flow (entry ∷ entries) e = by (last-wait flow entries) (cases_eq entry.flow.0 flow.0) (events_by flow.0 entries) refl
   where
-    behind : (key : Key) × (mode : Mode) × (place : ℕ) × IsLast entries flow (events.Wait key mode) place → (key : Key) × (mode : Mode) × (place : ℕ) × IsLast (entry ∷ entries) flow (events.Wait key mode) place
-    behind (key, mode, place, last) = (
+    after-one : (key : Key) × (mode : Mode) × (place : ℕ) × IsLast entries flow (events.Wait key mode) place → (key : Key) × (mode : Mode) × (place : ℕ) × IsLast (entry ∷ entries) flow (events.Wait key mode) place
+    after-one (key, mode, place, last) = (
       key,
       mode,
       suc place,
@@ -123,7 +123,7 @@ last-wait flow (entry ∷ entries) e = by (last-wait flow entries) (cases_eq ent
         → (key : Key) × (mode : Mode) × (place : ℕ) × IsLast (entry ∷ entries) flow (events.Wait key mode) place
     by further (inr apart) rest is =
         let same : events_by flow.0 (entry ∷ entries) ≡ events_by flow.0 entries = split ∙ ap (λ (es : List Event). es ++ events_by flow.0 entries) (by_another entry.flow flow.0 entry.event apart) in
-        behind (further (sym (ap ends-waiting same) ∙ e))
+        after-one (further (sym (ap ends-waiting same) ∙ e))
     by further (inl same) [] is =
         let alone : events_by flow.0 (entry ∷ entries) ≡ entry.event ∷ [] =
         split ∙ ap (λ (es : List Event). es ++ events_by flow.0 entries) (subst (λ (f : ℕ). events_by f (entry ∷ []) ≡ entry.event ∷ []) same (by_itself entry.flow.0 entry.event)) ∙ ap (λ (es : List Event). entry.event ∷ es) is in
@@ -131,7 +131,7 @@ last-wait flow (entry ∷ entries) e = by (last-wait flow entries) (cases_eq ent
     by further (inl same) (next ∷ rest) is =
         let more : events_by flow.0 (entry ∷ entries) ≡ entry.event ∷ next ∷ rest =
         split ∙ ap (λ (es : List Event). es ++ events_by flow.0 entries) (subst (λ (f : ℕ). events_by f (entry ∷ []) ≡ entry.event ∷ []) same (by_itself entry.flow.0 entry.event)) ∙ ap (λ (es : List Event). entry.event ∷ es) is in
-        behind (further (ap ends-waiting is ∙ sym (ap ends-waiting more) ∙ e))
+        after-one (further (ap ends-waiting is ∙ sym (ap ends-waiting more) ∙ e))
 
 not-waiting : (flow : FlowNo) (entries : List Entry) → IsNoWaitLast entries flow → ends-waiting (events_by flow.0 entries) ≡ false
 not-waiting flow entries none = by (ends-waiting (events_by flow.0 entries)) refl

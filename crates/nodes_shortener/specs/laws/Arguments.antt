@@ -16,7 +16,8 @@ pub fits_sound : (z : ℤ) → fits z ≡ true → IsValue (values.Int z)
 fits_sound (pos n) e = let lt : n < 2 ^ 63 = grind (arith, nat_tests) in omega (arith, ints)
 fits_sound (negsuc n) e = let lt : n < 2 ^ 63 = grind (arith, nat_tests) in omega (arith, ints)
 
-zero_valid : IsValue (values.Int (pos 0))
+-- 0 is a value
+pub zero_valid : IsValue (values.Int (pos 0))
 zero_valid = fits_sound (pos 0) refl
 
 empty_valid : IsValue (values.Text [])

@@ -12,7 +12,9 @@ use Rattle.flux_values.specs.declared.answers.Mode.TheVariants.{Writer}
 use Rattle.flux_values.specs.Reading.{IsValue}
 use Rattle.flux_library.specs.Libraries.{IsWrite}
 use Rattle.flux_library.specs.Signatures.{uses}
-use Rattle.nodes_shortener.specs.Cells.{is_text, text_of, text_under}
+use Rattle.nodes_shortener.specs.Arguments.{fits}
+use Rattle.nodes_shortener.specs.Cells.{number_or_zero, number_under, is_text, text_of, text_under}
+use Rattle.nodes_shortener.specs.laws.Arguments.{fits_sound, zero_valid}
 
 and_left : (a b : Bool) → (a && b) ≡ true → a ≡ true
 and_left true b e = refl
@@ -43,6 +45,22 @@ text_of_valid (Some (values.Text t)) = cases (is_text t) refl
     cases : (a : Bool) → is_text t ≡ a → IfSome (text_of (Some (values.Text t))) (λ text. IsValue (values.Text text))
     cases true p = rw p (text_sound t p)
     cases false p = rw p tt
+
+number_of_valid : (value : Option Value) → IsValue (values.Int (number_or_zero value))
+number_of_valid None = zero_valid
+number_of_valid (Some (values.Bool b)) = zero_valid
+number_of_valid (Some (values.Text t)) = zero_valid
+number_of_valid (Some (values.Int z)) = cases (fits z) refl
+  where
+    cases : (a : Bool) → fits z ≡ a → IsValue (values.Int (number_or_zero (Some (values.Int z))))
+    cases true p = rw p (fits_sound z p)
+    cases false p = rw p zero_valid
+
+-- the number under a name is a value
+pub number_under_valid : (cells : List CellMap) (name : List ℕ) → IsValue (values.Int (number_under cells name))
+number_under_valid [] name = zero_valid
+number_under_valid (cell ∷ []) name = number_of_valid (get cell name)
+number_under_valid (cell ∷ next ∷ cells) name = zero_valid
 
 -- the text under a name is a value
 pub text_under_valid : (cells : List CellMap) (name : List ℕ)

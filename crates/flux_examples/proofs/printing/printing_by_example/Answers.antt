@@ -1,0 +1,5 @@
+use Rattle.flux_examples.proofs.Printing.{fits, refuses}
+use Rattle.flux_examples.proofs.printing.printing_by_example.Goals as goal
+
+pub returns : goal.returns
+returns c = record { fits = fits; refused = refuses }
