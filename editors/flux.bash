@@ -7,8 +7,8 @@ _flux() {
     # bash takes = for a word of its own.
     if [ "$word" = "=" ]; then word=""; elif [ "$before" = "=" ]; then before="${COMP_WORDS[COMP_CWORD - 2]}"; fi
     if [ "$COMP_CWORD" = 1 ]; then
-        values="check plan format run audit load serve help simulate swarm"
-        [[ "$1" != */* ]] || values+=" prove version nodes lsp install new --nodes"
+        values="check plan format run audit load serve help simulate swarm version nodes lsp"
+        [[ "$1" != */* ]] || values+=" prove install new --nodes"
         mapfile -t COMPREPLY < <(compgen -W "$values" -- "$word")
         return
     fi

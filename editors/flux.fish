@@ -1,4 +1,4 @@
-# Completes the words of flux in fish: ./flux install puts it where fish finds it. Made by editors/make.
+# Completes the words of flux and ./flux in fish: ./flux install puts it where fish finds it. Made by editors/make.
 complete -c flux -f -n __fish_use_subcommand -a check
 complete -c flux -f -n __fish_use_subcommand -a plan
 complete -c flux -f -n __fish_use_subcommand -a format
@@ -12,6 +12,10 @@ complete -c flux -f -n __fish_use_subcommand -a swarm
 complete -c flux -f -n __fish_use_subcommand -a version
 complete -c flux -f -n __fish_use_subcommand -a nodes
 complete -c flux -f -n __fish_use_subcommand -a lsp
+complete -c flux -f -n '__fish_use_subcommand; and string match -q "*/*" (commandline -opc)[1]' -a prove
+complete -c flux -f -n '__fish_use_subcommand; and string match -q "*/*" (commandline -opc)[1]' -a install
+complete -c flux -f -n '__fish_use_subcommand; and string match -q "*/*" (commandline -opc)[1]' -a new
+complete -c flux -f -n '__fish_use_subcommand; and string match -q "*/*" (commandline -opc)[1]' -a --nodes
 complete -c flux -n '__fish_seen_subcommand_from run load serve' -l runtime -x -a 'event event= perflow pool= script='
 complete -c flux -n '__fish_seen_subcommand_from run audit serve simulate swarm' -l docs -x -a '(__fish_complete_directories)'
 complete -c flux -n '__fish_seen_subcommand_from run' -l journal -x -a '1 2'

@@ -1,4 +1,4 @@
-// A BitTorrent tracker: clients announce themselves in a swarm and get its peers, or ask how large it is.
+// A tracker over plain lines: real BitTorrent clients announce over HTTP, which it doesn't read. A client joins a swarm and gets its peers.
 Listen () => (int conn, text line);
 ReadAsk (int conn, text line) => (text action, text hash, text peer, int left);
 Swarm (text action, text hash, text peer, int left) => (text reply);

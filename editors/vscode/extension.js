@@ -1,4 +1,5 @@
-// Asks the language server `flux lsp`, which it starts for the first program of Flux that is opened.
+// Asks the language server `flux lsp`, which it starts for the first program of Flux that is opened; with the setting
+// `flux.command` by its words in place of flux.
 "use strict";
 const { spawn } = require("child_process");
 const vscode = require("vscode");
@@ -14,7 +15,7 @@ class Client {
     this.last = 0;
     this.process = spawn(command, args, { stdio: ["pipe", "pipe", "ignore"] });
     this.process.stdout.on("data", (piece) => this.read(piece));
-    this.process.on("error", () => vscode.window.showErrorMessage("flux isn't on the path: ./flux install puts it there"));
+    this.process.on("error", () => vscode.window.showErrorMessage(`${command} can't be started: ./flux install puts flux on the path`));
   }
 
   send(message) {
@@ -107,7 +108,8 @@ function closed(document) {
 
 async function activate(context) {
   diagnostics = vscode.languages.createDiagnosticCollection(LANGUAGE);
-  server = new Client("flux", ["lsp"]);
+  const [command, ...words] = vscode.workspace.getConfiguration("flux").get("command", ["flux"]);
+  server = new Client(command, [...words, "lsp"]);
   await server.ask("initialize", { capabilities: {} });
   server.notify("initialized", {});
   vscode.workspace.textDocuments.forEach(opened);

@@ -1,5 +1,6 @@
 -- Starts the language server for programs of Flux. Made by editors/make.
-local flux = { name = "flux", cmd = { "flux", "lsp" } }
+-- With vim.g.flux_command = { "/PATH/flux", "--nodes", "/PATH/nodes" } by these words in place of flux.
+local flux = { name = "flux", cmd = vim.list_extend(vim.g.flux_command or { "flux" }, { "lsp" }) }
 if vim.lsp.start then
   vim.lsp.start(flux)
 else
