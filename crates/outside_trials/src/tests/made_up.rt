@@ -1,6 +1,6 @@
 //! A system of files and folders, and a stream that fails once.
 
-ghost use Rattle.std.specs.Prelude.{IsErr};
+ghost use Rattle.std.specs.Prelude.{◌<◌, IsErr};
 
 use flux_outside::Unbuffered;
 use std::alloc::Allocator;
