@@ -1,7 +1,9 @@
 //! Public calls that no program makes, each with its good answer: `enabled`, `drain`, and `at_call` and `cells` of a core;
-//! `answered` of a plan; and `print_log`, `print_item` and `print_value`.
+//! `answered` of a plan; `print_log`, `print_item` and `print_value`; and `read_line`, with what it refuses too.
 
 ghost use Rattle.std.specs.Prelude.{IsTrue, IfOk};
+ghost use Rattle.flux_model.specs.Names.{IsNamed};
+ghost use Rattle.flux_model.specs.Numbered.{IsNumbered};
 ghost use Rattle.flow_model.specs.Matching.{patterns_match};
 ghost use Rattle.flux_plan.specs.Moves.{IsReached};
 ghost use Rattle.flux_compile.specs.Sources.{AreApart};
@@ -11,7 +13,7 @@ use flow_model::{Journal, Key, SharedAnswer};
 use flow_waits::{drain, enabled};
 use flux_compile::compile;
 use flux_hoist::Checked;
-use flux_journal::{print_item, print_log};
+use flux_journal::{LineFault, print_item, print_journal, print_log, read_line};
 use flux_library::Library;
 use flux_model::{ClassNo, FlowNo, Program};
 use flux_plan::{Local, Next, VerifiedPlan, advance, answered, next};
@@ -99,6 +101,31 @@ fn tell_texts(rt: &HostRuntime, checked: &Checked, journal: &Journal) -> Result<
     write_line(rt, &print_value(rt.alloc(), &Value::Bool(true))?)
 }
 
+/// Lines that are read: one in another spelling than it is printed in, one that is cut off, and one of a node that isn't there.
+const LINES: &[&[u8]] = &[
+    b"1 call Add (-0) ok (007) put counter \"\\x74otal\" 7",
+    b"1 call Add (0) ok (7",
+    b"1 enter Sub",
+];
+
+/// Prints the one entry of a line again, or that the line has none.
+fn tell_line(rt: &HostRuntime, program: &Program, line: &[u8]) -> Result<(), Trouble>
+    requires numbered { IsNumbered program.now }
+    requires named { IsNamed program.now }
+{
+    match read_line(rt.alloc(), program, line) {
+        Ok(entry) => {
+            let mut entries = List::new(rt.alloc());
+            entries.add(entry)?;
+            let text = print_journal(rt.alloc(), program, &Journal { entries })?;
+            rt.stdout().write_all(text.as_bytes())?;
+        }
+        Err(LineFault::BadLine) => println!(rt; "a bad line")?,
+        Err(LineFault::Memory) => return Err(Trouble::Memory),
+    }
+    Ok(())
+}
+
 /// An answer that gives one number.
 fn one_number(alloc: Global, number: i64) -> Result<SharedAnswer, Memory> {
     let mut values = List::new(alloc);
@@ -172,5 +199,8 @@ pub fn answer_calls(rt: &HostRuntime) -> Result<(), Trouble> {
     let journal = drained(rt)?;
     let checked = checked_of(rt.alloc(), COUNTING, &Counter)?;
     tell_texts(rt, &checked, &journal)?;
+    for line in LINES {
+        tell_line(rt, &checked.program, line)?;
+    }
     tell_answered(rt, &checked)
 }

@@ -1,7 +1,7 @@
-//! Worked sequences of calls: flows that are stepped and finished by hand, a call that is recalled and finished twice, and values at
-//! the edges of their spelling.
+//! Worked sequences of calls: flows that are stepped and finished by hand, a call that is recalled and finished twice, what calls are
+//! given and answered, and values at the edges of their spelling.
 
-ghost use Rattle.std.specs.Prelude.{◌≡◌};
+ghost use Rattle.std.specs.Prelude.{◌≡◌, ◌<◌, length};
 ghost use Rattle.flow_state.specs.Calls.{library_name};
 
 use crate::turns::{Turn, take_turn};
@@ -11,13 +11,13 @@ use flux_journal::print_journal;
 use flux_library::Library;
 use flux_model::FlowNo;
 use flux_spelling::{print_value, read_value};
-use flux_values::{TextBytes, TextFault, Value, ValueFault};
+use flux_values::{Answer, CallResult, TextBytes, TextFault, Value, ValueFault};
 use nodes_counter::Counter;
 use plain_journals::Given;
 use std::alloc::Global;
 use std::io::Write;
 use trial_ends::Trouble;
-use trial_programs::{FREE, checked_of, journal_of, numbers, open};
+use trial_programs::{COUNTING, FREE, checked_of, journal_of, numbers, open};
 
 /// The most turns of a flow.
 const TURN_LIMIT: u32 = 64;
@@ -152,6 +152,93 @@ fn finish_twice(rt: &HostRuntime, core: &mut Core<Counter>) -> Result<(), Troubl
     tell_finish(rt, core, &done)
 }
 
+/// Prints a value after a word.
+fn tell_value(rt: &HostRuntime, word: &[u8], value: &Value) -> Result<(), Trouble> {
+    let text = print_value(rt.alloc(), value)?;
+    rt.stdout().write_all(word)?;
+    rt.stdout().write_all(text.as_bytes())?;
+    println!(rt; "")?;
+    Ok(())
+}
+
+/// Prints what an answer gives, or its code, and how much it puts.
+fn tell_answer(rt: &HostRuntime, answer: &Answer) -> Result<(), Trouble> {
+    match &answer.result {
+        CallResult::Good(values) => {
+            for value in values {
+                tell_value(rt, b"answer: gives ", value)?;
+            }
+        }
+        CallResult::Bad(code) => println!(rt; "answer: fails {code}")?,
+    }
+    println!(rt; "answer: puts {}", answer.puts.len())?;
+    Ok(())
+}
+
+/// Prints what a call is given: its values, and of each cell the first name.
+fn tell_job<L: Library>(rt: &HostRuntime, job: &Job<L>) -> Result<(), Trouble> {
+    println!(rt; "job of flow {} and node {}", job.flow().0, job.node().0)?;
+    for value in job.args() {
+        tell_value(rt, b"job: is given ", value)?;
+    }
+    for cell in job.cells() {
+        match cell.name_at(0) {
+            Some(name) => tell_value(
+                rt,
+                b"job: a cell has ",
+                &Value::Text(name.again(rt.alloc())?),
+            )?,
+            None => println!(rt; "job: a cell has nothing")?,
+        }
+    }
+    Ok(())
+}
+
+/// One step of a flow. A call is told, run and finished; whether it was one.
+fn tell_call<L: Library>(
+    rt: &HostRuntime,
+    core: &mut Core<L>,
+    flow: FlowNo,
+) -> Result<bool, Trouble>
+    requires { flow.0 < length core.old.setup.items }
+{
+    match core.step(flow)? {
+        Step::Job(job) => {
+            tell_job(rt, &job)?;
+            let done = job.run(rt.alloc())?;
+            tell_answer(rt, done.answer())?;
+            let _ = core.finish(&done)?;
+            Ok(true)
+        }
+        _ => Ok(false),
+    }
+}
+
+/// Lets a flow go on to its end, and tells of its first call.
+fn tell_first_call<L: Library>(
+    rt: &HostRuntime,
+    core: &mut Core<L>,
+    flow: u32,
+) -> Result<(), Trouble> {
+    for _ in 0..TURN_LIMIT {
+        if flow >= core.flows() {
+            return Err(Trouble::Wrong);
+        }
+        if tell_call(rt, core, FlowNo(flow))? {
+            return end(rt.alloc(), core, flow);
+        }
+    }
+    Err(Trouble::Wrong)
+}
+
+/// Two flows of one counter: what each one's call is given, and what is answered.
+fn tell_jobs(rt: &HostRuntime) -> Result<(), Trouble> {
+    let given = numbers(rt.alloc(), 2)?;
+    let mut core = open(rt.alloc(), COUNTING, given.as_slice(), Counter)?;
+    tell_first_call(rt, &mut core, 0)?;
+    tell_first_call(rt, &mut core, 1)
+}
+
 /// A call that is begun, recalled and finished twice, and then the flow's end.
 fn tell_recalled(rt: &HostRuntime) -> Result<(), Trouble> {
     let given = numbers(rt.alloc(), 1)?;
@@ -199,6 +286,7 @@ fn tell_text(rt: &HostRuntime, bytes: &[u8]) -> Result<(), Trouble> {
 pub fn answer_worked(rt: &HostRuntime) -> Result<(), Trouble> {
     tell_crossed(rt)?;
     tell_recalled(rt)?;
+    tell_jobs(rt)?;
     for spelling in SPELLINGS {
         tell_spelling(rt, spelling)?;
     }

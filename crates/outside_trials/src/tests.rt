@@ -2,5 +2,6 @@
 
 mod doors;
 mod files;
+mod folders;
 mod made_up;
 mod streams;

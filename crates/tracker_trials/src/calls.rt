@@ -143,7 +143,8 @@ fn append_result(alloc: Global, out: &mut Bytes, given: &CallResult) -> Result<(
     Ok(())
 }
 
-fn append_answer(alloc: Global, out: &mut Bytes, answer: &Answer) -> Result<(), Trouble> {
+/// What a call gives and puts.
+pub fn append_answer(alloc: Global, out: &mut Bytes, answer: &Answer) -> Result<(), Trouble> {
     append_result(alloc, out, &answer.result)?;
     for put in &answer.puts {
         append_put(alloc, out, put)?;

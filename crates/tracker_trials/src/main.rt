@@ -1,16 +1,18 @@
 //! The program `tracker_trials`: what only calls show of the tracker's nodes.
 //!
 //! It calls `Swarm` and `Scrape` on cells that no program would leave, at the limits of numbers and swarms, and on
-//! values that `ReadAsk` never gives. Each answer is a line. `announce N`, `read N` and `print N` do one thing so often
-//! with a swarm of the greatest size, for the bench.
+//! values that `ReadAsk` never gives, and the library `Tracker` by each of its own calls. Each answer is a line. `announce N`,
+//! `read N` and `print N` do one thing so often with a swarm of the greatest size, for the bench.
 #![tactic(auto)]
 
 mod announces;
 mod calls;
+mod library;
 mod rows;
 
 use announces::{announce, print, read};
 use calls::line_of;
+use library::library_lines;
 use rows::{ROWS, Row};
 use std::env;
 use std::io::Write;
@@ -33,7 +35,8 @@ fn answer_all(rt: &HostRuntime) -> Result<(), Trouble> {
     for row in ROWS {
         tell(rt, row)?;
     }
-    Ok(())
+    let lines = library_lines(rt.alloc())?;
+    Ok(rt.stdout().write_all(lines.as_bytes())?)
 }
 
 fn answer_many(rt: &HostRuntime, what: &str, count: u32) -> Result<(), Trouble> {

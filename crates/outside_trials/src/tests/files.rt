@@ -1,11 +1,11 @@
 //! Files of a made-up system: what they come to, within which limits, and for which errors.
 
-use super::made_up::OneFile;
+use super::made_up::{Entry, System};
 use flux_outside::{Failed, File, Folder, RealFolder, RealStore, Store, StoreFault};
 use std::io::ErrorKind;
 use std::test::Fail;
 
-static LONG: [u8; 9_000] = [b'x'; 9_000];
+static ONE_FILE: [(&str, Entry); 1] = [("long ", Entry::File(&[b'x'; 9_000]))];
 
 /// What reading came to, with the length of what was found.
 fn outcome(answer: Result<File, StoreFault>) -> Result<Option<usize>, &'static str> {
@@ -18,10 +18,9 @@ fn outcome(answer: Result<File, StoreFault>) -> Result<Option<usize>, &'static s
     }
 }
 
-fn system(other: ErrorKind, first: Option<ErrorKind>) -> OneFile {
-    OneFile {
-        name: "long ",
-        body: &LONG,
+fn system(other: ErrorKind, first: Option<ErrorKind>) -> System {
+    System {
+        entries: &ONE_FILE,
         other,
         first,
     }
