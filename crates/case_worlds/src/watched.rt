@@ -50,7 +50,7 @@ pub struct WatchedStore {
 
 impl Store for WatchedStore {
     ghost use Rattle.std.specs.Prelude.{Some};
-    ghost use Rattle.flux_outside.specs.Memory.{store_files, store_asked, store_faults};
+    ghost use Rattle.flux_outside.specs.InMemory.{store_files, store_asked, store_faults};
 
     ghost files = { λ watched. Some (store_files watched.store) };
 

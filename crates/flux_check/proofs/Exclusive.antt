@@ -19,7 +19,8 @@ use Rattle.flux_model.specs.Locks.{Holds}
 use Rattle.flux_syntax.specs.Least.{first_fault}
 use Rattle.flux_check.specs.Rows.{size_rows}
 use Rattle.flux_model.proofs.Hoisting.{locks_once}
-use Rattle.flux_check.specs.Judgement.{AreSound, IsCycleOf, IsDeclsFault, IsTextFault, IsSoundText, IsRefusalOf, IsThatFault}
+use Rattle.flux_check.specs.Judgement.{AreSound, IsCycleOf, IsDeclsFault, IsTextFault}
+use Rattle.flux_check.specs.Checked.{IsSoundText, IsRefusalOf, IsThatFault}
 
 some_none : {A : Type 0} (o : Option A) (x : A) → o ≡ Some x → o ≡ None → ⊥
 some_none o x s n = let e = sym s ∙ n in absurd cc

@@ -38,12 +38,13 @@ use Rattle.flux_types.specs.Typing.{AreTyped}
 use Rattle.flux_types.proofs.Written.{sigs_same}
 use Rattle.flux_edges.specs.Places.{least_of}
 use Rattle.flux_edges.specs.Handlers.{unlike_handlers}
-use Rattle.flux_edges.specs.Sessions.{unserved_sources}
+use Rattle.flux_edges.specs.Unserved.{unserved_sources}
 use Rattle.flux_edges.specs.Rows.{handler_rows, session_rows}
 use Rattle.flux_edges.proofs.Texts.{handlers_least, sessions_least}
 use Rattle.flux_hoist.specs.Sets.{held_by}
 use Rattle.flux_check.specs.Rows.{constraint_rows, size_rows, last_rows, edge_rows, later_rows}
-use Rattle.flux_check.specs.Judgement.{AreOrdered, AreJoined, IsCycleOf, AreChecked, IsRefusalOf}
+use Rattle.flux_check.specs.Judgement.{AreOrdered, AreJoined, IsCycleOf}
+use Rattle.flux_check.specs.Checked.{AreChecked, IsRefusalOf}
 use Rattle.flux_check.specs.steps.Checking.{IsDeclared, AreSizes, IsCycleRefusal, IsDeclsRefusal, site_of}
 use Rattle.flux_check.proofs.Firsts.{first_fault-behind, first_fault-before}
 use Rattle.flux_check.proofs.Places.{fault_within}

@@ -18,7 +18,8 @@ use Rattle.flux_hoist.specs.Sets.{held_by}
 use Rattle.flux_hoist.specs.Types.{TypesAgree}
 use Rattle.flux_types.proofs.Written.{sigs_same}
 use Rattle.flux_check.proofs.Joins.{types_agree}
-use Rattle.flux_check.specs.Judgement.{AreJoined, AreChecked}
+use Rattle.flux_check.specs.Judgement.{AreJoined}
+use Rattle.flux_check.specs.Checked.{AreChecked}
 use Rattle.flux_check.specs.steps.Checking.{AreSizes}
 use Rattle.flux_check.proofs.Soundness.{sound}
 use Rattle.flux_check.proofs.Identified.{names_kept}

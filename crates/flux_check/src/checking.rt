@@ -7,7 +7,8 @@ ghost use Rattle.flux_model.specs.Texts.{node_name};
 ghost use Rattle.flux_syntax.specs.Counted.{words_of};
 ghost use Rattle.flux_faults.specs.declared.faults.StaticFault.{StaticFault};
 ghost use Rattle.flux_faults.specs.declared.faults.CheckFault.TheVariants as causes;
-ghost use Rattle.flux_check.specs.Judgement.{AreChecked, IsChecked, IsRefusalOf, IsSoundText, IsTextFault, IsThatFault};
+ghost use Rattle.flux_check.specs.Judgement.{IsTextFault};
+ghost use Rattle.flux_check.specs.Checked.{AreChecked, IsChecked, IsRefusalOf, IsSoundText, IsThatFault};
 ghost use Rattle.flux_check.specs.steps.Checking.{IsDeclared, IsCycleRefusal, IsDeclsRefusal, site_of};
 
 use crate::constraints::constraints;

@@ -31,7 +31,8 @@ use Rattle.flux_hoist.specs.Sets.{held_by}
 use Rattle.flux_hoist.specs.Reports.{IsReport}
 use Rattle.flux_hoist.specs.Plans.{printed_plan}
 use Rattle.flux_types.proofs.Written.{sigs_same}
-use Rattle.flux_check.specs.Judgement.{IsTextFault, IsChecked}
+use Rattle.flux_check.specs.Judgement.{IsTextFault}
+use Rattle.flux_check.specs.Checked.{IsChecked}
 use Rattle.flux_items.specs.declared.rules.ItemRules.{ItemRules}
 use Rattle.flux_items.specs.Rules.{AreRules}
 use Rattle.flux_items.specs.Items.{AreItemsOf}

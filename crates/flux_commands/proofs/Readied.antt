@@ -10,7 +10,7 @@ use Rattle.flux_model.specs.declared.programs.Hold.{Hold}
 use Rattle.flux_model.specs.declared.signatures.NodeSig.{NodeSig}
 use Rattle.flux_syntax.specs.ProgramOfText.{program_of}
 use Rattle.flux_hoist.specs.declared.checked.Checked.{Checked}
-use Rattle.flux_check.specs.Judgement.{IsChecked}
+use Rattle.flux_check.specs.Checked.{IsChecked}
 use Rattle.flux_doors.specs.declared.framing.Framing.{Framing}
 use Rattle.flux_sources.specs.Sources.{IsServed, IsNotServed}
 use Rattle.flux_cli.specs.Forms.{Serving}

@@ -10,7 +10,7 @@ use Rattle.flux_laws.specs.Hoisted.{locks_of}
 use Rattle.flux_journal.specs.Journals.{lines_of, is_headed, FitsFormat, ReadsAs}
 use Rattle.flux_audit.specs.declared.verdicts.Verdict.TheVariants.{Yes}
 use Rattle.flux_audit.specs.Verdicts.{FitsHead, IsTrueText, HasVerdict}
-use Rattle.flux_swarms.specs.Tracked.{LegalCallsAreRight}
+use Rattle.flux_swarms.specs.InTheCell.{LegalCallsAreRight}
 use Rattle.flux_swarms.specs.Swarms.{Reads, IsSwarmText}
 use Rattle.flux_runs.specs.Setups.{setup_of}
 use Rattle.flux_runs.specs.Opening.{CanRun}

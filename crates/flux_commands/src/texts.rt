@@ -3,7 +3,7 @@
 ghost use Rattle.std.specs.Prelude.{◌≡◌, ◌≤◌, ◌<◌, IfOk, IfErr, length};
 ghost use Rattle.flux_faults.specs.declared.places.TheConstants.{PLACE_LIMIT};
 ghost use Rattle.flux_syntax.specs.Declares.{Declares};
-ghost use Rattle.flux_check.specs.Judgement.{IsChecked};
+ghost use Rattle.flux_check.specs.Checked.{IsChecked};
 ghost use Rattle.flux_commands.specs.Causes.{fault_text};
 ghost use Rattle.flux_commands.specs.steps.Refusals.{SaysOrMemory, IsTextRefused, IsCheckRefused};
 

@@ -2,7 +2,7 @@
 use Rattle.std.specs.Prelude.{◌≡◌, ℕ, ◌+◌, ◌-◌, ◌<◌, min, List, [], ◌∷◌, map, drop, length, Option, None}
 use Rattle.std.specs.VecDeque.{deque_items}
 use Rattle.flux_outside.specs.Calls.{no_calls, one_more, IsToFail}
-use Rattle.flux_outside.specs.Memory.{sink_bytes, SinkTakes, SinkWasCalled}
+use Rattle.flux_outside.specs.InMemory.{sink_bytes, SinkTakes, SinkWasCalled}
 use Rattle.flux_outside.specs.declared.memory.MemorySink.{MemorySink}
 use Rattle.flux_doors.specs.declared.memory_links.MemoryLink.{MemoryLink}
 use Rattle.flux_doors.specs.declared.memory_doors.MemoryDoor.{MemoryDoor}

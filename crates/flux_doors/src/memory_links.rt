@@ -36,7 +36,7 @@ impl Drop for MemoryLink {
 
 impl MemoryLink {
     ghost use Rattle.std.specs.Prelude.{◌≡◌};
-    ghost use Rattle.flux_outside.specs.Memory.{sink_bytes};
+    ghost use Rattle.flux_outside.specs.InMemory.{sink_bytes};
     ghost use Rattle.flux_doors.specs.Memory.{link_had, link_left, link_left_before, link_written, link_faults, IsNewLink};
 
     /// A link that gives these bytes, at most `piece` a call. The reads whose numbers are in `fails`, counted from 1,

@@ -10,7 +10,8 @@ use Rattle.flux_syntax.specs.Least.{sooner}
 use Rattle.flux_edges.specs.declared.handlers.Arm.{Arm}
 use Rattle.flux_edges.specs.Places.{least_of, unless, sooner_of}
 use Rattle.flux_edges.specs.Handlers.{is_like, unlike_arms}
-use Rattle.flux_edges.specs.Sessions.{needs_session, IsNeeded, is_served, unserved}
+use Rattle.flux_edges.specs.Sessions.{needs_session}
+use Rattle.flux_edges.specs.Unserved.{IsNeeded, is_served, unserved}
 use Rattle.flux_edges.specs.steps.Marking.{arms_along, lines_along}
 
 one_more : (t : Bool) (at : ℕ) (place : Option ℕ) (places : List ℕ) → least_of (sooner_of t at place) places ≡ least_of place (unless t at ++ places)

@@ -16,7 +16,8 @@ use Rattle.flux_model.specs.Nested.{for_node, nested}
 use Rattle.flux_model.specs.Ordering.{IsOrder}
 use Rattle.flux_graph.proofs.Depths.{through-rule}
 use Rattle.flux_graph.proofs.Fillings.{Puts, length-filled, slice_get-filled}
-use Rattle.flux_edges.specs.Sessions.{needs_by, needs_session, IsNeeded}
+use Rattle.flux_edges.specs.Sessions.{needs_by, needs_session}
+use Rattle.flux_edges.specs.Unserved.{IsNeeded}
 use Rattle.flux_edges.specs.steps.Marking.{mark_at, put_found, put_mark}
 use Rattle.flux_edges.proofs.Needs.{needs_look_down, needs_same, needs_from_needed}
 

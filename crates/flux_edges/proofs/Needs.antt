@@ -14,7 +14,8 @@ use Rattle.flux_model.specs.Nested.{for_node, nested, LooksDown}
 use Rattle.flux_model.specs.Ordering.{IsOrder, IsLed, LeadsOn}
 use Rattle.flux_model.specs.Soundness.{DeclaresSession}
 use Rattle.flux_graph.proofs.Depths.{through-rule}
-use Rattle.flux_edges.specs.Sessions.{is_session_class, is_session, needs_by, needs_session, IsNeeded}
+use Rattle.flux_edges.specs.Sessions.{is_session_class, is_session, needs_by, needs_session}
+use Rattle.flux_edges.specs.Unserved.{IsNeeded}
 
 -- ---- tests on lists
 

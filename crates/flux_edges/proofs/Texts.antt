@@ -19,7 +19,8 @@ use Rattle.flux_syntax.proofs.NumberedNames.{place_at, known_at}
 use Rattle.flux_edges.specs.declared.handlers.Arm.{Arm}
 use Rattle.flux_edges.specs.Places.{least_of, unless, sooner_of}
 use Rattle.flux_edges.specs.Handlers.{arm_of, arms_from, unlike_arms, unlike_handlers}
-use Rattle.flux_edges.specs.Sessions.{needs_session, is_served, unserved, unserved_sources}
+use Rattle.flux_edges.specs.Sessions.{needs_session}
+use Rattle.flux_edges.specs.Unserved.{is_served, unserved, unserved_sources}
 use Rattle.flux_edges.specs.Rows.{word_unless, unlike_handler, unserved_source}
 
 one_more : (t : Bool) (word : Word) (place : Option ℕ) (at : List ℕ) (words : List Word) → ((other : Option ℕ) → least_of other at ≡ soonest other words)

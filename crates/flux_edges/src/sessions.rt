@@ -9,7 +9,8 @@ ghost use Rattle.flux_model.specs.Soundness.{HasSession};
 ghost use Rattle.flux_faults.specs.declared.faults.FaultKind.TheVariants.{NoSession};
 ghost use Rattle.flux_syntax.specs.Least.{fault_or, IsLeastFault};
 ghost use Rattle.flux_edges.specs.Places.{least_of};
-ghost use Rattle.flux_edges.specs.Sessions.{is_session_class, is_session, needs_by, needs_session, IsNeeded, is_served, unserved_sources};
+ghost use Rattle.flux_edges.specs.Sessions.{is_session_class, is_session, needs_by, needs_session};
+ghost use Rattle.flux_edges.specs.Unserved.{IsNeeded, is_served, unserved_sources};
 ghost use Rattle.flux_edges.specs.steps.Marking.{mark_at, put_mark, lines_along};
 
 use crate::places::{Place, fault, unless};

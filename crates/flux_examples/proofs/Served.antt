@@ -44,7 +44,7 @@ not_plain Line is = let same : 0 ≡ 3 = is in omega (arith, same)
 
 pub fit : ServingFits
 fit = record {
-  heads_ = record { line = line; one = refl; name = codes "Page"; sig = sig_with HeadSource; named = refl; known = refl; role = refl };
+  heads_ = record { line = line; one = refl; name = codes "Page"; sig = sig_with HeadSource; named = record { node = _; at = refl; concrete = refl }; known = refl; role = refl };
   none = λ framing is. let same : 0 ≡ 1 = ap length is.one in omega (arith, same);
   several = λ framing is. let same : 2 ≡ 1 = ap length is.one in omega (arith, same);
   plain = λ framing is. not_plain framing (by_role Plain framing is);

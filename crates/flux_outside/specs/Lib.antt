@@ -10,3 +10,4 @@ pub mod Told
 pub mod Walking
 pub mod Calls
 pub mod Memory
+pub mod InMemory

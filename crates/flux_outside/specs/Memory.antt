@@ -1,65 +1,10 @@
--- What the forms in memory hold, and when their calls fail.
-use Rattle.std.specs.Prelude.{◌≡◌, ℕ, ◌+◌, ◌≤◌, min, if◌then◌else◌, List, [], ◌∷◌, length, Option, Some, None}
+-- What files in memory hold.
+use Rattle.std.specs.Prelude.{ℕ, if◌then◌else◌, List, [], ◌∷◌, Option, Some, None}
 use Rattle.std.specs.Str.{bytes_eq}
-use Rattle.flux_outside.specs.Calls.{no_calls, one_more, IsToFail}
 use Rattle.flux_outside.specs.declared.memory.FileBytes.{FileBytes}
-use Rattle.flux_outside.specs.declared.memory.MemorySink.{MemorySink}
-use Rattle.flux_outside.specs.declared.memory.MemoryStore.{MemoryStore}
-
--- ---- the sink
-
--- all bytes that it took, and its count of faults
-abbrev pub sink_bytes : MemorySink → List ℕ
-sink_bytes sink = sink.written.items
-
-abbrev pub sink_faults : MemorySink → ℕ
-sink_faults sink = sink.faults
-
--- a new sink has this room, these pieces and failing calls, and was not called yet
-abbrev pub IsNewSink : MemorySink → ℕ → ℕ → List ℕ → Type 0
-IsNewSink sink room piece fails =
-    (sink.room ≡ room) × (sink.piece ≡ piece) × (sink.calls ≡ no_calls fails)
-
--- the same room and pieces, one call on
-abbrev pub SinkWasCalled : MemorySink → MemorySink → Type 0
-SinkWasCalled before after =
-    (after.room ≡ before.room) × (after.piece ≡ before.piece) × (after.calls ≡ one_more before.calls)
-
--- how many bytes of so many it takes a call
-abbrev pub piece_of : MemorySink → ℕ → ℕ
-piece_of sink count = min count sink.piece
-
--- its next call takes a piece of so many bytes: it isn't to fail, and there is room for the piece
-abbrev pub SinkTakes : MemorySink → ℕ → Type 0
-SinkTakes sink count =
-    (IsToFail sink.calls → ⊥) × (length sink.written.items + piece_of sink count ≤ sink.room)
-
--- ---- the store
 
 -- the body of the first file of a name
 abbrev pub first_of : List FileBytes → List ℕ → Option (List ℕ)
 first_of [] name = None
 first_of (file ∷ files) name =
     if bytes_eq file.name name then Some file.body else first_of files name
-
--- its files, what it was asked for, and its count of faults
-abbrev pub store_files : MemoryStore → List ℕ → Option (List ℕ)
-store_files store = first_of store.files
-
-abbrev pub store_asked : MemoryStore → List (List ℕ)
-store_asked store = store.asked.names
-
-abbrev pub store_faults : MemoryStore → ℕ
-store_faults store = store.faults
-
--- a new store has these failing calls, and was not called yet
-abbrev pub IsNewStore : MemoryStore → List ℕ → Type 0
-IsNewStore store fails = store.calls ≡ no_calls fails
-
--- one call on
-abbrev pub StoreWasCalled : MemoryStore → MemoryStore → Type 0
-StoreWasCalled before after = after.calls ≡ one_more before.calls
-
--- its next call is to fail
-abbrev pub StoreIsToFail : MemoryStore → Type 0
-StoreIsToFail store = IsToFail store.calls

@@ -42,7 +42,7 @@ impl Drop for MemorySink {
 }
 
 impl MemorySink {
-    ghost use Rattle.flux_outside.specs.Memory.{sink_bytes, sink_faults, IsNewSink};
+    ghost use Rattle.flux_outside.specs.InMemory.{sink_bytes, sink_faults, IsNewSink};
 
     /// A sink that takes at most `piece` bytes a call and `room` bytes in all, for which it reserves memory.
     /// The calls whose numbers are in `fails`, counted from 1, fail; so does a call that would pass the room.
@@ -79,7 +79,7 @@ impl Sink for MemorySink {
     ghost use Rattle.std.specs.Prelude.{Some, IfOk, IsOk, length};
     ghost use Rattle.flux_outside.specs.Causes.{HasCause};
     ghost use Rattle.flux_outside.specs.Sinks.{TakesSome, gained};
-    ghost use Rattle.flux_outside.specs.Memory.{sink_bytes, sink_faults, piece_of, SinkTakes, SinkWasCalled};
+    ghost use Rattle.flux_outside.specs.InMemory.{sink_bytes, sink_faults, piece_of, SinkTakes, SinkWasCalled};
 
     ghost written = { λ sink. Some (sink_bytes sink) };
 
@@ -127,7 +127,8 @@ impl Drop for MemoryStore {
 
 impl MemoryStore {
     ghost use Rattle.flux_outside.specs.Stores.{file_of};
-    ghost use Rattle.flux_outside.specs.Memory.{first_of, store_files, store_asked, store_faults, IsNewStore};
+    ghost use Rattle.flux_outside.specs.Memory.{first_of};
+    ghost use Rattle.flux_outside.specs.InMemory.{store_files, store_asked, store_faults, IsNewStore};
 
     /// A store of these files. The calls whose numbers are in `fails`, counted from 1, fail.
     pub fn new(files: List<FileBytes>, fails: List<u64>) -> MemoryStore
@@ -172,7 +173,7 @@ impl Store for MemoryStore {
     ghost use Rattle.std.specs.Prelude.{Some, IfOk, IsErrOf};
     ghost use Rattle.flux_outside.specs.Causes.{HasStoreCause};
     ghost use Rattle.flux_outside.specs.Stores.{FitsIn, file_of, AskedFor};
-    ghost use Rattle.flux_outside.specs.Memory.{store_files, store_asked, store_faults, StoreIsToFail, StoreWasCalled};
+    ghost use Rattle.flux_outside.specs.InMemory.{store_files, store_asked, store_faults, StoreIsToFail, StoreWasCalled};
 
     ghost files = { λ store. Some (store_files store) };
 

@@ -10,14 +10,12 @@ use Rattle.flux_library.specs.Libraries.{GivesText, IsLawfulSig, IsLawfulNode, I
 use Rattle.flux_model.specs.declared.programs.Program.{Program}
 use Rattle.flux_model.specs.declared.programs.SourceLine.{SourceLine}
 use Rattle.flux_model.specs.declared.programs.SourceNo.{SourceNo}
-use Rattle.flux_model.specs.declared.programs.Node.{Node}
 use Rattle.flux_model.specs.declared.programs.Body.{Body}
-use Rattle.flux_model.specs.declared.programs.Body.TheVariants.{Concrete, Abstract}
+use Rattle.flux_model.specs.declared.programs.Body.TheVariants.{Concrete}
 use Rattle.flux_model.specs.declared.items.Item.{Item}
 use Rattle.flux_model.specs.Items.{AreValues, IsItemOf, IsItemFor}
 use Rattle.flux_model.specs.Kinds.{NodeKinds}
 use Rattle.flux_model.specs.Soundness.{IsLike, IsBodyLike, IsSound}
-use Rattle.flow_state.specs.Calls.{body_name, node_name}
 use Rattle.flux_doors.specs.declared.framing.Framing.{Framing}
 use Rattle.flux_doors.specs.declared.framing.Framing.TheVariants.{Head, Line}
 use Rattle.flux_batches.specs.Links.{IsLinkItem}
@@ -27,15 +25,9 @@ gives_text : (framing : Framing) (outs : List Kind) → GivesText (role_of frami
 gives_text Head outs gives = gives
 gives_text Line outs gives = gives
 
-body_like : (meaning : LibraryMeaning) (own : NodeKinds) (body : Body) (name : List ℕ) → IsBodyLike meaning own body → body_name body ≡ Some name → IsLike (meaning.node name) own
-body_like meaning own (Concrete other) name like named =
-    let same : other ≡ name = cc in
-    let P : List ℕ → Type 0 = λ n. IsLike (meaning.node n) own in subst P same like
-body_like meaning own (Abstract cases) name like named = absurd cc
-
-node_like : (meaning : LibraryMeaning) (own : NodeKinds) (found : Option Node) (name : List ℕ) → ((node : Node) → found ≡ Some node → IsBodyLike meaning own node.body) → node_name found ≡ Some name → IsLike (meaning.node name) own
-node_like meaning own None name like named = absurd cc
-node_like meaning own (Some node) name like named = body_like meaning own node.body name (like node refl) named
+body_like : (meaning : LibraryMeaning) (own : NodeKinds) (body : Body) (name : List ℕ) → IsBodyLike meaning own body → body ≡ Concrete name → IsLike (meaning.node name) own
+body_like meaning own body name like is =
+    let P : Body → Type 0 = λ b. IsBodyLike meaning own b in subst P is like
 
 -- a number and a text
 pub source_outs : (meaning : LibraryMeaning) (p : Program) (kinds : ℕ → NodeKinds) (framing : Framing) → IsLawful meaning → IsSound meaning p kinds → (s : IsServed meaning p framing)
@@ -46,7 +38,8 @@ source_outs meaning p kinds framing lawful sound s =
     let sig = s.sig in
     let are = sound.kinds_are in
     let L : Option Sig → Type 0 = λ found. IsLike found own in
-    let like = subst L s.known (node_like meaning own (slice_get p.nodes line.node.0) s.name (are.like line.node.0) s.named) in
+    let named = s.named in let node = named.node in
+    let like = subst L s.known (body_like meaning own node.body s.name (are.like line.node.0 node named.at) named.concrete) in
     let N : Option Sig → Type 0 = λ found. IsLawfulNode found (meaning.call s.name) in
     let law : IsLawfulSig sig (meaning.call s.name) = subst N s.known (lawful.nodes s.name) in
     let G : Role → Type 0 = λ role. GivesText role sig.outs in

@@ -1,8 +1,7 @@
 //! How the links of a program are read, by the role of its one source.
 
-ghost use Rattle.std.specs.Prelude.{◌≡◌, [], ◌∷◌, Some, None, IfOk, IfSome, IfNone, MatchOption};
-ghost use Rattle.flow_state.specs.Calls.{library_name};
-ghost use Rattle.flux_sources.specs.Sources.{role_of, IsServed, IsNotServed};
+ghost use Rattle.std.specs.Prelude.{◌≡◌, ℕ, List, [], ◌∷◌, IfOk, IfSome, IfNone, MatchOption};
+ghost use Rattle.flux_sources.specs.Sources.{role_of, IsLibraryNode, IsServed, IsNotServed};
 
 use flux_doors::Framing;
 use flux_library::{Library, Role};
@@ -23,8 +22,8 @@ fn one_source(program: &Program) -> Option<&SourceLine>
 
 /// The library node of a source.
 fn library_node<'a>(program: &'a Program, line: &SourceLine) -> Option<&'a [u8]>
-    ensures { MatchOption result (library_name program.now line.now.node ≡ None)
-        (λ name. library_name program.now line.now.node ≡ Some name.now) }
+    ensures { MatchOption result ((name : List ℕ) → IsLibraryNode program.now line.now name → ⊥)
+        (λ name. IsLibraryNode program.now line.now name.now) }
 {
     let node = program.nodes.as_slice().get(line.node.0 as usize)?;
     match &node.body {

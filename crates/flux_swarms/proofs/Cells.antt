@@ -53,7 +53,8 @@ use Rattle.nodes_tracker.specs.Replies.{joined}
 use Rattle.nodes_tracker.specs.Calls.{swarm_name, swarm_in, put, swarm_put, completions_in, completions_name, one_more, moved, asking, stops, ask_given, on_ask, swarm_call, moved_call, answer_of}
 use Rattle.nodes_tracker.specs.laws.Asks.{IsAsk}
 use Rattle.flux_swarms.specs.Asked.{is_swarm_body, is_swarm_node, is_good, asked_by, asked_in, of_hash, asks_of}
-use Rattle.flux_swarms.specs.Tracked.{HasTrackersNodes, UsesSwarms, IsTrackersAlone, HasClass, IsTrackers, HasLine, AreCallsRight, key_of_class, swarm_after, AreInTheCell, PeersAreInTheCell}
+use Rattle.flux_swarms.specs.Tracked.{HasTrackersNodes, UsesSwarms, IsTrackersAlone, HasClass, IsTrackers, key_of_class, swarm_after}
+use Rattle.flux_swarms.specs.InTheCell.{HasLine, AreCallsRight, AreInTheCell, PeersAreInTheCell}
 use Rattle.flux_swarms.specs.steps.Moves.{moved_by, moved_on, swarm_by}
 use Rattle.flux_swarms.proofs.Moves.{peers_once}
 use Rattle.flux_swarms.proofs.Swarmed.{changed_by, Has, answered, call_leads}

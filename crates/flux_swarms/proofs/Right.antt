@@ -15,7 +15,7 @@ use Rattle.flux_laws.proofs.Members.{all-get, all-behind, get-within}
 use Rattle.flux_laws.proofs.Fronts.{fronts_are_legal}
 use Rattle.flux_laws.proofs.LastMoves.{entries_are_moves}
 use Rattle.flux_laws.proofs.FittingCalls.{next_calls_fit}
-use Rattle.flux_swarms.specs.Tracked.{HasLine, AreCallsFit, LegalCallsAreRight}
+use Rattle.flux_swarms.specs.InTheCell.{HasLine, AreCallsFit, LegalCallsAreRight}
 
 module _ (setup : Setup) (kinds : ℕ → NodeKinds)
     (items : AllByRecursion (IsItemFor setup.program kinds) setup.items) where

@@ -7,7 +7,7 @@ use Rattle.flow_model.specs.declared.journals.Journal.{Journal}
 use Rattle.flux_journal.specs.Journals.{ReadsAs}
 use Rattle.nodes_tracker.specs.declared.peers.Peer.{Peer}
 use Rattle.flux_swarms.specs.Peers.{ArePeersOf}
-use Rattle.flux_swarms.specs.Tracked.{AreInTheCell}
+use Rattle.flux_swarms.specs.InTheCell.{AreInTheCell}
 use Rattle.flux_swarms.specs.Printed.{printed_swarm}
 
 -- The text is the printed swarm of a hash after a journal:

@@ -6,7 +6,7 @@ ghost use Rattle.nodes_tracker.specs.Swarms.{without};
 ghost use Rattle.nodes_tracker.specs.Calls.{moved};
 ghost use Rattle.flux_swarms.specs.Asked.{is_swarm_body, is_swarm_node, is_good, asked_in, of_hash};
 ghost use Rattle.flux_swarms.specs.Peers.{ArePeersOf};
-ghost use Rattle.flux_swarms.specs.Tracked.{AreInTheCell};
+ghost use Rattle.flux_swarms.specs.InTheCell.{AreInTheCell};
 ghost use Rattle.flux_swarms.specs.steps.Moves.{moved_on, swarm_by};
 
 use flow_model::{Entry, Event, Journal};

@@ -1,6 +1,6 @@
 //! What a journal tells of peers is what the cell has. Each law is the contract of a function that does nothing.
 
-ghost use Rattle.flux_swarms.specs.Tracked.{PeersAreInTheCell, LegalCallsAreRight};
+ghost use Rattle.flux_swarms.specs.InTheCell.{PeersAreInTheCell, LegalCallsAreRight};
 
 /// Where only `Tracker`'s nodes use `swarms` and each `Swarm` node has it program-wide, the peers of a hash after a
 /// journal whose calls are right are the swarm in the cell.

@@ -7,7 +7,8 @@ use Rattle.flux_hoist.specs.Sets.{held_by}
 use Rattle.flux_outside.specs.declared.stores.File.TheVariants.{Found}
 use Rattle.flux_items.specs.Items.{AreItemsOf}
 use Rattle.flux_syntax.specs.declared.declarations.Decl.{Decl}
-use Rattle.flux_check.specs.Judgement.{IsTextFault, IsChecked}
+use Rattle.flux_check.specs.Judgement.{IsTextFault}
+use Rattle.flux_check.specs.Checked.{IsChecked}
 use Rattle.flux_commands.specs.declared.files.TheConstants.{PROGRAM_FILE_LIMIT, ITEMS_FILE_LIMIT}
 use Rattle.flux_commands.specs.declared.loaded.Loaded.{Loaded}
 use Rattle.flux_commands.specs.declared.refusals.Refusal.{Refusal}

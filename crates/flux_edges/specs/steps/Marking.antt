@@ -11,7 +11,8 @@ use Rattle.flux_model.specs.declared.signatures.NodeSig.{NodeSig}
 use Rattle.flux_edges.specs.declared.handlers.Arm.{Arm}
 use Rattle.flux_edges.specs.Places.{sooner_of}
 use Rattle.flux_edges.specs.Handlers.{is_like}
-use Rattle.flux_edges.specs.Sessions.{needs_by, is_served}
+use Rattle.flux_edges.specs.Sessions.{needs_by}
+use Rattle.flux_edges.specs.Unserved.{is_served}
 
 -- the least place, arm after arm
 abbrev pub arms_along : (ℕ → NodeSig) → Option ℕ → List Arm → List ℕ → Option ℕ

@@ -1,5 +1,6 @@
 use Rattle.flux_hoist.specs.declared.checked.Checked.{Checked}
-use Rattle.flux_check.specs.Judgement.{IsTextFault, IsChecked}
+use Rattle.flux_check.specs.Judgement.{IsTextFault}
+use Rattle.flux_check.specs.Checked.{IsChecked}
 use Rattle.flux_commands.specs.steps.Refusals.{IsFaultLine, IsCheckRefused}
 use Rattle.flux_commands.specs.steps.Loading.{IsCheckedFile, IsUnchecked}
 use Rattle.flux_commands.proofs.Steps.{if_ok, if_err}

@@ -5,7 +5,7 @@ use Rattle.flux_faults.specs.declared.faults.CheckFault.{CheckFault}
 use Rattle.flux_model.specs.Soundness.{HasSession}
 use Rattle.flux_syntax.specs.Least.{fault_or, IsLeastFault}
 use Rattle.flux_edges.specs.Places.{least_of}
-use Rattle.flux_edges.specs.Sessions.{unserved_sources}
+use Rattle.flux_edges.specs.Unserved.{unserved_sources}
 use Rattle.flux_edges.specs.steps.Marking.{mark_at, lines_along}
 use Rattle.flux_edges.proofs.Along.{lines_least, all_served}
 use Rattle.flux_edges.proofs.sessions.session_edges.Goals as goal

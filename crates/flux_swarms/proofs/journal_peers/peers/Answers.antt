@@ -2,7 +2,7 @@ use Rattle.std.proofs.Common.{◌≡◌, ◌∙◌, sym, ap, subst, List}
 use Rattle.std.proofs.lemmas.Result.{IfOk-weaker}
 use Rattle.flow_model.specs.declared.journals.Entry.{Entry}
 use Rattle.flux_swarms.specs.Peers.{ArePeersOf}
-use Rattle.flux_swarms.specs.Tracked.{AreInTheCell}
+use Rattle.flux_swarms.specs.InTheCell.{AreInTheCell}
 use Rattle.flux_swarms.specs.steps.Moves.{swarm_by}
 use Rattle.flux_swarms.proofs.Moves.{moves_tell}
 use Rattle.flux_swarms.proofs.Cells.{are_in_the_cell}

@@ -4,7 +4,7 @@ use Rattle.flow_model.specs.declared.journals.Journal.{Journal}
 use Rattle.flux_journal.proofs.Journaled.{journal_once}
 use Rattle.nodes_tracker.specs.declared.peers.Peer.{Peer}
 use Rattle.flux_swarms.specs.Peers.{ArePeersOf}
-use Rattle.flux_swarms.specs.Tracked.{AreInTheCell}
+use Rattle.flux_swarms.specs.InTheCell.{AreInTheCell}
 use Rattle.flux_swarms.specs.Printed.{printed_swarm}
 use Rattle.flux_swarms.specs.Swarms.{IsSwarmText}
 use Rattle.flux_swarms.proofs.swarms.print_swarm.Goals as goal
