@@ -4,8 +4,8 @@ use Rattle.std.specs.Option.{option_map}
 use Rattle.std.proofs.lemmas.List.{append-nil}
 use Rattle.flow_model.specs.declared.journals.Entry.{Entry}
 use Rattle.flux_batches.specs.declared.reading.ReadLink.{ReadLink}
-use Rattle.flux_batches.specs.Links.{Seen}
-use Rattle.flux_batches.specs.Replies.{AreAnswered, flow_behind, TakesBack, AreAllAnswered}
+use Rattle.flux_doors.specs.Seen.{SeenLink, TakesBack}
+use Rattle.flux_batches.specs.Replies.{AreAnswered, flow_behind, AreAllAnswered}
 use Rattle.flux_batches.specs.steps.Answering.{flow_at, WasAnswered}
 
 pub back_none : {L : Type 0} → (before : Option (List L)) → TakesBack before before []
@@ -39,7 +39,7 @@ given_all {L} before after links g = let P : List L → Type 0 = TakesBack befor
 -- ---- links that are answered
 
 -- all were answered, each at its place by its flow
-answered-each : {K : Type 0} → (see : K → Seen) (entries : List Entry) (flow : ℕ) (before after : List (ReadLink K))
+answered-each : {K : Type 0} → (see : K → SeenLink) (entries : List Entry) (flow : ℕ) (before after : List (ReadLink K))
     → length after ≡ length before
     → ((place : ℕ) (none : ReadLink K) → place < length before
     → WasAnswered see entries (flow_at flow before place) (slice_index_or before place none) (slice_index_or after place none))
@@ -56,7 +56,7 @@ answered-each see entries flow (request ∷ before) (back ∷ after) same each =
     )
 
 -- and given back
-pub answered-all : {K : Type 0} → (see : K → Seen) (entries : List Entry) (flows : List ℕ) (requests before after listed : List (ReadLink K))
+pub answered-all : {K : Type 0} → (see : K → SeenLink) (entries : List Entry) (flows : List ℕ) (requests before after listed : List (ReadLink K))
     (taken later : Option (List K)) → before ≡ requests → listed ≡ after → length after ≡ length before
     → ((place none : ℕ) → place < length before → slice_index_or flows place none ≡ flow_at 0 before place)
     → ((place : ℕ) (none : ReadLink K) → place < length before

@@ -14,8 +14,8 @@ pub record AreFirst {L : Type 0} (before after : List (List L)) (links : List L)
 abbrev pub AreAll : {L : Type 0} → List (List L) → List L → Type 0
 AreAll {L} after links = ((others : List (List L)) × (after ≡ [] ∷ others)) ⊎ (length links ≡ 64)
 
--- where links are reported: the first ones of the next batch, and all that it may have unless a later
--- accept failed
+-- where links are reported: the first ones of the next batch, and all that it may have unless a
+-- later accept failed
 abbrev pub AreGathered : {L : Type 0} → Option (List (List L)) → Option (List (List L)) → ℕ → ℕ
     → List L → Type 0
 AreGathered None after late_before late_after links = Unit {0}

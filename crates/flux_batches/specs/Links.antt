@@ -1,5 +1,6 @@
 -- Links that were read, and what they sent.
-use Rattle.std.specs.Prelude.{◌≡◌, ℕ, ◌+◌, ◌<◌, pos, false, List, [], ◌∷◌, ◌++◌, length, Option, IfSome}
+use Rattle.std.specs.Prelude.{◌≡◌, ℕ, ◌+◌, ◌<◌, pos, false, List, [], ◌∷◌, ◌++◌, length, Option}
+use Rattle.std.specs.Prelude.{IfSome}
 use Rattle.std.specs.Io.KnownBytes.{Consumes}
 use Rattle.flux_values.specs.declared.values.Kind.TheVariants as kinds
 use Rattle.flux_values.specs.declared.values.Value.TheVariants as values
@@ -7,45 +8,12 @@ use Rattle.flux_model.specs.Items.{AreValues}
 use Rattle.flux_model.specs.declared.items.Item.{Item}
 use Rattle.flux_outside.specs.Causes.{Rose}
 use Rattle.flux_outside.specs.Readers.{TakesAtMost}
-use Rattle.flux_outside.specs.Streams.{Stream}
 use Rattle.flux_doors.specs.declared.framing.Framing.{Framing}
 use Rattle.flux_batches.specs.declared.reading.Sent.{Sent}
 use Rattle.flux_batches.specs.declared.reading.Sent.TheVariants.{Text, Failed, Memory}
 use Rattle.flux_batches.specs.declared.reading.ReadLink.{ReadLink}
 use Rattle.flux_doors.specs.Texts.{limit_of, ends, has_front, text_of}
-
--- what is seen of a link: all that its client sends, the bytes left to read, those that were left
--- before its last read, and all bytes written, where they are reported; and its count of faults
-pub record Seen : Type 0 where
-  pub had : Option (List ℕ)
-  pub left : Option (List ℕ)
-  pub left_before : Option (List ℕ)
-  pub written : Option (List ℕ)
-  pub faults : ℕ
-
--- the same by what a link tells
-abbrev pub seen_by : {K : Type 0} → (K → Option (List ℕ)) → (K → Option (List ℕ))
-    → (K → Option (List ℕ)) → (K → Option (List ℕ)) → (K → ℕ) → K → Seen
-seen_by had left left_before written faults link = record {
-  had = had link;
-  left = left link;
-  left_before = left_before link;
-  written = written link;
-  faults = faults link;
-}
-
--- one link, before and after: its client sends the same
-abbrev pub IsSame : Seen → Seen → Type 0
-IsSame before after = after.had ≡ before.had
-
--- the same, and no read of it came between
-abbrev pub IsUnread : Seen → Seen → Type 0
-IsUnread before after =
-    IsSame before after × (after.left ≡ before.left) × (after.left_before ≡ before.left_before)
-
--- the stream that its client is written
-abbrev pub stream_of : Seen → Stream
-stream_of link = record { written = link.written; faults = link.faults }
+use Rattle.flux_doors.specs.Seen.{SeenLink, IsSame}
 
 -- a link's text hadn't ended before its last read: fewer of its bytes than a text may have were
 -- gone, and no front of these ended it
@@ -55,27 +23,29 @@ pub record HadNotEnded (framing : Framing) (left left_before : Option (List ℕ)
   pub few : length gone < limit_of framing
   pub unended : has_front (ends framing) [] gone ≡ false
 
--- no more of a link was read than its text needs: at most as many of its bytes as a text may have are
--- gone, and its text hadn't ended before its last read
-pub record IsReadNoFurther (framing : Framing) (before after : Seen) : Type 0 where
+-- no more of a link was read than its text needs: at most as many of its bytes as a text may have
+-- are gone, and its text hadn't ended before its last read
+pub record IsReadNoFurther (framing : Framing) (before after : SeenLink) : Type 0 where
   pub taken : TakesAtMost (limit_of framing) before.left after.left
   pub unended : HadNotEnded framing before.left after.left_before
 
 -- a link was read, and no more of it than its text needs: its text is that of what it had; or its
 -- count rose; or memory was short, and its count is as it was; nothing was written
-abbrev pub IsSent : Framing → Seen → Seen → Sent → Type 0
+abbrev pub IsSent : Framing → SeenLink → SeenLink → Sent → Type 0
 IsSent framing before after (Text text) =
-    IfSome before.left (λ left. text ≡ text_of framing left) × (after.faults ≡ before.faults)
-    × (after.written ≡ before.written) × IsReadNoFurther framing before after
+    IfSome before.left (λ left. text ≡ text_of framing left)
+    × (after.stream.faults ≡ before.stream.faults) × (after.stream.written ≡ before.stream.written)
+    × IsReadNoFurther framing before after
 IsSent framing before after Failed =
-    Rose before.faults after.faults × (after.written ≡ before.written)
+    Rose before.stream.faults after.stream.faults × (after.stream.written ≡ before.stream.written)
     × IsReadNoFurther framing before after
 IsSent framing before after Memory =
-    (after.faults ≡ before.faults) × (after.written ≡ before.written)
+    (after.stream.faults ≡ before.stream.faults) × (after.stream.written ≡ before.stream.written)
     × IsReadNoFurther framing before after
 
 -- links were read in order, each at its place, and these are left to read
-abbrev pub WereRead : {K : Type 0} → (K → Seen) → Framing → List K → List (ReadLink K) → List K → Type 0
+abbrev pub WereRead : {K : Type 0} → (K → SeenLink) → Framing → List K → List (ReadLink K) → List K
+    → Type 0
 WereRead see framing links [] left = links ≡ left
 WereRead see framing [] (request ∷ rest) left = ⊥
 WereRead see framing (link ∷ links) (request ∷ rest) left =

@@ -1,6 +1,5 @@
 -- Replies, and links that were answered.
 use Rattle.std.specs.Prelude.{◌≡◌, ℕ, ◌+◌, nat_eq, if◌then◌else◌, List, [], ◌∷◌, ◌++◌, Option}
-use Rattle.std.specs.Option.{option_map}
 use Rattle.flow_model.specs.declared.journals.Event.{Event}
 use Rattle.flow_model.specs.declared.journals.Event.TheVariants.{Take, Wait, Enter, Choose, Call}
 use Rattle.flow_model.specs.declared.journals.Event.TheVariants.{Exit, Drop, End}
@@ -9,7 +8,7 @@ use Rattle.flux_outside.specs.Streams.{WroteOrBroke}
 use Rattle.flux_batches.specs.declared.reading.Sent.{Sent}
 use Rattle.flux_batches.specs.declared.reading.Sent.TheVariants.{Text, Failed, Memory}
 use Rattle.flux_batches.specs.declared.reading.ReadLink.{ReadLink}
-use Rattle.flux_batches.specs.Links.{Seen, IsUnread, stream_of}
+use Rattle.flux_doors.specs.Seen.{SeenLink, IsUnread, TakesBack}
 
 -- what an event emits: a call what it answers, and no other anything
 abbrev pub emitted : Event → List ℕ
@@ -30,11 +29,11 @@ reply_of flow (entry ∷ entries) =
 
 -- a link with an item is written its flow's reply, or a front of it where its count rose; every
 -- other is written nothing
-abbrev pub IsAnswered : List Entry → ℕ → Seen → Seen → Sent → Type 0
+abbrev pub IsAnswered : List Entry → ℕ → SeenLink → SeenLink → Sent → Type 0
 IsAnswered entries flow before after (Text text) =
-    WroteOrBroke (stream_of before) (stream_of after) (reply_of flow entries)
-IsAnswered entries flow before after Failed = stream_of after ≡ stream_of before
-IsAnswered entries flow before after Memory = stream_of after ≡ stream_of before
+    WroteOrBroke before.stream after.stream (reply_of flow entries)
+IsAnswered entries flow before after Failed = after.stream ≡ before.stream
+IsAnswered entries flow before after Memory = after.stream ≡ before.stream
 
 -- the flow of the next link with an item
 abbrev pub flow_behind : ℕ → Sent → ℕ
@@ -44,7 +43,7 @@ flow_behind flow Memory = flow
 
 -- links were answered in order, from a flow on, and given back as these, each at its place, with no
 -- more of them read; those are left
-abbrev pub AreAnswered : {K : Type 0} → (K → Seen) → List Entry → ℕ → List (ReadLink K) → List K
+abbrev pub AreAnswered : {K : Type 0} → (K → SeenLink) → List Entry → ℕ → List (ReadLink K) → List K
     → List (ReadLink K) → Type 0
 AreAnswered see entries flow requests [] left = requests ≡ left
 AreAnswered see entries flow [] (back ∷ backs) left = ⊥
@@ -52,13 +51,9 @@ AreAnswered see entries flow (request ∷ rest) (back ∷ backs) left =
     IsUnread (see request.link) (see back) × IsAnswered entries flow (see request.link) (see back) request.sent
     × AreAnswered see entries (flow_behind flow request.sent) rest backs left
 
--- a door has taken back these links beside those before, where it tells them
-abbrev pub TakesBack : {L : Type 0} → Option (List L) → Option (List L) → List L → Type 0
-TakesBack before after links = after ≡ option_map (λ earlier. earlier ++ links) before
-
 -- all links were answered, and given back to the door
-pub record AreAllAnswered {L : Type 0} (see : L → Seen) (entries : List Entry) (requests : List (ReadLink L))
-    (before after : Option (List L)) : Type 0 where
+pub record AreAllAnswered {L : Type 0} (see : L → SeenLink) (entries : List Entry)
+    (requests : List (ReadLink L)) (before after : Option (List L)) : Type 0 where
   pub backs : List L
   pub taken : TakesBack before after backs
   pub answered : AreAnswered see entries 0 requests backs []

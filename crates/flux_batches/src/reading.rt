@@ -5,7 +5,8 @@ ghost use Rattle.flux_outside.specs.Causes.{HasCause};
 ghost use Rattle.flux_outside.specs.Readers.{TakesAtMost};
 ghost use Rattle.flux_doors.specs.Texts.{ends, least_front, trimmed, limit_of, text_of};
 ghost use Rattle.std.specs.VecDeque.{deque_len};
-ghost use Rattle.flux_batches.specs.Links.{seen_by, HadNotEnded, IsSent, WereRead};
+ghost use Rattle.flux_doors.specs.Seen.{IsSame};
+ghost use Rattle.flux_batches.specs.Links.{HadNotEnded, IsSent, WereRead};
 ghost use Rattle.flux_batches.specs.steps.Reading.{to_read, WasRead};
 
 use flux_doors::{Framing, Link};
@@ -61,13 +62,13 @@ pub struct ReadLink<K> {
 fn fill<K: Link>(link: &mut K, framing: Framing, buffer: &mut [u8]) -> Result<usize, Failed>
     requires { length buffer.old ≡ limit_of framing }
     ensures bound { IfOk result (λ count. count ≤ length buffer.new) }
-    ensures text { IfSome (K.left link.old) (λ left. IfOk result (λ count.
+    ensures text { IfSome (K.seen link.old).left (λ left. IfOk result (λ count.
         trimmed framing (least_front (ends framing) (take count buffer.new)) ≡ text_of framing left)) }
-    ensures taken { TakesAtMost (limit_of framing) (K.left link.old) (K.left link.new) }
-    ensures unended { HadNotEnded framing (K.left link.old) (K.left_before link.new) }
-    ensures had { K.had link.new ≡ K.had link.old }
-    ensures written { K.written link.new ≡ K.written link.old }
-    ensures cause { HasCause (K.faults link.old) (K.faults link.new) result }
+    ensures taken { TakesAtMost (limit_of framing) (K.seen link.old).left (K.seen link.new).left }
+    ensures unended { HadNotEnded framing (K.seen link.old).left (K.seen link.new).left_before }
+    ensures same { IsSame (K.seen link.old) (K.seen link.new) }
+    ensures written { (K.seen link.new).stream.written ≡ (K.seen link.old).stream.written }
+    ensures cause { HasCause (K.seen link.old).stream.faults (K.seen link.new).stream.faults result }
 {
     let mut filled = 0;
     'reads: while filled < buffer.len() {
@@ -85,9 +86,8 @@ fn fill<K: Link>(link: &mut K, framing: Framing, buffer: &mut [u8]) -> Result<us
 
 /// Reads a link.
 fn read_link<K: Link>(alloc: Global, link: &mut K, framing: Framing) -> Sent
-    ensures same { K.had link.new ≡ K.had link.old }
-    ensures sent { IsSent framing (seen_by K.had K.left K.left_before K.written K.faults link.old)
-        (seen_by K.had K.left K.left_before K.written K.faults link.new) result }
+    ensures same { IsSame (K.seen link.old) (K.seen link.new) }
+    ensures sent { IsSent framing (K.seen link.old) (K.seen link.new) result }
 {
     let mut buffer = [0u8; BUFFER];
     let window = &mut buffer[..framing.limit()];
@@ -102,7 +102,7 @@ fn read_link<K: Link>(alloc: Global, link: &mut K, framing: Framing) -> Sent
 
 /// Puts a link's text beside it.
 fn read_one<K: Link>(alloc: Global, request: &mut ReadLink<K>, framing: Framing)
-    ensures { WasRead (seen_by K.had K.left K.left_before K.written K.faults) framing request.old request.new }
+    ensures { WasRead K.seen framing request.old request.new }
 {
     request.sent = read_link(alloc, &mut request.link, framing);
 }
@@ -126,7 +126,7 @@ fn unread<K: Drop>(alloc: Global, links: VecDeque<K>) -> Result<VecDeque<ReadLin
     Ok(request)
 }
 
-/// Reads links side by side, by several threads.
+/// Reads links, each at its place.
 fn read_each<R: Threads + Sync, K: Link + Send>(
     rt: &R,
     alloc: Global,
@@ -134,8 +134,7 @@ fn read_each<R: Threads + Sync, K: Link + Send>(
     framing: Framing,
 )
     ensures { (i : ℕ) (none : ReadLink K) → i < length request.old
-        → WasRead (seen_by K.had K.left K.left_before K.written K.faults) framing
-        (slice_index_or request.old i none) (slice_index_or request.new i none) }
+        → WasRead K.seen framing (slice_index_or request.old i none) (slice_index_or request.new i none) }
 {
     let threads = threads_for(request.len());
     thread::for_each_mut(
@@ -146,15 +145,14 @@ fn read_each<R: Threads + Sync, K: Link + Send>(
     );
 }
 
-/// Reads all links, each at its place, by several threads. Where there is no memory for them, they come back unread.
+/// Reads all links, each at its place. Where there is no memory for them, they come back unread.
 pub fn read_links<R: Threads + Sync, K: Link + Drop + Send>(
     rt: &R,
     alloc: Global,
     links: VecDeque<K>,
     framing: Framing,
 ) -> Result<VecDeque<ReadLink<K>>, VecDeque<K>>
-    ensures request { IfOk result (λ request. WereRead (seen_by K.had K.left K.left_before K.written K.faults)
-        framing links.items request.items []) }
+    ensures request { IfOk result (λ request. WereRead K.seen framing links.items request.items []) }
     ensures count { IfOk result (λ request. deque_len request ≡ deque_len links) }
     ensures unread { IfErr result (λ back. (back.items ≡ links.items) × (deque_len back ≡ deque_len links)) }
 {

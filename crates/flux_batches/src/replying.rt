@@ -5,7 +5,7 @@ ghost use Rattle.flux_batches.specs.steps.Answering.{WasAnswered};
 ghost use Rattle.flux_batches.specs.steps.Spans.{AreSpans};
 ghost use Rattle.std.specs.VecDeque.{deque_len};
 ghost use Rattle.flux_outside.specs.Streams.{Wrote, Broke, WroteOrBroke};
-ghost use Rattle.flux_batches.specs.Links.{seen_by, IsUnread};
+ghost use Rattle.flux_doors.specs.Seen.{IsUnread, KeepsElse};
 ghost use Rattle.flux_batches.specs.Replies.{reply_of, AreAllAnswered};
 
 use crate::gathering::{LINK_LIMIT, give_back_read};
@@ -25,14 +25,9 @@ use std::thread::Threads;
 
 /// Writes all of the bytes to a link, in as many calls as it needs.
 pub fn send<K: Link>(link: &mut K, bytes: &[u8]) -> Result<(), Failed>
-    ensures same { IsUnread (seen_by K.had K.left K.left_before K.written K.faults link.old)
-        (seen_by K.had K.left K.left_before K.written K.faults link.new) }
-    ensures wrote { OnOk result (Wrote
-        (record { written = K.written link.old; faults = K.faults link.old })
-        (record { written = K.written link.new; faults = K.faults link.new }) bytes.now) }
-    ensures broke { OnErr result (Broke
-        (record { written = K.written link.old; faults = K.faults link.old })
-        (record { written = K.written link.new; faults = K.faults link.new }) bytes.now) }
+    ensures same { IsUnread (K.seen link.old) (K.seen link.new) }
+    ensures wrote { OnOk result (Wrote (K.seen link.old).stream (K.seen link.new).stream bytes.now) }
+    ensures broke { OnErr result (Broke (K.seen link.old).stream (K.seen link.new).stream bytes.now) }
 {
     let mut rest = bytes;
     while !rest.is_empty() {
@@ -44,12 +39,8 @@ pub fn send<K: Link>(link: &mut K, bytes: &[u8]) -> Result<(), Failed>
 
 /// Writes a flow's reply to its link: what its calls emit, in order, until that fails.
 pub fn reply<K: Link>(link: &mut K, entries: &[Entry], flow: FlowNo)
-    ensures same { IsUnread (seen_by K.had K.left K.left_before K.written K.faults link.old)
-        (seen_by K.had K.left K.left_before K.written K.faults link.new) }
-    ensures wrote { WroteOrBroke
-        (record { written = K.written link.old; faults = K.faults link.old })
-        (record { written = K.written link.new; faults = K.faults link.new })
-        (reply_of flow.0 entries.now) }
+    ensures same { IsUnread (K.seen link.old) (K.seen link.new) }
+    ensures wrote { WroteOrBroke (K.seen link.old).stream (K.seen link.new).stream (reply_of flow.0 entries.now) }
 {
     for entry in entries {
         match send(link, emission_of(entry, flow)) {
@@ -74,7 +65,7 @@ pub fn copy_of_reply(alloc: Global, entries: &[Entry], flow: FlowNo) -> Result<V
 fn answer<K: Link>(request: &mut ReadLink<K>, entries: &[Entry], spans: &[Span], flow: u32)
     requires few { flow < length spans.now }
     requires spans { AreSpans entries.now spans.now }
-    ensures { WasAnswered (seen_by K.had K.left K.left_before K.written K.faults) entries.now flow request.old request.new }
+    ensures { WasAnswered K.seen entries.now flow request.old request.new }
 {
     match &request.sent {
         Sent::Text(_) => {
@@ -85,7 +76,7 @@ fn answer<K: Link>(request: &mut ReadLink<K>, entries: &[Entry], spans: &[Span],
     }
 }
 
-/// Answers links side by side, by several threads.
+/// Answers links, each at its place.
 fn answer_each<R: Threads + Sync, K: Link + Send>(
     rt: &R,
     links: &mut [ReadLink<K>],
@@ -97,7 +88,7 @@ fn answer_each<R: Threads + Sync, K: Link + Send>(
     requires all { length links.old ≤ length flows.now }
     requires spans { AreSpans entries.now spans.now }
     ensures { (place : ℕ) (none : ReadLink K) → place < length links.old
-        → WasAnswered (seen_by K.had K.left K.left_before K.written K.faults) entries.now (slice_index_or flows.now place 0)
+        → WasAnswered K.seen entries.now (slice_index_or flows.now place 0)
         (slice_index_or links.old place none) (slice_index_or links.new place none) }
 {
     let threads = threads_for(links.len());
@@ -123,11 +114,9 @@ pub fn answer_links<R: Threads + Sync, D: Door>(
     requires out { D.out door.old ≡ deque_len links }
     requires few { deque_len links ≤ LINK_LIMIT }
     ensures out { D.out door.new ≡ 0 }
-    ensures answered { AreAllAnswered (seen_by D.Link.had D.Link.left D.Link.left_before D.Link.written D.Link.faults)
-        entries.now links.items (D.taken_back door.old) (D.taken_back door.new) }
-    ensures kept { D.to_come door.new ≡ D.to_come door.old }
-    ensures open { D.open_at door.new ≡ D.open_at door.old }
-    ensures counts { (D.faults door.new ≡ D.faults door.old) × (D.late door.new ≡ D.late door.old) }
+    ensures answered { AreAllAnswered D.Link.seen
+        entries.now links.items (D.seen door.old).taken_back (D.seen door.new).taken_back }
+    ensures kept { KeepsElse (D.seen door.old) (D.seen door.new) }
 {
     let mut links = links;
     let spans = spans_of(entries);

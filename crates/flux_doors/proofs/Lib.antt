@@ -1,3 +1,4 @@
 mod Pieces
 mod Batches
 pub mod Fronts
+pub mod Keeping

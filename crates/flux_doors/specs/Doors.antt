@@ -3,6 +3,7 @@ use Rattle.std.specs.Prelude.{◌≡◌, ℕ, ◌+◌, Bool, true, false, List, 
 use Rattle.std.specs.Prelude.{Option, Some, None, Result, Ok, Err}
 use Rattle.flux_outside.specs.Causes.{HasCause}
 use Rattle.flux_outside.specs.declared.faults.Failed.{Failed}
+use Rattle.flux_doors.specs.Seen.{SeenDoor}
 
 -- the port that a door is open at after an opening: after one that failed it is as it was
 abbrev pub opened_at : {T : Type 0} → ℕ → Option ℕ → Result T Failed → Option ℕ
@@ -43,14 +44,10 @@ out_after out (Ok (Some link)) = out + 1
 out_after out (Ok None) = out
 out_after out (Err failed) = out
 
--- the two counts of a door
-pub record Counts : Type 0 where
-  pub faults : ℕ
-  pub late : ℕ
-
--- where a first accept failed the one count rose, where a later one did the other, and else both
--- are as before
-abbrev pub HasAcceptCause : {T : Type 0} → Bool → Counts → Counts → Result T Failed → Type 0
+-- where a first accept failed the one count of the door rose, where a later one did the other, and
+-- else both are as before
+abbrev pub HasAcceptCause : {L T : Type 0} → Bool → SeenDoor L → SeenDoor L → Result T Failed
+    → Type 0
 HasAcceptCause true before after result =
     HasCause before.faults after.faults result × (after.late ≡ before.late)
 HasAcceptCause false before after result =

@@ -1,3 +1,4 @@
+pub mod Seen
 pub mod Doors
 pub mod Arrivals
 pub mod Entrances

@@ -1,33 +1,32 @@
 -- What links and doors in memory hold, and when their calls fail.
-use Rattle.std.specs.Prelude.{◌≡◌, ℕ, ◌+◌, ◌-◌, ◌<◌, min, List, [], ◌∷◌, map, drop, length, Option, None}
+use Rattle.std.specs.Prelude.{◌≡◌, ℕ, ◌+◌, ◌-◌, ◌<◌, min, List, [], ◌∷◌, map, drop, length, Some}
+use Rattle.std.specs.Prelude.{None}
 use Rattle.std.specs.VecDeque.{deque_items}
 use Rattle.flux_outside.specs.Calls.{no_calls, one_more, IsToFail}
 use Rattle.flux_outside.specs.InMemory.{sink_bytes, SinkTakes, SinkWasCalled}
 use Rattle.flux_outside.specs.declared.memory.MemorySink.{MemorySink}
+use Rattle.flux_doors.specs.Seen.{SeenLink, SeenDoor}
 use Rattle.flux_doors.specs.declared.memory_links.MemoryLink.{MemoryLink}
 use Rattle.flux_doors.specs.declared.memory_doors.MemoryDoor.{MemoryDoor}
 
 -- ---- the link
 
--- all that its client sends
-abbrev pub link_had : MemoryLink → List ℕ
-link_had link = link.input
-
 -- the bytes left to read
 abbrev pub link_left : MemoryLink → List ℕ
 link_left link = drop link.given link.input
-
--- the bytes that were left before its last read; before the first read, those that are left
-abbrev pub link_left_before : MemoryLink → List ℕ
-link_left_before link = drop link.given_before link.input
 
 -- all bytes that its sink took
 abbrev pub link_written : MemoryLink → List ℕ
 link_written link = sink_bytes link.written
 
--- how often it has failed
-abbrev pub link_faults : MemoryLink → ℕ
-link_faults link = link.faults
+-- all is reported; before the first read, those that are left were left before it
+abbrev pub link_seen : MemoryLink → SeenLink
+link_seen link = record {
+  had = Some link.input;
+  left = Some (link_left link);
+  left_before = Some (drop link.given_before link.input);
+  stream = record { written = Some (link_written link); faults = link.faults };
+}
 
 -- a new link has these pieces, this sink and these failing reads, and wasn't read yet
 abbrev pub IsNewLink : MemoryLink → ℕ → MemorySink → List ℕ → Type 0
@@ -69,28 +68,26 @@ door_links door = door.begun.items ∷ map deque_items door.later.items
 abbrev pub door_back : MemoryDoor → List MemoryLink
 door_back door = door.back.items
 
--- the port that it is open at, if it is
-abbrev pub door_port : MemoryDoor → Option ℕ
-door_port door = door.port
-
 -- how many links are out
 abbrev pub door_out : MemoryDoor → ℕ
 door_out door = door.out
 
--- how often opening or a first accept has failed
-abbrev pub door_faults : MemoryDoor → ℕ
-door_faults door = door.faults
+-- all is reported
+abbrev pub door_seen : MemoryDoor → SeenDoor MemoryLink
+door_seen door = record {
+  to_come = Some (door_links door);
+  taken_back = Some (door_back door);
+  open_at = door.port;
+  faults = door.faults;
+  late = door.late;
+}
 
--- how often a later accept has failed
-abbrev pub door_late : MemoryDoor → ℕ
-door_late door = door.late
-
--- a new door has none taken back and none out, isn't open, has these failing calls, and wasn't called yet
+-- a new door has none taken back and none out, isn't open, has these failing calls, and wasn't
+-- called yet
 abbrev pub IsNewDoor : MemoryDoor → List ℕ → Type 0
 IsNewDoor door fails =
-    (door_back door ≡ []) × (door_port door ≡ None) × (door_out door ≡ 0)
-    × (door_faults door ≡ 0) × (door_late door ≡ 0)
-    × (door.calls ≡ no_calls fails)
+    (door_back door ≡ []) × (door.port ≡ None) × (door_out door ≡ 0)
+    × (door.faults ≡ 0) × (door.late ≡ 0) × (door.calls ≡ no_calls fails)
 
 -- its next call is to fail
 abbrev pub DoorIsToFail : MemoryDoor → Type 0

@@ -27,8 +27,8 @@ abbrev pub ends : Framing → List ℕ → Bool
 ends Head front = ends_with nat_eq front empty_line || ends_with nat_eq front empty_line_cr
 ends Line front = ends_with nat_eq front line_end
 
--- the least that passes a test of `seen`, and of `seen` with more and more of the bytes after it; all
--- of these where none does
+-- the least that passes a test of `seen`, and of `seen` with more and more of the bytes after it;
+-- all of these where none does
 abbrev pub grown : (List ℕ → Bool) → List ℕ → List ℕ → List ℕ
 grown test seen [] = seen
 grown test seen (b ∷ bytes) = if test seen then seen else grown test (seen ++ b ∷ []) bytes

@@ -1,5 +1,7 @@
 //! Clients whose text isn't there yet.
 
+ghost use Rattle.std.specs.Prelude.{◌≡◌};
+
 use crate::framing::Framing;
 use flux_outside::read_on;
 use std::alloc::Global;
@@ -33,7 +35,9 @@ pub enum Heard {
 
 impl<R: Net> Client<R> {
     /// One that was accepted at this time.
-    pub fn new(alloc: Global, stream: R::Stream, accepted: Duration) -> Client<R> {
+    pub fn new(alloc: Global, stream: R::Stream, accepted: Duration) -> Client<R>
+        ensures { result.accepted ≡ accepted }
+    {
         Client {
             stream,
             accepted,
@@ -46,7 +50,9 @@ impl<R: Net> Client<R> {
     }
 
     /// Adds a piece. Only what is new is looked at, and what an end can overlap with.
-    fn add(&mut self, framing: Framing, piece: &[u8]) -> Heard {
+    fn add(&mut self, framing: Framing, piece: &[u8]) -> Heard
+        ensures { self.new.accepted ≡ self.old.accepted }
+    {
         let seen = self.text.len().saturating_sub(OVERLAP);
         if self.text.extend_from_slice(piece).is_err() {
             return Heard::Nothing;
@@ -63,8 +69,10 @@ impl<R: Net> Client<R> {
     }
 
     /// Reads what is there, by way of a block, until the text has ended. It never waits.
-    pub fn hear(&mut self, framing: Framing, block: &mut [u8]) -> Heard {
-        for _ in 0..framing.limit() {
+    pub fn hear(&mut self, framing: Framing, block: &mut [u8]) -> Heard
+        ensures { self.new.accepted ≡ self.old.accepted }
+    {
+        'reads: for _ in 0..framing.limit() {
             let room = framing.limit().saturating_sub(self.text.len());
             let room = room.min(block.len());
             let heard = match read_on(&mut self.stream, &mut block[..room]) {

@@ -123,32 +123,23 @@ impl MemoryDoor {
 }
 
 impl Door for MemoryDoor {
-    ghost use Rattle.std.specs.Prelude.{◌≡◌, ◌<◌, ◌+◌, ◌↔◌, ◌++◌, ◌∷◌, [], Some, IfOk, IfSome, IsErr};
+    ghost use Rattle.std.specs.Prelude.{◌≡◌, ◌<◌, ◌+◌, ◌↔◌, ◌∷◌, [], IfOk, IfSome, IsErr};
     ghost use Rattle.std.specs.Option.{option_map};
     ghost use Rattle.flux_outside.specs.Causes.{HasCause};
     ghost use Rattle.flux_doors.specs.Doors.{opened_at, looked_at, first_link, left_behind, HasAcceptCause, out_after};
-    ghost use Rattle.flux_doors.specs.Memory.{door_links, door_back, door_port, door_out, door_faults, door_late, DoorIsToFail, DoorWasCalled};
+    ghost use Rattle.flux_doors.specs.Seen.{TakesBack, KeepsElse};
+    ghost use Rattle.flux_doors.specs.Memory.{door_seen, door_out, DoorIsToFail, DoorWasCalled};
 
     type Link = MemoryLink;
 
-    ghost to_come = { λ door. Some (door_links door) };
-
-    ghost taken_back = { λ door. Some (door_back door) };
-
-    ghost open_at = { λ door. door_port door };
+    ghost seen = { door_seen };
 
     ghost out = { λ door. door_out door };
 
-    ghost faults = { λ door. door_faults door };
-
-    ghost late = { λ door. door_late door };
-
     /// All its texts are there already, so how they end is nothing to it.
     fn expect(&mut self, framing: Framing)
-        ensures kept { (Some (door_links self.new) ≡ Some (door_links self.old)) × (Some (door_back self.new) ≡ Some (door_back self.old)) }
-        ensures stays { door_port self.new ≡ door_port self.old }
+        ensures kept { door_seen self.new ≡ door_seen self.old }
         ensures out { door_out self.new ≡ door_out self.old }
-        ensures counts { (door_faults self.new ≡ door_faults self.old) × (door_late self.new ≡ door_late self.old) }
         // No call is counted, and nothing else changes.
         ensures same { self.new ≡ self.old }
     {
@@ -156,11 +147,12 @@ impl Door for MemoryDoor {
     }
 
     fn open(&mut self, port: u16) -> Result<(), Failed>
-        ensures opened { door_port self.new ≡ opened_at port (door_port self.old) result }
-        ensures kept { (Some (door_links self.new) ≡ Some (door_links self.old)) × (Some (door_back self.new) ≡ Some (door_back self.old)) }
+        ensures opened { (door_seen self.new).open_at ≡ opened_at port (door_seen self.old).open_at result }
+        ensures to_come { (door_seen self.new).to_come ≡ (door_seen self.old).to_come }
+        ensures back { (door_seen self.new).taken_back ≡ (door_seen self.old).taken_back }
         ensures out { door_out self.new ≡ door_out self.old }
-        ensures late { door_late self.new ≡ door_late self.old }
-        ensures cause { HasCause (door_faults self.old) (door_faults self.new) result }
+        ensures late { (door_seen self.new).late ≡ (door_seen self.old).late }
+        ensures cause { HasCause (door_seen self.old).faults (door_seen self.new).faults result }
         // The calls that are to fail do, and no other.
         ensures fails { IsErr result ↔ DoorIsToFail self.old }
         ensures called { DoorWasCalled self.old self.new }
@@ -174,14 +166,12 @@ impl Door for MemoryDoor {
 
     fn accept(&mut self, first: bool) -> Result<Option<MemoryLink>, Failed>
         requires { door_out self.old < OUT_LIMIT }
-        ensures given { IfSome (Some (door_links self.old)) (λ links. IfOk result (λ link. link ≡ first_link (looked_at first links))) }
-        ensures left { Some (door_links self.new) ≡ option_map (left_behind first result) (Some (door_links self.old)) }
-        ensures kept { Some (door_back self.new) ≡ Some (door_back self.old) }
-        ensures stays { door_port self.new ≡ door_port self.old }
+        ensures given { IfSome (door_seen self.old).to_come (λ links. IfOk result (λ link. link ≡ first_link (looked_at first links))) }
+        ensures left { (door_seen self.new).to_come ≡ option_map (left_behind first result) (door_seen self.old).to_come }
+        ensures back { (door_seen self.new).taken_back ≡ (door_seen self.old).taken_back }
+        ensures stays { (door_seen self.new).open_at ≡ (door_seen self.old).open_at }
         ensures out { door_out self.new ≡ out_after (door_out self.old) result }
-        ensures cause { HasAcceptCause first
-            (record { faults = door_faults self.old; late = door_late self.old })
-            (record { faults = door_faults self.new; late = door_late self.new }) result }
+        ensures cause { HasAcceptCause first (door_seen self.old) (door_seen self.new) result }
         ensures fails { IsErr result ↔ DoorIsToFail self.old }
         ensures called { DoorWasCalled self.old self.new }
     {
@@ -204,11 +194,9 @@ impl Door for MemoryDoor {
 
     fn done(&mut self, link: MemoryLink)
         requires { 0 < door_out self.old }
-        ensures back { Some (door_back self.new) ≡ option_map (λ links. links ++ link ∷ []) (Some (door_back self.old)) }
+        ensures back { TakesBack (door_seen self.old).taken_back (door_seen self.new).taken_back (link ∷ []) }
+        ensures kept { KeepsElse (door_seen self.old) (door_seen self.new) }
         ensures out { door_out self.new + 1 ≡ door_out self.old }
-        ensures kept { Some (door_links self.new) ≡ Some (door_links self.old) }
-        ensures stays { door_port self.new ≡ door_port self.old }
-        ensures counts { (door_faults self.new ≡ door_faults self.old) × (door_late self.new ≡ door_late self.old) }
         // No call is counted.
         ensures called { self.new.calls ≡ self.old.calls }
     {

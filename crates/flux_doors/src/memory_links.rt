@@ -35,19 +35,20 @@ impl Drop for MemoryLink {
 }
 
 impl MemoryLink {
-    ghost use Rattle.std.specs.Prelude.{◌≡◌};
+    ghost use Rattle.std.specs.Prelude.{◌≡◌, Some};
     ghost use Rattle.flux_outside.specs.InMemory.{sink_bytes};
-    ghost use Rattle.flux_doors.specs.Memory.{link_had, link_left, link_left_before, link_written, link_faults, IsNewLink};
+    ghost use Rattle.flux_doors.specs.Memory.{link_seen, link_written, IsNewLink};
 
     /// A link that gives these bytes, at most `piece` a call. The reads whose numbers are in `fails`, counted from 1,
     /// fail; a write fails where the sink's does.
     pub fn new(input: Bytes, piece: usize, written: MemorySink, fails: List<u64>) -> MemoryLink
         requires { 0 < piece }
-        ensures had { link_had result ≡ input }
-        ensures left { link_left result ≡ input }
-        ensures before { link_left_before result ≡ input }
-        ensures written { link_written result ≡ sink_bytes written }
-        ensures faultless { link_faults result ≡ 0 }
+        ensures seen { link_seen result ≡ record {
+          had = Some input;
+          left = Some input;
+          left_before = Some input;
+          stream = record { written = Some (sink_bytes written); faults = 0 };
+        } }
         ensures made { IsNewLink result piece written fails }
     {
         MemoryLink {
@@ -70,30 +71,24 @@ impl MemoryLink {
 }
 
 impl Link for MemoryLink {
-    ghost use Rattle.std.specs.Prelude.{◌≡◌, ◌↔◌, Some, IsOk, IsErr, IfOk, length};
+    ghost use Rattle.std.specs.Prelude.{◌≡◌, ◌↔◌, IsOk, IfOk, length};
     ghost use Rattle.std.specs.Io.{ReadsAtMost};
     ghost use Rattle.std.specs.Io.KnownBytes.{ReadConsumes};
     ghost use Rattle.flux_outside.specs.Causes.{HasCause};
-    ghost use Rattle.flux_outside.specs.Sinks.{TakesSome, gained};
-    ghost use Rattle.flux_doors.specs.Memory.{link_had, link_left, link_left_before, link_written, link_faults, piece_left, LinkReads, LinkWasRead, LinkWrites, LinkWasWritten};
+    ghost use Rattle.flux_outside.specs.Sinks.{TakesSome, taken};
+    ghost use Rattle.flux_outside.specs.Streams.{Gains};
+    ghost use Rattle.flux_doors.specs.Seen.{IsSame, IsUnread};
+    ghost use Rattle.flux_doors.specs.Memory.{link_seen, piece_left, LinkReads, LinkWasRead, LinkWrites, LinkWasWritten};
 
-    ghost had = { λ link. Some (link_had link) };
-
-    ghost left = { λ link. Some (link_left link) };
-
-    ghost left_before = { λ link. Some (link_left_before link) };
-
-    ghost written = { λ link. Some (link_written link) };
-
-    ghost faults = { λ link. link_faults link };
+    ghost seen = { link_seen };
 
     fn read(&mut self, buffer: &mut [u8]) -> Result<usize, Failed>
         ensures bound { ReadsAtMost result buffer.new }
-        ensures bytes { ReadConsumes (Some (link_left self.old)) (Some (link_left self.new)) result buffer.new }
-        ensures before { Some (link_left_before self.new) ≡ Some (link_left self.old) }
-        ensures had { Some (link_had self.new) ≡ Some (link_had self.old) }
-        ensures written { Some (link_written self.new) ≡ Some (link_written self.old) }
-        ensures cause { HasCause (link_faults self.old) (link_faults self.new) result }
+        ensures same { IsSame (link_seen self.old) (link_seen self.new) }
+        ensures bytes { ReadConsumes (link_seen self.old).left (link_seen self.new).left result buffer.new }
+        ensures before { (link_seen self.new).left_before ≡ (link_seen self.old).left }
+        ensures written { (link_seen self.new).stream.written ≡ (link_seen self.old).stream.written }
+        ensures cause { HasCause (link_seen self.old).stream.faults (link_seen self.new).stream.faults result }
         // It gives a piece, unless the call is to fail.
         ensures piece { IfOk result (λ count. count ≡ piece_left self.old (length buffer.old)) }
         ensures reads { IsOk result ↔ LinkReads self.old }
@@ -112,11 +107,9 @@ impl Link for MemoryLink {
 
     fn write(&mut self, bytes: &[u8]) -> Result<usize, Failed>
         ensures bound { TakesSome result bytes.now }
-        ensures bytes { Some (link_written self.new) ≡ gained (Some (link_written self.old)) result bytes.now }
-        ensures had { Some (link_had self.new) ≡ Some (link_had self.old) }
-        ensures left { Some (link_left self.new) ≡ Some (link_left self.old) }
-        ensures before { Some (link_left_before self.new) ≡ Some (link_left_before self.old) }
-        ensures cause { HasCause (link_faults self.old) (link_faults self.new) result }
+        ensures same { IsUnread (link_seen self.old) (link_seen self.new) }
+        ensures bytes { Gains (link_seen self.old).stream (link_seen self.new).stream (taken result bytes.now) }
+        ensures cause { HasCause (link_seen self.old).stream.faults (link_seen self.new).stream.faults result }
         // It fails where its sink does.
         ensures writes { IsOk result ↔ LinkWrites self.old (length bytes.now) }
         ensures called { LinkWasWritten self.old self.new }

@@ -64,22 +64,21 @@ impl<R: Net + Clock + Copy + Send> Door for RealDoor<R>
 where
     R::Stream: Send,
 {
-    ghost use Rattle.std.specs.Prelude.{◌≡◌, ◌<◌, true, IfOk, IsSome};
-    ghost use Rattle.flux_doors.specs.Doors.{HasAcceptCause, out_after};
+    ghost use Rattle.std.specs.Prelude.{◌≡◌, ◌<◌, true, IfOk, IsSome, MatchBool};
+    ghost use Rattle.flux_outside.specs.Causes.{HasCause};
+    ghost use Rattle.flux_doors.specs.Doors.{out_after};
 
     type Link = RealLink<R>;
 
-    ghost to_come = { λ _. None };
-
-    ghost taken_back = { λ _. None };
-
-    ghost open_at = { λ door. door.port };
+    ghost seen = { λ door. record {
+      to_come = None;
+      taken_back = None;
+      open_at = door.port;
+      faults = door.faults;
+      late = door.late;
+    } };
 
     ghost out = { λ door. door.out };
-
-    ghost faults = { λ door. door.faults };
-
-    ghost late = { λ door. door.late };
 
     fn expect(&mut self, framing: Framing) {
         self.framing = framing;
@@ -100,9 +99,9 @@ where
         requires { self.old.out < OUT_LIMIT }
         ensures stays { self.new.port ≡ self.old.port }
         ensures out { self.new.out ≡ out_after self.old.out result }
-        ensures cause { HasAcceptCause first
-            (record { faults = self.old.faults; late = self.old.late })
-            (record { faults = self.new.faults; late = self.new.late }) result }
+        ensures cause { MatchBool first
+            (HasCause self.old.faults self.new.faults result × (self.new.late ≡ self.old.late))
+            (HasCause self.old.late self.new.late result × (self.new.faults ≡ self.old.faults)) }
         // This door is never closed: a first accept that answers gives a link.
         ensures first { first ≡ true → IfOk result IsSome }
     {

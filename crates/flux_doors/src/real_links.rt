@@ -133,15 +133,12 @@ impl<R: Net + Clock + Copy> RealLink<R> {
 impl<R: Net + Clock + Copy> Link for RealLink<R> {
     ghost use Rattle.std.specs.Prelude.{None};
 
-    ghost had = { λ _. None };
-
-    ghost left = { λ _. None };
-
-    ghost left_before = { λ _. None };
-
-    ghost written = { λ _. None };
-
-    ghost faults = { λ link. link.faults };
+    ghost seen = { λ link. record {
+      had = None;
+      left = None;
+      left_before = None;
+      stream = record { written = None; faults = link.faults };
+    } };
 
     fn read(&mut self, buffer: &mut [u8]) -> Result<usize, Failed> {
         let Some(rest) = self.text.as_slice().get(self.given..) else {

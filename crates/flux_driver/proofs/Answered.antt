@@ -9,7 +9,7 @@ use Rattle.flux_commands.specs.declared.refusals.Refusal.{Refusal}
 use Rattle.flux_commands.specs.declared.refusals.Refusal.TheVariants as refusals
 use Rattle.flux_outside.specs.Streams.{Stream, Wrote, Broke, WroteOrBroke}
 use Rattle.flux_commands.specs.Told.{Told}
-use Rattle.flux_driver.specs.Seen.{Doorway}
+use Rattle.flux_doors.specs.Seen.{SeenLink, SeenDoor}
 use Rattle.flux_commands.specs.Causes.{write_line}
 use Rattle.flux_commands.specs.Answers.{Libraries, IsAnswer, OrMemory}
 use Rattle.flux_commands.specs.Documents.{WithDocs}
@@ -98,7 +98,7 @@ asked_then library words told status final folder folder_after store store_after
 -- ---- the whole
 
 module _ (library : Libraries) (words : List (List ℕ)) (told after : Told) (folder folder_after store store_after : List (List ℕ)) (s t f g : ℕ) (kept : after ≡ told) (later : s ≤ t) (later_folder : f ≤ g) where
-  abbrev Done : Status → Stream → Stream → Stream → Stream → Doorway → Doorway → Type 0
+  abbrev Done : Status → Stream → Stream → Stream → Stream → SeenDoor SeenLink → SeenDoor SeenLink → Type 0
   Done status out out_after err err_after door door_after = HasDone library words
       (record { told = told; store = record { asked = store; faults = s }; folder = record { asked = folder; faults = f }; out = out; err = err; door = door }) status
       (record { told = after; store = record { asked = store_after; faults = t }; folder = record { asked = folder_after; faults = g }; out = out_after; err = err_after; door = door_after })
@@ -121,10 +121,10 @@ module _ (library : Libraries) (words : List (List ℕ)) (told after : Told) (fo
         decide (inr (inl e)) a = absurd cc
         decide (inr (inr e)) a = absurd cc
 
-    text_done : (status : Status) (out out_after err err_after : Stream) (door : Doorway) → out.faults ≤ out_after.faults → err.faults ≤ err_after.faults → IsWritten text status out out_after err err_after → Done status out out_after err err_after door door
+    text_done : (status : Status) (out out_after err err_after : Stream) (door : SeenDoor SeenLink) → out.faults ≤ out_after.faults → err.faults ≤ err_after.faults → IsWritten text status out out_after err err_after → Done status out out_after err err_after door door
     text_done status out out_after err err_after door out_later err_later (inl put) = record {
       kept = kept;
-      later = record { store = later; folder = later_folder; out = out_later; err = err_later; door = omega arith; late = omega arith };
+      later = record { store = later; folder = later_folder; out = out_later; err = err_later; door = (omega arith, omega arith) };
       asked = asked_put status;
       answered = inl (record {
         text = text;
@@ -143,7 +143,7 @@ module _ (library : Libraries) (words : List (List ℕ)) (told after : Told) (fo
     }
     text_done status out out_after err err_after door out_later err_later (inr put) = record {
       kept = kept;
-      later = record { store = later; folder = later_folder; out = out_later; err = err_later; door = omega arith; late = omega arith };
+      later = record { store = later; folder = later_folder; out = out_later; err = err_later; door = (omega arith, omega arith) };
       asked = asked_put status;
       answered = inl (record {
         text = text;
@@ -176,10 +176,10 @@ module _ (library : Libraries) (words : List (List ℕ)) (told after : Told) (fo
     written status out out_after own (inl wrote) = inl wrote
     written status out out_after own (inr broke) = inr (subst MayBreak (sym own) tt, broke)
 
-    no_done : (status : Status) (out out_after err err_after : Stream) (door : Doorway) → out.faults ≤ out_after.faults → err.faults ≤ err_after.faults → IsNoWritten text status out out_after err err_after → Done status out out_after err err_after door door
+    no_done : (status : Status) (out out_after err err_after : Stream) (door : SeenDoor SeenLink) → out.faults ≤ out_after.faults → err.faults ≤ err_after.faults → IsNoWritten text status out out_after err err_after → Done status out out_after err err_after door door
     no_done status out out_after err err_after door out_later err_later put = record {
       kept = kept;
-      later = record { store = later; folder = later_folder; out = out_later; err = err_later; door = omega arith; late = omega arith };
+      later = record { store = later; folder = later_folder; out = out_later; err = err_later; door = (omega arith, omega arith) };
       asked = subst Asked (sym put.0) asked;
       answered = inl (record {
         text = text;
@@ -198,7 +198,7 @@ module _ (library : Libraries) (words : List (List ℕ)) (told after : Told) (fo
     }
 
   pub put_done : (prepared : Prepared) → Asked (status_with prepared) → PreparesWords library words told prepared → AreSteady s t f g → AnswersWords library words told (status_with prepared) → SpellNoServe words
-      → (status : Status) (out out_after err err_after : Stream) (door : Doorway) → out.faults ≤ out_after.faults → err.faults ≤ err_after.faults → IsPut prepared status out out_after err err_after → Done status out out_after err err_after door door
+      → (status : Status) (out out_after err err_after : Stream) (door : SeenDoor SeenLink) → out.faults ≤ out_after.faults → err.faults ≤ err_after.faults → IsPut prepared status out out_after err err_after → Done status out out_after err err_after door door
   put_done (Text text) asked prints same due alone status out out_after err err_after door out_later err_later put = text_done text asked prints same due alone status out out_after err err_after door out_later err_later put
   put_done (No text) asked prints same due alone status out out_after err err_after door out_later err_later put = no_done text asked prints same due status out out_after err err_after door out_later err_later put
 
@@ -227,7 +227,7 @@ module _ (library : Libraries) (words : List (List ℕ)) (told after : Told) (fo
         decide (inr (inl of)) (inl e) = absurd (none of.command of.spelled)
         decide (inr (inr short)) (inl e) = inr (e ∙ short.0)
 
-    pub told_done : (status : Status) (out err err_after : Stream) (door : Doorway) → err.faults ≤ err_after.faults → IsTold refusal status err err_after → Done status out out err err_after door door
+    pub told_done : (status : Status) (out err err_after : Stream) (door : SeenDoor SeenLink) → err.faults ≤ err_after.faults → IsTold refusal status err err_after → Done status out out err err_after door door
     told_done status out err err_after door err_later told_ = one told_.said
       where
         refused_as : (status ≡ status_of refusal) ⊎ (status ≡ statuses.Memory) → (other : Status) → (other ≡ statuses.Memory → ⊥) → status ≡ other → status_of refusal ≡ other
@@ -244,7 +244,7 @@ module _ (library : Libraries) (words : List (List ℕ)) (told after : Told) (fo
             → Done status out out err err_after door door
         done own answered = record {
           kept = kept;
-          later = record { store = later; folder = later_folder; out = omega arith; err = err_later; door = omega arith; late = omega arith };
+          later = record { store = later; folder = later_folder; out = omega arith; err = err_later; door = (omega arith, omega arith) };
           asked = asked_told status own;
           answered = inl answered;
           reading = counted refusal status s t f g counts told_.read own;

@@ -2,20 +2,20 @@
 use Rattle.std.proofs.Common.{◌≡◌, ℕ, ◌<◌, inl, inr, map, Option, ap}
 use Rattle.std.specs.Option.{option_map}
 use Rattle.flux_outside.specs.Causes.{Rose}
-use Rattle.flux_batches.specs.Links.{Seen}
+use Rattle.flux_doors.specs.Seen.{SeenLink}
 use Rattle.flux_serve.specs.declared.batches.ServeEnd.{ServeEnd}
 use Rattle.flux_serve.specs.declared.batches.ServeEnd.TheVariants.{Door, Memory}
 use Rattle.flux_serve.specs.Batches.{Service}
-use Rattle.flux_serve.specs.Ends.{Sight, as_seen}
+use Rattle.flux_serve.specs.Ends.{Sight}
 use Rattle.flux_serve.specs.AtOnce.{HasServedAtOnce}
-use Rattle.flux_serve.proofs.AsSeen.{served_as_seen}
+use Rattle.flux_serve.proofs.AsSeen.{as_seen, served_as_seen}
 use Rattle.flux_serve.proofs.AtOnceSeen.{at_once_seen}
 use Rattle.flux_cli.specs.declared.replies.Replying.{Replying}
 use Rattle.flux_cli.specs.declared.replies.Replying.TheVariants.{AtEnd, AtOnce}
 use Rattle.flux_driver.specs.Serving.{IsOpened, HasServedBy}
 use Rattle.flux_driver.proofs.Serves.{unplanned, unopened}
 
-module _ {L : Type 0} (replying : Replying) (see : L → Seen) (wanted : ℕ) where
+module _ {L : Type 0} (replying : Replying) (see : L → SeenLink) (wanted : ℕ) where
   -- what is known of both
   pub at_once_of : (service : Service) (before after : Sight L) (end : ServeEnd)
       → HasServedBy replying see service wanted before after end → HasServedAtOnce see service wanted before after end
@@ -46,15 +46,15 @@ module _ {L : Type 0} (replying : Replying) (see : L → Seen) (wanted : ℕ) wh
       by (AtOnce workers) = inl (unopened see wanted some service before after rose back log_ come late)
 
 -- the same of links as what is seen of them
-pub by_as_seen : {L : Type 0} (replying : Replying) (see : L → Seen) (service : Service) (wanted : ℕ)
+pub by_as_seen : {L : Type 0} (replying : Replying) (see : L → SeenLink) (service : Service) (wanted : ℕ)
     (before after : Sight L) (end : ServeEnd) → HasServedBy replying see service wanted before after end
-    → HasServedBy replying (λ (link : Seen). link) service wanted (as_seen see before) (as_seen see after) end
+    → HasServedBy replying (λ (link : SeenLink). link) service wanted (as_seen see before) (as_seen see after) end
 by_as_seen (AtEnd runtime) see service wanted before after end served =
     served_as_seen see service wanted before after end served
 by_as_seen (AtOnce workers) see service wanted before after end served =
     at_once_seen see service wanted before after end served
 
-pub opened_as_seen : {L : Type 0} (see : L → Seen) (end : ServeEnd) (port : ℕ) (was is : Option ℕ) (before after : Sight L)
+pub opened_as_seen : {L : Type 0} (see : L → SeenLink) (end : ServeEnd) (port : ℕ) (was is : Option ℕ) (before after : Sight L)
     → IsOpened end port was is before after → IsOpened end port was is (as_seen see before) (as_seen see after)
 opened_as_seen see end port was is before after (inl open_) = inl open_
 opened_as_seen see end port was is before after (inr (shut, same, still)) = inr (

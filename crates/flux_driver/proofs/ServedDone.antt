@@ -11,6 +11,7 @@ use Rattle.flux_doors.specs.declared.framing.Framing.{Framing}
 use Rattle.flux_serve.specs.declared.batches.ServeEnd.{ServeEnd}
 use Rattle.flux_serve.specs.declared.batches.ServeEnd.TheVariants.{Closed, Counted, Door, Log, Memory}
 use Rattle.flux_serve.specs.Batches.{Service}
+use Rattle.flux_serve.specs.Ends.{sight_of}
 use Rattle.flux_serve.specs.AtOnce.{HasServedAtOnce}
 use Rattle.flux_serve.proofs.AtOnceSeen.{at_once_door_rose, at_once_door_same, at_once_log_rose, at_once_log_same}
 use Rattle.flux_cli.specs.Forms.{Serving}
@@ -19,11 +20,12 @@ use Rattle.flux_commands.specs.declared.statuses.Status.{Status}
 use Rattle.flux_commands.specs.declared.statuses.Status.TheVariants as statuses
 use Rattle.flux_commands.specs.declared.services.Service as services
 use Rattle.flux_commands.specs.Origins.{named}
-use Rattle.flux_driver.specs.Seen.{Link, Seen}
+use Rattle.flux_doors.specs.Seen.{SeenLink}
+use Rattle.flux_driver.specs.Seen.{Seen}
 use Rattle.flux_commands.specs.Inputs.{HasServable}
 use Rattle.flux_commands.specs.Documents.{AreDocs}
 use Rattle.flux_commands.specs.Answers.{Libraries, OrMemory}
-use Rattle.flux_driver.specs.Serving.{end_status, end_line, sight_of, IsOpened, HasServedBy, order_of, HasServedFile}
+use Rattle.flux_driver.specs.Serving.{end_status, end_line, IsOpened, HasServedBy, order_of, HasServedFile}
 use Rattle.flux_commands.specs.Asked.{HasAsked}
 use Rattle.flux_driver.specs.Top.{MayBreak, AreLater, Decides, IsComplete, HasDone}
 use Rattle.flux_commands.specs.Counts.{AreSteady}
@@ -74,20 +76,20 @@ module _ (library : Libraries) (words : List (List ℕ)) (before after : Seen) (
   own_service = let there = has.there in record { program = program_of there.decls; framing = there.framing; order = order_of serving.replying; meaning = library has.docs }
 
   -- what is known of it, whenever replies were written
-  known : HasServedAtOnce (λ (link : Link). link) own_service serving.batches (sight_of before) (sight_of after) own_end
-  known = at_once_of serving.replying (λ (link : Link). link) serving.batches own_service (sight_of before) (sight_of after) own_end has.served
+  known : HasServedAtOnce (λ (link : SeenLink). link) own_service serving.batches (sight_of before.door before.out) (sight_of after.door after.out) own_end
+  known = at_once_of serving.replying (λ (link : SeenLink). link) serving.batches own_service (sight_of before.door before.out) (sight_of after.door after.out) own_end has.served
 
   log_counted : end_status own_end ≡ statuses.Write → (let own = before.out in let later = after.out in Rose own.faults later.faults)
-  log_counted h = at_once_log_rose (λ (link : Link). link) own_service serving.batches (sight_of before) (sight_of after) (subst (λ (end : ServeEnd). HasServedAtOnce (λ (link : Link). link) own_service serving.batches (sight_of before) (sight_of after) end) (is_log own_end h) known)
+  log_counted h = at_once_log_rose (λ (link : SeenLink). link) own_service serving.batches (sight_of before.door before.out) (sight_of after.door after.out) (subst (λ (end : ServeEnd). HasServedAtOnce (λ (link : SeenLink). link) own_service serving.batches (sight_of before.door before.out) (sight_of after.door after.out) end) (is_log own_end h) known)
 
   log_stands : (MayBreak (end_status own_end) → ⊥) → (let own = before.out in let later = after.out in later.faults ≡ own.faults)
-  log_stands other = at_once_log_same (λ (link : Link). link) own_service serving.batches (sight_of before) (sight_of after) own_end (λ e. other (subst MayBreak (sym (ap end_status e)) tt)) known
+  log_stands other = at_once_log_same (λ (link : SeenLink). link) own_service serving.batches (sight_of before.door before.out) (sight_of after.door after.out) own_end (λ e. other (subst MayBreak (sym (ap end_status e)) tt)) known
 
   door_counted : end_status own_end ≡ statuses.Door → (let own = before.door in let later = after.door in Rose own.faults later.faults)
-  door_counted h = at_once_door_rose (λ (link : Link). link) own_service serving.batches (sight_of before) (sight_of after) (subst (λ (end : ServeEnd). HasServedAtOnce (λ (link : Link). link) own_service serving.batches (sight_of before) (sight_of after) end) (is_door own_end h) known)
+  door_counted h = at_once_door_rose (λ (link : SeenLink). link) own_service serving.batches (sight_of before.door before.out) (sight_of after.door after.out) (subst (λ (end : ServeEnd). HasServedAtOnce (λ (link : SeenLink). link) own_service serving.batches (sight_of before.door before.out) (sight_of after.door after.out) end) (is_door own_end h) known)
 
   door_stands : (end_status own_end ≡ statuses.Door → ⊥) → (let own = before.door in let later = after.door in later.faults ≡ own.faults)
-  door_stands other = at_once_door_same (λ (link : Link). link) own_service serving.batches (sight_of before) (sight_of after) own_end (λ e. other (ap end_status e)) known
+  door_stands other = at_once_door_same (λ (link : SeenLink). link) own_service serving.batches (sight_of before.door before.out) (sight_of after.door after.out) own_end (λ e. other (ap end_status e)) known
 
   abbrev Asked : Status → Type 0
   Asked status = let folder = before.folder in let folder_after = after.folder in let store = before.store in let store_after = after.store in
@@ -129,8 +131,8 @@ module _ (library : Libraries) (words : List (List ℕ)) (before after : Seen) (
   own_program = ready.is
 
   served_file : (end : ServeEnd) → (let told = before.told in AreDocs told.folders (option_copied service.docs) docs)
-      → HasServedBy service.replying (λ (link : Link). link) (record { program = checked.program; framing = framing; order = order_of service.replying; meaning = library docs }) service.batches (sight_of before) (sight_of after) end
-      → (let own = before.door in let later = after.door in IsOpened end service.port own.open_at later.open_at (sight_of before) (sight_of after)) → WroteOrBroke before.err after.err (end_line end)
+      → HasServedBy service.replying (λ (link : SeenLink). link) (record { program = checked.program; framing = framing; order = order_of service.replying; meaning = library docs }) service.batches (sight_of before.door before.out) (sight_of after.door after.out) end
+      → (let own = before.door in let later = after.door in IsOpened end service.port own.open_at later.open_at (sight_of before.door before.out) (sight_of after.door after.out)) → WroteOrBroke before.err after.err (end_line end)
       → HasServedFile library service.file.now (record { port = service.port; batches = service.batches; docs = option_copied service.docs; replying = service.replying }) before after
   unfolding has_servable
   served_file end are served opened said = record {
@@ -139,13 +141,13 @@ module _ (library : Libraries) (words : List (List ℕ)) (before after : Seen) (
     there = there_;
     end = end;
     opened = opened;
-    served = subst (λ (p : Program). HasServedBy service.replying (λ (link : Link). link) (record { program = p; framing = framing; order = order_of service.replying; meaning = library docs }) service.batches (sight_of before) (sight_of after) end) own_program served;
+    served = subst (λ (p : Program). HasServedBy service.replying (λ (link : SeenLink). link) (record { program = p; framing = framing; order = order_of service.replying; meaning = library docs }) service.batches (sight_of before.door before.out) (sight_of after.door after.out) end) own_program served;
     said = said;
   }
 
   pub ready_done : (end : ServeEnd) (status : Status) → Spells words (command_of service) → (let told = before.told in AreDocs told.folders (option_copied service.docs) docs)
-      → HasServedBy service.replying (λ (link : Link). link) (record { program = checked.program; framing = framing; order = order_of service.replying; meaning = library docs }) service.batches (sight_of before) (sight_of after) end
-      → (let own = before.door in let later = after.door in IsOpened end service.port own.open_at later.open_at (sight_of before) (sight_of after))
+      → HasServedBy service.replying (λ (link : SeenLink). link) (record { program = checked.program; framing = framing; order = order_of service.replying; meaning = library docs }) service.batches (sight_of before.door before.out) (sight_of after.door after.out) end
+      → (let own = before.door in let later = after.door in IsOpened end service.port own.open_at later.open_at (sight_of before.door before.out) (sight_of after.door after.out))
       → WroteOrBroke before.err after.err (end_line end) → after.told ≡ before.told → AreLater before after
       → (let folder = before.folder in let folder_after = after.folder in let store = before.store in let store_after = after.store in HasAsked library words before.told statuses.Done folder.asked folder_after.asked store.asked store_after.asked)
       → (let folder = before.folder in let folder_after = after.folder in let store = before.store in let store_after = after.store in AreSteady store.faults store_after.faults folder.faults folder_after.faults)

@@ -5,6 +5,7 @@ use Rattle.flux_cli.specs.Commands.{Command, serve, Spells, SpellsNone}
 use Rattle.flux_commands.specs.declared.statuses.Status.{Status}
 use Rattle.flux_commands.specs.declared.statuses.Status.TheVariants as statuses
 use Rattle.flux_outside.specs.Streams.{Wrote, Broke, WroteOrBroke}
+use Rattle.flux_doors.specs.Seen.{IsLater}
 use Rattle.flux_commands.specs.Told.{Told}
 use Rattle.flux_driver.specs.Seen.{Seen}
 use Rattle.flux_commands.specs.Documents.{TellsAll}
@@ -25,8 +26,9 @@ MayBreak other = ⊥
 abbrev pub SpellNoServe : List (List ℕ) → Type 0
 SpellNoServe words = (file : List ℕ) (serving : Serving) → Spells words (serve file serving) → ⊥
 
--- the text is on `out`, all of it, or a front of it where writing failed; the line is on `err`, all of
--- it, or a front of it where `err` failed; the door stays as it was; and only words that spell no `serve` end so with status 0
+-- the text is on `out`, all of it, or a front of it where writing failed; the line is on `err`, all
+-- of it, or a front of it where `err` failed; the door stays as it was; and only words that spell
+-- no `serve` end so with status 0
 pub record HasAnswered (library : Libraries) (words : List (List ℕ)) (before : Seen)
     (status : Status) (after : Seen) : Type 0 where
   pub text : List ℕ
@@ -40,8 +42,10 @@ pub record HasAnswered (library : Libraries) (words : List (List ℕ)) (before :
 
 -- ---- counts of failures
 
--- status 5 comes only where the store's count rose, or the folder's; with any other both are as before
-pub record RoseForReading (status : Status) (store store_after folder folder_after : ℕ) : Type 0 where
+-- status 5 comes only where the store's count rose, or the folder's; with any other both are as
+-- before
+pub record RoseForReading (status : Status)
+    (store store_after folder folder_after : ℕ) : Type 0 where
   pub failed : status ≡ statuses.Read → Rose store store_after ⊎ Rose folder folder_after
   pub steady : status ≢ statuses.Read → (store_after ≡ store) × (folder_after ≡ folder)
 
@@ -61,12 +65,12 @@ pub record AreLater (before after : Seen) : Type 0 where
   pub folder : let own = before.folder in let later = after.folder in own.faults ≤ later.faults
   pub out : let own = before.out in let later = after.out in own.faults ≤ later.faults
   pub err : let own = before.err in let later = after.err in own.faults ≤ later.faults
-  pub door : let own = before.door in let later = after.door in own.faults ≤ later.faults
-  pub late : let own = before.door in let later = after.door in own.late ≤ later.late
+  pub door : IsLater before.door after.door
 
 -- ---- what was due
 
--- the status is the one that is due, unless reading failed, or the printing of what was due, or the door
+-- the status is the one that is due, unless reading failed, or the printing of what was due, or the
+-- door
 abbrev pub Decides : Status → Status → Type 0
 Decides status due = (status ≡ due) ⊎ ((status ≡ statuses.Read)
     ⊎ (((status ≡ statuses.Write) ⊎ (status ≡ statuses.Door)) × (due ≡ statuses.Done)))
@@ -80,13 +84,13 @@ IsComplete library words told status = (command : Command) → Spells words comm
 -- ---- the whole
 
 -- A call with these words answers this status:
---   what is reported of files and folders is as before, no count of failures falls, and the words say which
---   folder and which files were asked for, in which order;
---   the status has its cause, and `out` and `err` have gained what belongs to it, and the door stays as it was; or `serve`
---   has served;
+--   what is reported of files and folders is as before, no count of failures falls, and the words
+--   say which folder and which files were asked for, in which order;
+--   the status has its cause, and `out` and `err` have gained what belongs to it, and the door
+--   stays as it was; or `serve` has served;
 --   with status 5 the count of the store or of the folder rose, and with any other both are as
---   before; the same of status 6 and the count of `out`, which may rise with status 8 too, and of status 7
---   and the count of the door;
+--   before; the same of status 6 and the count of `out`, which may rise with status 8 too, and of
+--   status 7 and the count of the door;
 --   words that are no command are refused, and what is due is answered, unless memory was short.
 pub record HasDone (library : Libraries) (words : List (List ℕ)) (before : Seen)
     (status : Status) (after : Seen) : Type 0 where

@@ -1,4 +1,3 @@
 -- Mirrors of what the code does step by step. No public clause cites them.
 pub mod Orders
-pub mod Sights
 pub mod Telling

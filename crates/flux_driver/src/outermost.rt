@@ -3,7 +3,7 @@
 ghost use Rattle.std.specs.Prelude.{◌≡◌, [], IfOk, IsErr};
 ghost use Rattle.flux_cli.specs.Commands.{Command, Spells, IsServe, NeedsThreads};
 ghost use Rattle.flux_commands.specs.BuiltIn.{built_in, meaning_in};
-ghost use Rattle.flux_driver.specs.Seen.{seen_by, door_by, link_by};
+ghost use Rattle.flux_driver.specs.Seen.{seen_by};
 ghost use Rattle.flux_driver.specs.Top.{HasDone};
 ghost use Rattle.flux_commands.specs.Driving.{CanDrive, DrivesTo};
 
@@ -44,9 +44,7 @@ fn act<
     requires driver { CanDrive (R.pre driver.now) (R.post driver.now) }
     requires printed { (command : Command) → Spells words.now command → IsServe command → ⊥ }
     ensures door { world.new.door ≡ world.old.door }
-    ensures done { let seen = seen_by S.files S.asked S.faults F.folders F.asked F.faults O.written O.faults
-        E.written E.faults (door_by (link_by D.Link.had D.Link.left D.Link.left_before D.Link.written D.Link.faults)
-        D.to_come D.taken_back D.open_at D.faults D.late) in
+    ensures done { let seen = seen_by S.files S.asked S.faults F.folders F.asked F.faults O.seen E.seen D.Link.seen D.seen in
         HasDone built_in words.now (seen world.old) result (seen world.new) }
 {
     match prepare_words(
@@ -73,9 +71,7 @@ pub fn top_alone<S: Store, F: Folder, O: Sink, E: Sink, D: Door, G: Gate>(
 ) -> Status
     requires { (command : Command) → Spells words.now command → NeedsThreads command → ⊥ }
     ensures door { world.new.door ≡ world.old.door }
-    ensures done { let seen = seen_by S.files S.asked S.faults F.folders F.asked F.faults O.written O.faults
-        E.written E.faults (door_by (link_by D.Link.had D.Link.left D.Link.left_before D.Link.written D.Link.faults)
-        D.to_come D.taken_back D.open_at D.faults D.late) in
+    ensures done { let seen = seen_by S.files S.asked S.faults F.folders F.asked F.faults O.seen E.seen D.Link.seen D.seen in
         HasDone built_in words.now (seen world.old) result (seen world.new) }
 {
     act(
@@ -103,9 +99,7 @@ fn serve_words<
     requires out { D.out world.old.door ≡ 0 }
     // Each accepted link has gone back to the door.
     ensures out { D.out world.new.door ≡ 0 }
-    ensures done { let seen = seen_by S.files S.asked S.faults F.folders F.asked F.faults O.written O.faults
-        E.written E.faults (door_by (link_by D.Link.had D.Link.left D.Link.left_before D.Link.written D.Link.faults)
-        D.to_come D.taken_back D.open_at D.faults D.late) in
+    ensures done { let seen = seen_by S.files S.asked S.faults F.folders F.asked F.faults O.seen E.seen D.Link.seen D.seen in
         HasDone built_in words.now (seen world.old) result (seen world.new) }
 {
     match ready_words(alloc, &mut world.store, &mut world.folder, words) {
@@ -148,9 +142,7 @@ pub fn top<
     requires out { D.out world.old.door ≡ 0 }
     // Each accepted link has gone back to the door.
     ensures out { D.out world.new.door ≡ 0 }
-    ensures done { let seen = seen_by S.files S.asked S.faults F.folders F.asked F.faults O.written O.faults
-        E.written E.faults (door_by (link_by D.Link.had D.Link.left D.Link.left_before D.Link.written D.Link.faults)
-        D.to_come D.taken_back D.open_at D.faults D.late) in
+    ensures done { let seen = seen_by S.files S.asked S.faults F.folders F.asked F.faults O.seen E.seen D.Link.seen D.seen in
         HasDone built_in words.now (seen world.old) result (seen world.new) }
 {
     if !needs_threads(words) {
@@ -193,9 +185,7 @@ pub fn answer<
     ensures there { IsErr world.new → IsErr world.old }
     ensures words { IsErr words → (result ≡ Status.Memory) × (world.new ≡ world.old) }
     ensures world { IsErr world.old → result ≡ Status.Memory }
-    ensures done { let seen = seen_by S.files S.asked S.faults F.folders F.asked F.faults O.written O.faults
-        E.written E.faults (door_by (link_by D.Link.had D.Link.left D.Link.left_before D.Link.written D.Link.faults)
-        D.to_come D.taken_back D.open_at D.faults D.late) in
+    ensures done { let seen = seen_by S.files S.asked S.faults F.folders F.asked F.faults O.seen E.seen D.Link.seen D.seen in
         IfOk words (λ given. IfOk world.old (λ before. IfOk world.new (λ after.
         HasDone built_in given (seen before) result (seen after)))) }
 {

@@ -10,14 +10,10 @@ use flux_values::Bytes;
 
 /// Writes pages, one after the other.
 fn write_full<O: Sink>(out: &mut O, pages: &[Bytes]) -> Result<(), Failed>
-    ensures later { O.faults out.old ≤ O.faults out.new }
-    ensures wrote { OnOk result (Wrote
-        (record { written = O.written out.old; faults = O.faults out.old })
-        (record { written = O.written out.new; faults = O.faults out.new })
+    ensures later { (O.seen out.old).faults ≤ (O.seen out.new).faults }
+    ensures wrote { OnOk result (Wrote (O.seen out.old) (O.seen out.new)
         (flat_map (λ page. page) pages.now)) }
-    ensures broke { OnErr result (Broke
-        (record { written = O.written out.old; faults = O.faults out.old })
-        (record { written = O.written out.new; faults = O.faults out.new })
+    ensures broke { OnErr result (Broke (O.seen out.old) (O.seen out.new)
         (flat_map (λ page. page) pages.now)) }
 {
     for page in pages {
@@ -28,13 +24,9 @@ fn write_full<O: Sink>(out: &mut O, pages: &[Bytes]) -> Result<(), Failed>
 
 /// Writes all of a text.
 pub fn write_pages<O: Sink>(out: &mut O, text: &Pages) -> Result<(), Failed>
-    ensures later { O.faults out.old ≤ O.faults out.new }
-    ensures wrote { OnOk result (Wrote
-        (record { written = O.written out.old; faults = O.faults out.old })
-        (record { written = O.written out.new; faults = O.faults out.new }) text.now) }
-    ensures broke { OnErr result (Broke
-        (record { written = O.written out.old; faults = O.faults out.old })
-        (record { written = O.written out.new; faults = O.faults out.new }) text.now) }
+    ensures later { (O.seen out.old).faults ≤ (O.seen out.new).faults }
+    ensures wrote { OnOk result (Wrote (O.seen out.old) (O.seen out.new) text.now) }
+    ensures broke { OnErr result (Broke (O.seen out.old) (O.seen out.new) text.now) }
 {
     let (full, last) = text.parts();
     write_full(out, full)?;

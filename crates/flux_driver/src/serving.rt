@@ -5,10 +5,12 @@ ghost use Rattle.std.specs.List.{AllByRecursion};
 ghost use Rattle.std.specs.Arc.{arc_value};
 ghost use Rattle.flux_model.specs.Kinds.{kinds_at};
 ghost use Rattle.flux_model.specs.Soundness.{IsSound};
-ghost use Rattle.flux_batches.specs.Links.{seen_by, IsLinkItem};
+ghost use Rattle.flux_doors.specs.Seen.{IsLater};
+ghost use Rattle.flux_batches.specs.Links.{IsLinkItem};
 ghost use Rattle.flux_serve.specs.Served.{CanServe};
 ghost use Rattle.flux_sources.specs.Sources.{IsServed};
 ghost use Rattle.flux_serve.specs.Batches as batches;
+ghost use Rattle.flux_serve.specs.Ends.{sight_of};
 ghost use Rattle.flux_serve.specs.Orders.{IsInOrder};
 ghost use Rattle.flux_serve.specs.Runs.{IsRun};
 ghost use Rattle.flow_model.specs.CellsAfter.{cells_after};
@@ -16,7 +18,6 @@ ghost use Rattle.flow_model.specs.Legal.{IsLegal, IsWhole};
 ghost use Rattle.flux_cells.specs.Kept.{cells_of};
 ghost use Rattle.flux_driver.specs.Serving.{IsOpened, HasServedBy, order_of};
 ghost use Rattle.flux_driver.specs.steps.Orders.{KeepsOrder};
-ghost use Rattle.flux_driver.specs.steps.Sights.{sight_by};
 
 use flow_core::Gate;
 use flow_model::Journal;
@@ -176,17 +177,12 @@ fn serve_batches<
     requires order { served.now.order ≡ order_of replying }
     requires out { D.out door.old ≡ 0 }
     ensures out { D.out door.new ≡ 0 }
-    ensures open { D.open_at door.new ≡ D.open_at door.old }
-    ensures later { (D.faults door.old ≤ D.faults door.new) × (D.late door.old ≤ D.late door.new) }
-    ensures later_log { O.faults log.old ≤ O.faults log.new }
+    ensures open { (D.seen door.new).open_at ≡ (D.seen door.old).open_at }
+    ensures later { IsLater (D.seen door.old) (D.seen door.new) }
+    ensures later_log { (O.seen log.old).faults ≤ (O.seen log.new).faults }
     ensures served { let own : batches.Service = (record { program = arc_value served.now.program; framing = served.now.framing; order = served.now.order; meaning = L.meaning (arc_value served.now.library) }) in
-        HasServedBy replying
-        (seen_by D.Link.had D.Link.left D.Link.left_before D.Link.written D.Link.faults)
-        own wanted
-        (sight_by D.to_come D.taken_back D.faults D.late door.old
-        (record { written = O.written log.old; faults = O.faults log.old }))
-        (sight_by D.to_come D.taken_back D.faults D.late door.new
-        (record { written = O.written log.new; faults = O.faults log.new })) result }
+        HasServedBy replying D.Link.seen own wanted
+        (sight_of (D.seen door.old) (O.seen log.old)) (sight_of (D.seen door.new) (O.seen log.new)) result }
 {
     match replying {
         Replying::AtEnd(runtime) => {
@@ -246,21 +242,13 @@ pub fn serve_ready<
     requires out { D.out door.old ≡ 0 }
     // Each accepted link has gone back to the door.
     ensures out { D.out door.new ≡ 0 }
-    ensures opened { IsOpened result service.entry.port (D.open_at door.old) (D.open_at door.new)
-        (sight_by D.to_come D.taken_back D.faults D.late door.old
-        (record { written = O.written log.old; faults = O.faults log.old }))
-        (sight_by D.to_come D.taken_back D.faults D.late door.new
-        (record { written = O.written log.new; faults = O.faults log.new })) }
-    ensures later { (D.faults door.old ≤ D.faults door.new) × (D.late door.old ≤ D.late door.new) }
-    ensures later_log { O.faults log.old ≤ O.faults log.new }
+    ensures opened { IsOpened result service.entry.port (D.seen door.old).open_at (D.seen door.new).open_at
+        (sight_of (D.seen door.old) (O.seen log.old)) (sight_of (D.seen door.new) (O.seen log.new)) }
+    ensures later { IsLater (D.seen door.old) (D.seen door.new) }
+    ensures later_log { (O.seen log.old).faults ≤ (O.seen log.new).faults }
     ensures served { let own : batches.Service = (record { program = ready.checked.program; framing = ready.framing; order = order_of service.entry.replying; meaning = L.meaning (arc_value ready.library) }) in
-        HasServedBy service.entry.replying
-        (seen_by D.Link.had D.Link.left D.Link.left_before D.Link.written D.Link.faults)
-        own service.entry.batches
-        (sight_by D.to_come D.taken_back D.faults D.late door.old
-        (record { written = O.written log.old; faults = O.faults log.old }))
-        (sight_by D.to_come D.taken_back D.faults D.late door.new
-        (record { written = O.written log.new; faults = O.faults log.new })) result }
+        HasServedBy service.entry.replying D.Link.seen own service.entry.batches
+        (sight_of (D.seen door.old) (O.seen log.old)) (sight_of (D.seen door.new) (O.seen log.new)) result }
 {
     let Ready {
         library,

@@ -13,9 +13,8 @@ use std::alloc::Global;
 
 /// Writes a line. A fault of the sink changes nothing else.
 fn say<E: Sink>(err: &mut E, line: &[u8])
-    ensures later { E.faults err.old ≤ E.faults err.new }
-    ensures said { WroteOrBroke (record { written = E.written err.old; faults = E.faults err.old })
-        (record { written = E.written err.new; faults = E.faults err.new }) line.now }
+    ensures later { (E.seen err.old).faults ≤ (E.seen err.new).faults }
+    ensures said { WroteOrBroke (E.seen err.old) (E.seen err.new) line.now }
 {
     let _ = write_all(err, line);
 }
@@ -23,10 +22,8 @@ fn say<E: Sink>(err: &mut E, line: &[u8])
 /// Writes the line about a refusal. That reading failed is said without taking memory, so that want of
 /// memory never comes in its place.
 pub fn refuse<E: Sink>(alloc: Global, err: &mut E, refusal: Refusal) -> Status
-    ensures later { E.faults err.old ≤ E.faults err.new }
-    ensures told { IsTold refusal.entry result
-        (record { written = E.written err.old; faults = E.faults err.old })
-        (record { written = E.written err.new; faults = E.faults err.new }) }
+    ensures later { (E.seen err.old).faults ≤ (E.seen err.new).faults }
+    ensures told { IsTold refusal.entry result (E.seen err.old) (E.seen err.new) }
 {
     if let Refusal::Read = refusal {
         say(err, b"flux: read failed\n");
@@ -43,12 +40,8 @@ pub fn refuse<E: Sink>(alloc: Global, err: &mut E, refusal: Refusal) -> Status
 
 /// Writes what is to be printed; where that failed, the line about it. A verdict that is no stays so.
 pub fn print<O: Sink, E: Sink>(out: &mut O, err: &mut E, prepared: &Prepared) -> Status
-    ensures later { (O.faults out.old ≤ O.faults out.new) × (E.faults err.old ≤ E.faults err.new) }
-    ensures put { IsPut prepared.now result
-        (record { written = O.written out.old; faults = O.faults out.old })
-        (record { written = O.written out.new; faults = O.faults out.new })
-        (record { written = E.written err.old; faults = E.faults err.old })
-        (record { written = E.written err.new; faults = E.faults err.new }) }
+    ensures later { ((O.seen out.old).faults ≤ (O.seen out.new).faults) × ((E.seen err.old).faults ≤ (E.seen err.new).faults) }
+    ensures put { IsPut prepared.now result (O.seen out.old) (O.seen out.new) (E.seen err.old) (E.seen err.new) }
 {
     match prepared {
         Prepared::Text(text) => match write_pages(out, text) {
@@ -67,10 +60,9 @@ pub fn print<O: Sink, E: Sink>(out: &mut O, err: &mut E, prepared: &Prepared) ->
 
 /// Writes the line about an end of serving, which takes no memory, and answers its status.
 pub fn tell_end<E: Sink>(err: &mut E, end: ServeEnd) -> Status
-    ensures later { E.faults err.old ≤ E.faults err.new }
+    ensures later { (E.seen err.old).faults ≤ (E.seen err.new).faults }
     ensures status { result ≡ end_status end }
-    ensures said { WroteOrBroke (record { written = E.written err.old; faults = E.faults err.old })
-        (record { written = E.written err.new; faults = E.faults err.new }) (end_line end) }
+    ensures said { WroteOrBroke (E.seen err.old) (E.seen err.new) (end_line end) }
 {
     match end {
         ServeEnd::Closed | ServeEnd::Counted => Status::Done,

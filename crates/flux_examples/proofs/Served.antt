@@ -1,14 +1,15 @@
 -- Why these programs are served or not, and serving ends so or doesn't.
-use Rattle.std.proofs.Common.{◌≡◌, ℕ, List, [], ◌∷◌, codes, length, Option, Some, None, ap, refl, ◌∙◌, arith}
+use Rattle.std.proofs.Common.{◌≡◌, ◌≤◌, ℕ, List, [], ◌∷◌, codes, length, Option, Some, None, ap, refl, ◌∙◌, inl, inr, arith}
 use Rattle.flux_values.specs.declared.meanings.Role.{Role}
 use Rattle.flux_values.specs.declared.meanings.Role.TheVariants.{Plain, Source, HeadSource, LineSource}
 use Rattle.flux_values.specs.declared.meanings.Sig.{Sig}
 use Rattle.flux_doors.specs.declared.framing.Framing.{Framing}
 use Rattle.flux_doors.specs.declared.framing.Framing.TheVariants.{Head, Line}
-use Rattle.flux_batches.specs.Links.{Seen}
+use Rattle.flux_doors.specs.Seen.{SeenLink}
+use Rattle.flux_serve.specs.declared.batches.ServeEnd.TheVariants.{Memory}
 use Rattle.flux_sources.specs.Sources.{role_of, IsServed}
-use Rattle.flux_examples.specs.SmallServing.{with_role, sig_with, line, sources_of_one}
-use Rattle.flux_examples.specs.Serving.{ServingFits, ServingMisfits}
+use Rattle.flux_examples.specs.SmallServing.{with_role, sig_with, line, sources_of_one, door}
+use Rattle.flux_examples.specs.Serving.{Stops, ServingFits, ServingMisfits}
 use Rattle.flux_examples.proofs.Doors.{rose, stands}
 use Rattle.flux_examples.proofs.Rounds.{goes_round}
 use Rattle.flux_examples.proofs.Orders.{first_begins, listed_first}
@@ -29,12 +30,12 @@ by_role : (role : Role) (framing : Framing) → IsServed (with_role role) (sourc
 by_role role framing is = ap role_in is.known ∙ ap role_number is.role
 
 -- how many links the first batch has, where it is reported
-abbrev first_count : Option (List (List Seen)) → ℕ
+abbrev first_count : Option (List (List SeenLink)) → ℕ
 first_count None = 0
 first_count (Some []) = 0
 first_count (Some (links ∷ batches)) = length links
 
-abbrev is_some : Option Seen → ℕ
+abbrev is_some : Option SeenLink → ℕ
 is_some None = 0
 is_some (Some link) = 1
 
@@ -53,6 +54,11 @@ fit = record {
   in_order = goes_round;
 }
 
+-- late accepts aren't forgotten
+not_fallen : (before after : List (List SeenLink)) → Stops (door before 0 1) (door after 0 0) Memory → ⊥
+not_fallen before after (inl undriven) = let later : 1 ≤ 0 = undriven.later in omega (arith, later)
+not_fallen before after (inr (batch, driven)) = let later : 1 ≤ 0 = driven.later in omega (arith, later)
+
 pub misfit : ServingMisfits
 misfit = record {
   lines = λ is. let same : 2 ≡ 3 = by_role HeadSource Line is in omega (arith, same);
@@ -60,6 +66,7 @@ misfit = record {
   later = λ stops. let same : 1 ≡ 0 = stops.4 in omega (arith, same);
   failed = λ stops. stands stops.0;
   lost = λ stops. let same : 0 ≡ 1 = ap first_count stops.3 in omega (arith, same);
+  fallen = not_fallen;
   counted = λ before after stops. stops;
   turned = first_begins;
   unlisted = listed_first;

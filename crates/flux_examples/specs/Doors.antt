@@ -1,12 +1,19 @@
 -- Doors and batches.
 use Rattle.std.specs.Prelude.{◌≡◌, ℕ, true, false, List, [], ◌∷◌, Some, None, Ok, Err}
 use Rattle.flux_outside.specs.declared.faults.Failed.{Failed}
-use Rattle.flux_doors.specs.Doors.{opened_at, waiting, behind_first, Counts, HasAcceptCause}
+use Rattle.flux_doors.specs.Doors.{opened_at, waiting, behind_first, HasAcceptCause}
+use Rattle.flux_doors.specs.Seen.{SeenDoor}
 use Rattle.flux_batches.specs.Gathered.{AreGathered}
 
 -- the two counts
-abbrev pub counts : ℕ → ℕ → Counts
-counts faults late = record { faults = faults; late = late }
+abbrev pub counts : ℕ → ℕ → SeenDoor ℕ
+counts faults late = record {
+  to_come = None;
+  taken_back = None;
+  open_at = None;
+  faults = faults;
+  late = late;
+}
 
 -- links 1 and 2 come together, and link 3 alone
 abbrev pub two : List (List ℕ)

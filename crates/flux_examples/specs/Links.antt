@@ -3,7 +3,8 @@ use Rattle.std.specs.Prelude.{◌≡◌, ℕ, List, [], ◌∷◌, ◌++◌, cod
 use Rattle.flux_doors.specs.declared.framing.Framing.TheVariants.{Head, Line}
 use Rattle.flux_batches.specs.declared.reading.Sent.TheVariants.{Text, Failed, Memory}
 use Rattle.flux_doors.specs.Texts.{text_of}
-use Rattle.flux_batches.specs.Links.{Seen, HadNotEnded, IsReadNoFurther, IsSent, WereRead}
+use Rattle.flux_doors.specs.Seen.{SeenLink}
+use Rattle.flux_batches.specs.Links.{HadNotEnded, IsReadNoFurther, IsSent, WereRead}
 use Rattle.flux_batches.specs.Links.{link_item, items_from}
 use Rattle.flux_examples.specs.SmallServing.{link, link_of, told, itself, read}
 
@@ -12,11 +13,11 @@ abbrev pub crlf : List ℕ
 crlf = 13 ∷ 10 ∷ []
 
 -- a link that has bytes to read
-abbrev pub fresh : List ℕ → Seen
+abbrev pub fresh : List ℕ → SeenLink
 fresh bytes = link bytes [] 0
 
 -- one that has none left
-abbrev pub spent : List ℕ → Seen
+abbrev pub spent : List ℕ → SeenLink
 spent bytes = told bytes []
 
 -- a line, and a byte after it
@@ -24,7 +25,7 @@ abbrev pub more_than_a_line : List ℕ
 more_than_a_line = codes "a" ++ 10 ∷ codes "b"
 
 -- a link that had these bytes: its line was read, and then, by one more read, the byte after it
-abbrev pub read_on : Seen
+abbrev pub read_on : SeenLink
 read_on = link_of more_than_a_line [] (codes "b") [] 0
 
 pub record LinksFit : Type 0 where
@@ -36,7 +37,8 @@ pub record LinksFit : Type 0 where
   -- before its LF was read, a line hadn't ended; one read may give the line and a byte after it
   pub unended : HadNotEnded Line (Some more_than_a_line) (Some (10 ∷ codes "b"))
   pub no_further : IsReadNoFurther Line (fresh more_than_a_line) (spent more_than_a_line)
-  -- a link was read; or it failed, and its count rose; or memory was short, and its count is as before
+  -- a link was read; or it failed, and its count rose; or memory was short, and its count is as
+  -- before
   pub sent : IsSent Line (fresh (codes "a")) (spent (codes "a")) (Text (codes "a"))
   pub failed : IsSent Line (fresh (codes "a")) (link (codes "a") [] 1) Failed
   pub short : IsSent Line (fresh (codes "a")) (spent (codes "a")) Memory

@@ -2,21 +2,21 @@
 use Rattle.std.specs.Prelude.{◌≡◌, List, [], ◌∷◌, codes}
 use Rattle.flux_batches.specs.declared.reading.Sent.TheVariants.{Text, Failed}
 use Rattle.flux_batches.specs.declared.reading.ReadLink.{ReadLink}
-use Rattle.flux_batches.specs.Links.{Seen}
+use Rattle.flux_doors.specs.Seen.{SeenLink}
 use Rattle.flux_batches.specs.Replies.{reply_of, IsAnswered, AreAnswered, flow_behind}
 use Rattle.flux_examples.specs.SmallServing.{link, link_of, told, itself, read, spoken, echoed}
 
 -- two links that were read, of which each has sent its own text
-abbrev pub both : List (ReadLink Seen)
+abbrev pub both : List (ReadLink SeenLink)
 both =
     read (told (codes "a") []) (Text (codes "a")) ∷ read (told (codes "b") []) (Text (codes "b")) ∷ []
 
 -- a link of which the first byte was read, and that has one left
-abbrev pub one_left : ReadLink Seen
+abbrev pub one_left : ReadLink SeenLink
 one_left = read (link_of (codes "ab") (codes "b") (codes "ab") [] 0) (Text (codes "a"))
 
 -- the same link, with the other byte read and the reply written
-abbrev pub none_left : Seen
+abbrev pub none_left : SeenLink
 none_left = link_of (codes "ab") [] (codes "b") (codes "p") 0
 
 pub record RepliesFit : Type 0 where

@@ -2,9 +2,9 @@
 use Rattle.std.specs.Prelude.{List, [], ◌∷◌, codes}
 use Rattle.flux_values.specs.declared.meanings.Role.TheVariants.{HeadSource, Plain}
 use Rattle.flux_doors.specs.declared.framing.Framing.TheVariants.{Head, Line}
-use Rattle.flux_batches.specs.Links.{Seen}
+use Rattle.flux_doors.specs.Seen.{SeenLink}
 use Rattle.flux_serve.specs.declared.batches.ServeEnd.{ServeEnd}
-use Rattle.flux_serve.specs.declared.batches.ServeEnd.TheVariants.{Closed, Counted, Door}
+use Rattle.flux_serve.specs.declared.batches.ServeEnd.TheVariants.{Closed, Counted, Door, Memory}
 use Rattle.flux_sources.specs.Sources.{IsServed, IsNotServed}
 use Rattle.flow_model.specs.declared.journals.Entry.{Entry}
 use Rattle.flow_model.specs.declared.journals.Event.TheVariants.{Enter}
@@ -27,15 +27,15 @@ heads = record {
 }
 
 -- serving it stopped at its first batch
-abbrev pub Stops : Sight Seen → Sight Seen → ServeEnd → Type 0
+abbrev pub Stops : Sight SeenLink → Sight SeenLink → ServeEnd → Type 0
 Stops before after end = HasStopped itself heads empty_cells 0 0 before after end
 
 -- nobody waits at a door
-abbrev pub nobody : List (List Seen)
+abbrev pub nobody : List (List SeenLink)
 nobody = [] ∷ []
 
 -- somebody does
-abbrev pub somebody : List (List Seen)
+abbrev pub somebody : List (List SeenLink)
 somebody = (link (codes "a") [] 0 ∷ []) ∷ []
 
 pub record ServingFits : Type 0 where
@@ -60,10 +60,13 @@ pub record ServingMisfits : Type 0 where
   -- a door whose count is as before hasn't failed, and one that failed has lost no link
   pub failed : Stops (door somebody 0 0) (door somebody 0 0) Door → ⊥
   pub lost : Stops (door somebody 0 0) (door nobody 1 0) Door → ⊥
+  -- the count of later accepts that failed never falls, whether a batch was driven or not
+  pub fallen : (before after : List (List SeenLink))
+      → Stops (door before 0 1) (door after 0 0) Memory → ⊥
   -- no batch ends it since as many were served as were wanted
-  pub counted : (before after : Sight Seen) → Stops before after Counted → ⊥
-  -- a batch that goes flow after flow doesn't begin with its second flow, nor one with the first whose
-  -- script lists the second
+  pub counted : (before after : Sight SeenLink) → Stops before after Counted → ⊥
+  -- a batch that goes flow after flow doesn't begin with its second flow, nor one with the first
+  -- whose script lists the second
   pub turned : (later : List Entry) → IsInOrder Round side_by_side (by 1 (Enter (no 1)) ∷ later) → ⊥
   pub unlisted : (later : List Entry)
       → IsInOrder (Listed (record { 0 = 1 } ∷ [])) side_by_side (by 0 (Enter (no 0)) ∷ later) → ⊥

@@ -12,36 +12,35 @@ use Rattle.flow_model.specs.declared.journals.Entry.{Entry}
 use Rattle.flow_model.specs.declared.journals.Event.TheVariants.{Call}
 use Rattle.flux_batches.specs.declared.reading.Sent.{Sent}
 use Rattle.flux_batches.specs.declared.reading.ReadLink.{ReadLink}
-use Rattle.flux_batches.specs.Links.{Seen}
+use Rattle.flux_doors.specs.Seen.{SeenLink}
 use Rattle.flux_serve.specs.Ends.{Sight}
 
 -- ---- links, by what is seen of them
 
--- a link whose client sends some bytes, with bytes left to read, those left before its last read, bytes
--- written, and a count of faults
-abbrev pub link_of : List ℕ → List ℕ → List ℕ → List ℕ → ℕ → Seen
+-- a link whose client sends some bytes, with bytes left to read, those left before its last read,
+-- bytes written, and a count of faults
+abbrev pub link_of : List ℕ → List ℕ → List ℕ → List ℕ → ℕ → SeenLink
 link_of had left left_before written faults = record {
   had = Some had;
   left = Some left;
   left_before = Some left_before;
-  written = Some written;
-  faults = faults;
+  stream = record { written = Some written; faults = faults };
 }
 
 -- one of which nothing was read yet
-abbrev pub link : List ℕ → List ℕ → ℕ → Seen
+abbrev pub link : List ℕ → List ℕ → ℕ → SeenLink
 link left written faults = link_of left left left written faults
 
 -- one that was read whole by one read and hasn't failed, with bytes written
-abbrev pub told : List ℕ → List ℕ → Seen
+abbrev pub told : List ℕ → List ℕ → SeenLink
 told had written = link_of had [] had written 0
 
 -- what is seen of it is the link itself
-abbrev pub itself : Seen → Seen
+abbrev pub itself : SeenLink → SeenLink
 itself link = link
 
 -- a link that was read, with what it sent
-abbrev pub read : Seen → Sent → ReadLink Seen
+abbrev pub read : SeenLink → Sent → ReadLink SeenLink
 read link sent = record { link = link; sent = sent }
 
 -- ---- journals
@@ -108,7 +107,7 @@ sources_of_one sources = record {
 -- ---- doors
 
 -- a door that has taken nothing back, with links to come and its two counts; nothing was logged
-abbrev pub door : List (List Seen) → ℕ → ℕ → Sight Seen
+abbrev pub door : List (List SeenLink) → ℕ → ℕ → Sight SeenLink
 door to_come faults late = record {
   to_come = Some to_come;
   taken_back = Some [];

@@ -1,4 +1,5 @@
--- What `audit` has done where the program answered 0 or 8, and that it answers one of them where nothing is in the way.
+-- What `audit` has done where the program answered 0 or 8, and that it answers one of them where
+-- nothing is in the way.
 use Rattle.std.specs.Prelude.{◌≡◌, ◌⊎◌, List, [], ℕ, Option}
 use Rattle.flux_library.specs.Documents.{DocMap}
 use Rattle.flux_outside.specs.declared.stores.File.TheVariants.{Found}
@@ -26,15 +27,16 @@ use Rattle.flux_headline.specs.Headline.{NoneRose}
 
 -- what `audit` has found:
 --   docs, are_docs   the documents of the folder that the words name;
---   audited          the verdict on the journal's text, in the setup of the program and the items of the other two
---                    files, the library with these documents, and empty cells
+--   audited          the verdict on the journal's text, in the setup of the program and the items
+--                    of the other two files, the library with these documents, and empty cells
 pub record HasFound (library : Libraries) (told : Told) (file items journal : List ℕ)
     (dir : Option (List ℕ)) (verdict : Verdict) : Type 0 where
   pub docs : DocMap
   pub are_docs : AreDocs told.folders dir docs
   pub audited : IsAudited (library docs) told.files (named file) (named items) journal verdict
 
--- it has found that the journal is that of a true run, and printed that with the number of its events, and no more
+-- it has found that the journal is that of a true run, and printed that with the number of its
+-- events, and no more
 pub record HasAgreed (library : Libraries) (before after : Seen) (file items journal : List ℕ)
     (dir : Option (List ℕ)) : Type 0 where
   pub events : ℕ
@@ -50,7 +52,8 @@ YesIsTrue = (library : Libraries) (words : List (List ℕ)) (before after : Seen
     → HasDone library words before statuses.Done after
     → HasAgreed library before after file items journal dir
 
--- it has found which line breaks which rule first, and printed that, or a front of it where writing failed
+-- it has found which line breaks which rule first, and printed that, or a front of it where writing
+-- failed
 pub record HasRefuted (library : Libraries) (before after : Seen) (file items journal : List ℕ)
     (dir : Option (List ℕ)) : Type 0 where
   pub line : ℕ
@@ -60,7 +63,8 @@ pub record HasRefuted (library : Libraries) (before after : Seen) (file items jo
       ⊎ Broke before.out after.out (printed_verdict (No line rule))
   pub silent : Gains before.err after.err []
 
--- where the words spell `audit` and the program has answered 8, the journal isn't that of a true run
+-- where the words spell `audit` and the program has answered 8, the journal isn't that of a true
+-- run
 abbrev pub NoIsTrue : Type 0
 NoIsTrue = (library : Libraries) (words : List (List ℕ)) (before after : Seen)
     (file items journal : List ℕ) (dir : Option (List ℕ))
@@ -68,8 +72,8 @@ NoIsTrue = (library : Libraries) (words : List (List ℕ)) (before after : Seen)
     → HasDone library words before statuses.No after
     → HasRefuted library before after file items journal dir
 
--- what `audit` reads is there: the documents, a sound program, the items' file, in which no line has a fault, and the
--- journal's file
+-- what `audit` reads is there: the documents, a sound program, the items' file, in which no line
+-- has a fault, and the journal's file
 pub record IsAuditable (library : Libraries) (told : Told) (file items journal : List ℕ)
     (dir : Option (List ℕ)) : Type 0 where
   pub docs : DocMap
@@ -80,7 +84,8 @@ pub record IsAuditable (library : Libraries) (told : Told) (file items journal :
   pub text : List ℕ
   pub in_journal : Gives told.files journal JOURNAL_FILE_LIMIT (Found text)
 
--- then the program has answered 0 or 8, where all that it reads is reported and no count rose, unless memory was short
+-- then the program has answered 0 or 8, where all that it reads is reported and no count rose,
+-- unless memory was short
 abbrev pub AuditsAreAnswered : Type 0
 AuditsAreAnswered = (library : Libraries) (words : List (List ℕ)) (before after : Seen) (status : Status)
     (file items journal : List ℕ) (dir : Option (List ℕ))

@@ -63,8 +63,8 @@ StatusesHaveCauses = (library : Libraries) (words : List (List ℕ)) (before aft
     → IsExplained library command before after status
     ⊎ HasServedWords library words before status after
 
--- what the files and the folder decide is answered, or 12, where all that the command reads is reported,
--- no count rose, and the door didn't fail
+-- what the files and the folder decide is answered, or 12, where all that the command reads is
+-- reported, no count rose, and the door didn't fail
 abbrev pub CausesAreAnswered : Type 0
 CausesAreAnswered = (library : Libraries) (words : List (List ℕ)) (before after : Seen)
     (status due : Status) (text line : List ℕ) (command : Command) → Spells words command

@@ -8,11 +8,11 @@
 -- limit, and what a stream gained isn't said.
 -- The options of a run are the runtime, `event` where none is named; the folder of
 -- documents; the format, 1 where none is named. `Libraries` gives what the library's nodes mean, by
--- its documents. `Holds` are classes with modes for each node; in a legal journal they are its locks:
--- the classes that it declares, and of those that nodes below it declare the ones up to the last of
--- its own in canonical order, each in its greatest mode. `OrMemory` allows one status more: 12, which
--- means want of memory; that memory was short isn't said. The laws speak of a call that has come
--- back, and hold for every library; that of `top` is `built_in`, of the file `BuiltIn` of
+-- its documents. `Holds` are classes with modes for each node; in a legal journal they are its
+-- locks: the classes that it declares, and of those that nodes below it declare the ones up to the
+-- last of its own in canonical order, each in its greatest mode. `OrMemory` allows one status more:
+-- 12, which means want of memory; that memory was short isn't said. The laws speak of a call that
+-- has come back, and hold for every library; that of `top` is `built_in`, of the file `BuiltIn` of
 -- `flux_commands`.
 --
 -- That a journal is legal says that the locks are the program's, that each entry is of the flow of
@@ -20,15 +20,15 @@
 --   each flow follows its walk: what the program's text lays down from its source's target on, with
 --   the locks taken and dropped on the way;
 --   each call has its node's answer, on the cells as earlier calls left them;
---   no take, up to its drop, overlaps one of another flow on the same key, where one of them writes;
---   nor do sections, each of which is a flow's time in a node that declares a constraint;
+--   no take, up to its drop, overlaps one of another flow on the same key, where one of them
+--   writes; nor do sections, each of which is a flow's time in a node that declares a constraint;
 --   each wait is where a take is blocked, once for that take, and no flow that came later takes the
 --   key in conflict before it, but for one that holds the key already; and no waits form a cycle.
 -- That it is whole says that each item's flow is in it, as one whole path up to its end.
 --
 -- That every other status but 12 comes for its cause alone is in `Explained`, and that what words,
--- files and folder decide is answered, or 12, where all is reported and nothing failed; which counts of
--- failures rise with which status is in `Top` of `flux_driver`.
+-- files and folder decide is answered, or 12, where all is reported and nothing failed; which
+-- counts of failures rise with which status is in `Top` of `flux_driver`.
 use Rattle.std.specs.Prelude.{◌≡◌, List, [], ℕ, length}
 use Rattle.flux_library.specs.Documents.{DocMap}
 use Rattle.flux_model.specs.declared.items.Item.{Item}
@@ -62,7 +62,8 @@ use Rattle.flux_commands.specs.Answers.{Libraries, OrMemory}
 use Rattle.flux_driver.specs.Top.{HasDone}
 
 -- what a run reads, as the world tells it, where `file` and `items` are the names of two files:
---   docs, are_docs         the documents of the folder that the words name; none, where they name none;
+--   docs, are_docs         the documents of the folder that the words name; none, where they name
+--                          none;
 --   text, in_file          the text of the program's file, of at most 2,097,152 bytes;
 --   decls, declared        what that text declares: it has at most 1,048,576 bytes, and none of the
 --                          static faults 1 to 4, which are of the grammar;
@@ -80,21 +81,24 @@ pub record IsThere (library : Libraries) (told : Told) (file items : List ℕ) (
   pub items_text : List ℕ
   pub in_items : Gives told.files items ITEMS_FILE_LIMIT (Found items_text)
 
--- what a journal of these items is judged by: the program of the text, with these locks, empty cells
--- at the start, and the library
+-- what a journal of these items is judged by: the program of the text, with these locks, empty
+-- cells at the start, and the library
 abbrev pub setup_there : {library : Libraries} {told : Told} {file items : List ℕ} {options : RunOptions}
     → IsThere library told file items options → Holds → List Item → Setup
 setup_there {library} there locks its =
     setup_of (program_of there.decls) locks its (library there.docs)
 
 -- what `run` has done:
---   its, are_items   the items' text, line by line, but for blank ones and comments, by the names and
---                    kinds of the program's sources; 4,096 at most, of which the sizes of the sources,
---                    which bound a flow's events without its waits, sum to 4,194,304 at most;
---   journal, locks   a journal of their flows through the program of the text, and the program's locks;
+--   its, are_items   the items' text, line by line, but for blank ones and comments, by the names
+--                    and kinds of the program's sources; 4,096 at most, of which the sizes of the
+--                    sources, which bound a flow's events without its waits, sum to 4,194,304 at
+--                    most;
+--   journal, locks   a journal of their flows through the program of the text, and the program's
+--                    locks;
 --   legal, whole     that journal is legal, and whole;
---   order            from an empty journal on: by `event`, turns up to a call, a wait or the end; by a
---                    script, the flows that it lists, then the lowest; by threads and helpers, any;
+--   order            from an empty journal on: by `event`, turns up to a call, a wait or the end;
+--                    by a script, the flows that it lists, then the lowest; by threads and helpers,
+--                    any;
 --   printed          `out` has gained this journal's printed text in the format of the options, of
 --                    which 2 begins with a line that tells the flows and events; and no more;
 --   silent           `err` has gained nothing.
@@ -120,23 +124,23 @@ RunsAreTrue = (library : Libraries) (words : List (List ℕ)) (before after : Se
     → Spells words (run file items options) → HasDone library words before statuses.Done after
     → HasRun library before after file items options
 
--- no reading of a file or of the folder failed, nor a write of `out`: their counts of failures didn't
--- rise, and none is at the end of its type
+-- no reading of a file or of the folder failed, nor a write of `out`: their counts of failures
+-- didn't rise, and none is at the end of its type
 pub record NoneRose (before after : Seen) : Type 0 where
   pub store : let own = before.store in let later = after.store in Rose own.faults later.faults → ⊥
   pub folder : let own = before.folder in let later = after.folder in Rose own.faults later.faults → ⊥
   pub out : let own = before.out in let later = after.out in Rose own.faults later.faults → ⊥
 
--- no line of the items' text has a fault: each is blank, a comment, or an item of a source's name and
--- kinds, and no limit of items is passed
+-- no line of the items' text has a fault: each is blank, a comment, or an item of a source's name
+-- and kinds, and no limit of items is passed
 abbrev pub AreFaultless : (library : Libraries) (told : Told) (file items : List ℕ) (options : RunOptions)
     → IsThere library told file items options → Type 0
 AreFaultless library told file items options there = (fault : ItemFault)
     → IsFaultOf (rules_in (library there.docs) there.decls there.sound) fault there.items_text → ⊥
 
--- where the words spell `run`, all that it reads is reported and there, the items' text has no fault, and
--- none of these counts rose, the program has answered 0, or 12; of a real world, which doesn't tell
--- what it holds, this says nothing
+-- where the words spell `run`, all that it reads is reported and there, the items' text has no
+-- fault, and none of these counts rose, the program has answered 0, or 12; of a real world, which
+-- doesn't tell what it holds, this says nothing
 abbrev pub RunsAreAnswered : Type 0
 RunsAreAnswered = (library : Libraries) (words : List (List ℕ)) (before after : Seen) (status : Status)
     (file items : List ℕ) (options : RunOptions)

@@ -12,7 +12,8 @@ use Rattle.flux_cli.specs.declared.values.TheConstants.{DIGIT_LIMIT, NUMBER_LIMI
 use Rattle.flux_cli.specs.declared.values.TheConstants.{PORT_LIMIT, BATCHES_LIMIT}
 use Rattle.flux_cli.specs.declared.loads.TheConstants.{LOAD_LIMIT, FIRST_LIMIT}
 use Rattle.flux_cli.specs.declared.costs.TheConstants.{PROCESSOR_LIMIT, COST_LIMIT, COSTS_LIMIT}
-use Rattle.flux_commands.specs.declared.files.TheConstants.{PROGRAM_FILE_LIMIT, ITEMS_FILE_LIMIT, JOURNAL_FILE_LIMIT}
+use Rattle.flux_commands.specs.declared.files.TheConstants.{PROGRAM_FILE_LIMIT, ITEMS_FILE_LIMIT}
+use Rattle.flux_commands.specs.declared.files.TheConstants.{JOURNAL_FILE_LIMIT}
 use Rattle.nodes_cache.specs.declared.entries.TheConstants.{NAME_LIMIT, ENTRY_LIMIT}
 use Rattle.nodes_tracker.specs.declared.peers.TheConstants.{PEER_LIMIT}
 use Rattle.nodes_tracker.specs.declared.replies.TheConstants.{SHOWN_LIMIT}
@@ -42,9 +43,10 @@ pub record AreValueLimits : Type 0 where
   pub counted : COUNT_LIMIT ≡ 1048576
   pub place : PLACE_LIMIT ≡ 4294967295
 
--- in the words of a command: digits of a number, the highest number of a flow, the most workers of a
--- pool, the most items of a load and the highest number that they may be made from, the highest port,
--- the most batches, the most processors of a simulation, what a call costs at most, and the most costs
+-- in the words of a command: digits of a number, the highest number of a flow, the most workers of
+-- a pool, the most items of a load and the highest number that they may be made from, the highest
+-- port, the most batches, the most processors of a simulation, what a call costs at most, and the
+-- most costs
 pub record AreWordLimits : Type 0 where
   pub digits : DIGIT_LIMIT ≡ 10
   pub flow : NUMBER_LIMIT ≡ 4095
@@ -57,8 +59,8 @@ pub record AreWordLimits : Type 0 where
   pub cost : COST_LIMIT ≡ 1000
   pub costs : COSTS_LIMIT ≡ 4096
 
--- in nodes: bytes of a cached name, entries of a cache, fields of a request's head, peers of a swarm, and those of
--- them that an answer shows
+-- in nodes: bytes of a cached name, entries of a cache, fields of a request's head, peers of a
+-- swarm, and those of them that an answer shows
 pub record AreNodeLimits : Type 0 where
   pub name : NAME_LIMIT ≡ 1024
   pub entries : ENTRY_LIMIT ≡ 8

@@ -4,7 +4,8 @@ use Rattle.flux_values.specs.declared.answers.Mode.TheVariants.{Reader, Writer}
 use Rattle.flux_syntax.specs.declared.declarations.Word.{Word}
 use Rattle.flux_syntax.specs.declared.declarations.Param.{Param}
 use Rattle.flux_syntax.specs.declared.declarations.Decl.{Decl}
-use Rattle.flux_syntax.specs.declared.declarations.Decl.TheVariants.{Signature, Flow, Source, Typedef, Atomic, Session}
+use Rattle.flux_syntax.specs.declared.declarations.Decl.TheVariants.{Signature, Flow, Source}
+use Rattle.flux_syntax.specs.declared.declarations.Decl.TheVariants.{Typedef, Atomic, Session}
 
 -- a word at a place of the text
 abbrev pub word : List ℕ → ℕ → Word

@@ -1,4 +1,5 @@
--- What `load` has done where the program answered 0, and that it answers so where nothing is in the way.
+-- What `load` has done where the program answered 0, and that it answers so where nothing is in the
+-- way.
 use Rattle.std.specs.Prelude.{◌≡◌, List, ℕ, None, []}
 use Rattle.flux_library.specs.Documents.{DocMap}
 use Rattle.flux_outside.specs.Streams.{Gains}
@@ -23,8 +24,8 @@ use Rattle.flux_headline.specs.Headline.{NoneRose}
 
 -- what `load` has done:
 --   docs, none   it has no documents;
---   summary      a text is the summary of a true run of its own items through its own program, by the runtime that the
---                words name;
+--   summary      a text is the summary of a true run of its own items through its own program, by
+--                the runtime that the words name;
 --   printed      `out` has gained this text, and no more;
 --   silent       `err` has gained nothing.
 pub record HasLoaded (library : Libraries) (before after : Seen) (count first : ℕ) (runtime : Runtime)
@@ -45,7 +46,8 @@ LoadsAreTrue = (library : Libraries) (words : List (List ℕ)) (before after : S
     → HasDone library words before statuses.Done after
     → HasLoaded library before after count first runtime
 
--- the program of a load is sound for the library without documents, and no line of its items has a fault
+-- the program of a load is sound for the library without documents, and no line of its items has a
+-- fault
 pub record IsLoadable (library : Libraries) (told : Told) (count first : ℕ) : Type 0 where
   pub docs : DocMap
   pub none : AreDocs told.folders None docs

@@ -1,5 +1,5 @@
--- What `check`, `plan`, `format` and `help` have printed where the program answered 0, and that it answers so where
--- nothing is in the way.
+-- What `check`, `plan`, `format` and `help` have printed where the program answered 0, and that it
+-- answers so where nothing is in the way.
 use Rattle.std.specs.Prelude.{◌≡◌, List, [], ℕ, None, ⊤}
 use Rattle.flux_values.specs.Meanings.{LibraryMeaning}
 use Rattle.flux_library.specs.Documents.{DocMap}
@@ -28,8 +28,8 @@ IsLook other = ⊥
 
 -- what it has printed:
 --   docs, none   it has no documents;
---   text, is     `check` the report on the locks of the file's sound program, `plan` that program's plan, `format` the
---                formatted text of what the file declares, `help` the help text;
+--   text, is     `check` the report on the locks of the file's sound program, `plan` that program's
+--                plan, `format` the formatted text of what the file declares, `help` the help text;
 --   printed      `out` has gained this text, and no more;
 --   silent       `err` has gained nothing.
 pub record HasPrinted (library : Libraries) (before after : Seen) (command : Command) : Type 0 where
@@ -46,7 +46,8 @@ PrintsAreTrue = (library : Libraries) (words : List (List ℕ)) (before after : 
     → Spells words command → IsLook command → HasDone library words before statuses.Done after
     → HasPrinted library before after command
 
--- what it looks at is there: a sound program; for `format` a text with declarations; `help` looks at nothing
+-- what it looks at is there: a sound program; for `format` a text with declarations; `help` looks
+-- at nothing
 abbrev pub LooksAt : LibraryMeaning → Files → Command → Type 0
 LooksAt meaning told (check file) = (decls : List Decl) × HasProgram meaning told (named file) decls
 LooksAt meaning told (plan file) = (decls : List Decl) × HasProgram meaning told (named file) decls
@@ -59,7 +60,8 @@ pub record CanLook (library : Libraries) (told : Told) (command : Command) : Typ
   pub none : AreDocs told.folders None docs
   pub there : LooksAt (library docs) told.files command
 
--- then the program has answered 0, where all that it reads is reported and no count rose, unless memory was short
+-- then the program has answered 0, where all that it reads is reported and no count rose, unless
+-- memory was short
 abbrev pub LooksAreAnswered : Type 0
 LooksAreAnswered = (library : Libraries) (words : List (List ℕ)) (before after : Seen) (status : Status)
     (command : Command) → Spells words command → TellsAll before.told command

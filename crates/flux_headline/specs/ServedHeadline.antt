@@ -1,4 +1,5 @@
--- What `serve` has done where the program answered 0, and that it does so where nothing is in the way.
+-- What `serve` has done where the program answered 0, and that it does so where nothing is in the
+-- way.
 use Rattle.std.specs.Prelude.{◌≡◌, ◌⊎◌, List, ℕ}
 use Rattle.flux_library.specs.Documents.{DocMap}
 use Rattle.flux_outside.specs.Causes.{Rose}
@@ -17,14 +18,16 @@ use Rattle.flux_driver.specs.Serving.{HasServedFile}
 use Rattle.flux_driver.specs.Top.{HasDone}
 use Rattle.flux_headline.specs.Headline.{NoneRose}
 
--- the documents and the program that `serve` reads, as the world tells them: the program can be served
+-- the documents and the program that `serve` reads, as the world tells them: the program can be
+-- served
 pub record IsServable (library : Libraries) (told : Told) (file : List ℕ) (serving : Serving)
     : Type 0 where
   pub docs : DocMap
   pub are_docs : AreDocs told.folders serving.docs docs
   pub there : HasServable (library docs) told.files (named file)
 
--- the file's program was served, until the door was closed or as many batches were served as were wanted
+-- the file's program was served, until the door was closed or as many batches were served as were
+-- wanted
 pub record HasServedOut (library : Libraries) (before after : Seen) (file : List ℕ) (serving : Serving)
     : Type 0 where
   pub has : HasServedFile library file serving before after
@@ -37,8 +40,8 @@ ServingIsTrue = (library : Libraries) (words : List (List ℕ)) (before after : 
     → Spells words (serve file serving) → HasDone library words before statuses.Done after
     → HasServedOut library before after file serving
 
--- where the words spell `serve`, all that it reads is reported, the program can be served, and no count rose, nor the door's,
--- the program has answered 0, unless memory was short
+-- where the words spell `serve`, all that it reads is reported, the program can be served, and no
+-- count rose, nor the door's, the program has answered 0, unless memory was short
 abbrev pub ServingIsAnswered : Type 0
 ServingIsAnswered = (library : Libraries) (words : List (List ℕ)) (before after : Seen) (status : Status)
     (file : List ℕ) (serving : Serving)

@@ -1,4 +1,5 @@
--- What `simulate` has done where the program answered 0, and that it answers so where nothing is in the way.
+-- What `simulate` has done where the program answered 0, and that it answers so where nothing is in
+-- the way.
 use Rattle.std.specs.Prelude.{◌≡◌, List, [], ℕ, IsSome}
 use Rattle.flux_values.specs.Meanings.{LibraryMeaning}
 use Rattle.flux_library.specs.Documents.{DocMap}
@@ -22,8 +23,9 @@ use Rattle.flux_headline.specs.Headline.{NoneRose}
 
 -- what `simulate` has done:
 --   docs, are_docs   the documents of the folder that the words name;
---   text, is         a text is the three lines of a run of the items of the one file through the program of the other,
---                    by the rule of simulated processors, on as many of them and with such costs as the words say;
+--   text, is         a text is the three lines of a run of the items of the one file through the
+--                    program of the other, by the rule of simulated processors, on as many of them
+--                    and with such costs as the words say;
 --   printed          `out` has gained this text, and no more;
 --   silent           `err` has gained nothing.
 pub record HasSimulated (library : Libraries) (before after : Seen) (file items : List ℕ) (simulating : Simulating)
@@ -42,7 +44,8 @@ SimulationsAreTrue = (library : Libraries) (words : List (List ℕ)) (before aft
     → Spells words (simulate file items simulating) → HasDone library words before statuses.Done after
     → HasSimulated library before after file items simulating
 
--- what `simulate` reads is there: the documents, a sound program, and the items' file, in which no line has a fault
+-- what `simulate` reads is there: the documents, a sound program, and the items' file, in which no
+-- line has a fault
 pub record CanBeSimulated (library : Libraries) (told : Told) (file items : List ℕ) (simulating : Simulating)
     : Type 0 where
   pub docs : DocMap
@@ -51,7 +54,8 @@ pub record CanBeSimulated (library : Libraries) (told : Told) (file items : List
   pub faultless : (fault : ItemFault) → (let own = has.program_ in
       IsFaultOf (rules_in (library docs) has.decls own.sound) fault has.text) → ⊥
 
--- then the program has answered 0, where all that it reads is reported and no count rose, unless memory was short
+-- then the program has answered 0, where all that it reads is reported and no count rose, unless
+-- memory was short
 abbrev pub SimulationsAreAnswered : Type 0
 SimulationsAreAnswered = (library : Libraries) (words : List (List ℕ)) (before after : Seen) (status : Status)
     (file items : List ℕ) (simulating : Simulating)

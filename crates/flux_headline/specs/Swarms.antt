@@ -44,8 +44,8 @@ SwarmsAreTrue = (library : Libraries) (words : List (List ℕ)) (before after : 
     → HasDone library words before statuses.Done after
     → HasListed library before after file items journal hash dir
 
--- the library that the program is built with has the nodes of `Tracker`: where `swarms` is theirs in
--- a program, the peers are the swarm in the cell
+-- the library that the program is built with has the nodes of `Tracker`: where `swarms` is theirs
+-- in a program, the peers are the swarm in the cell
 abbrev pub TrackersNodesAreBuiltIn : Type 0
 TrackersNodesAreBuiltIn = (docs : DocMap) → HasTrackersNodes (built_in docs)
 
@@ -55,8 +55,8 @@ AddressesHaveSixBytes = (docs : DocMap) (told : Files) (file items journal hash 
     → (swarmed : IsSwarmed (built_in docs) told (named file) (named items) journal hash text)
     → let of = swarmed.is in AllByRecursion (λ peer. length peer.address ≡ 6) of.peers
 
--- where they spell it and the program has answered 8, the journal isn't that of a true run, and it has
--- printed why
+-- where they spell it and the program has answered 8, the journal isn't that of a true run, and it
+-- has printed why
 abbrev pub SwarmsAreRefuted : Type 0
 SwarmsAreRefuted = (library : Libraries) (words : List (List ℕ)) (before after : Seen)
     (file items journal hash : List ℕ) (dir : Option (List ℕ))

@@ -1,12 +1,14 @@
 -- What a folder gives.
-use Rattle.std.specs.Prelude.{◌≡◌, ℕ, ◌≤◌, nat_le, if◌then◌else◌, Bool, true, false, List, [], ◌∷◌, length, Option, Some, None, Result, Ok, Err}
+use Rattle.std.specs.Prelude.{◌≡◌, ℕ, ◌≤◌, nat_le, if◌then◌else◌, Bool, true, false, List, [], ◌∷◌}
+use Rattle.std.specs.Prelude.{length, Option, Some, None, Result, Ok, Err}
 use Rattle.flux_outside.specs.declared.faults.Failed.{Failed}
 use Rattle.flux_outside.specs.declared.faults.StoreFault.{StoreFault}
 use Rattle.flux_outside.specs.declared.folders.NextDoc.{NextDoc}
 use Rattle.flux_outside.specs.declared.folders.NextDoc.TheVariants.{Doc, Longer, NoMore}
 use Rattle.flux_outside.specs.declared.memory.FileBytes.{FileBytes}
 
--- where there is such a folder, its documents are left; else, and where opening failed, those are that were left before
+-- where there is such a folder, its documents are left; else, and where opening failed, those are
+-- that were left before
 abbrev pub IsOpened :
     Option (List FileBytes) → Option (List FileBytes) → Option (List FileBytes) → Result Bool Failed → Type 0
 IsOpened (Some docs) before after (Ok opened) = (opened ≡ true) × (after ≡ Some docs)

@@ -1,5 +1,6 @@
 -- What a sink and a store in memory hold, and when their calls fail.
-use Rattle.std.specs.Prelude.{◌≡◌, ℕ, ◌+◌, ◌≤◌, min, List, length, Option}
+use Rattle.std.specs.Prelude.{◌≡◌, ℕ, ◌+◌, ◌≤◌, min, List, length, Option, Some}
+use Rattle.flux_outside.specs.Streams.{Stream}
 use Rattle.flux_outside.specs.Calls.{no_calls, one_more, IsToFail}
 use Rattle.flux_outside.specs.declared.memory.MemorySink.{MemorySink}
 use Rattle.flux_outside.specs.declared.memory.MemoryStore.{MemoryStore}
@@ -7,12 +8,13 @@ use Rattle.flux_outside.specs.Memory.{first_of}
 
 -- ---- the sink
 
--- all bytes that it took, and its count of faults
+-- all bytes that it took
 abbrev pub sink_bytes : MemorySink → List ℕ
 sink_bytes sink = sink.written.items
 
-abbrev pub sink_faults : MemorySink → ℕ
-sink_faults sink = sink.faults
+-- these are reported, and so is its count of faults
+abbrev pub sink_seen : MemorySink → Stream
+sink_seen sink = record { written = Some (sink_bytes sink); faults = sink.faults }
 
 -- a new sink has this room, these pieces and failing calls, and was not called yet
 abbrev pub IsNewSink : MemorySink → ℕ → ℕ → List ℕ → Type 0

@@ -1,6 +1,5 @@
 -- What a write takes.
-use Rattle.std.specs.Prelude.{ℕ, ◌<◌, ◌≤◌, List, [], ◌++◌, length, take, Option, Result, Ok, Err}
-use Rattle.std.specs.Option.{option_map}
+use Rattle.std.specs.Prelude.{ℕ, ◌<◌, ◌≤◌, List, [], length, take, Result, Ok, Err}
 use Rattle.flux_outside.specs.declared.faults.Failed.{Failed}
 
 -- a write that didn't fail took a front of the bytes, which isn't empty unless they are
@@ -12,7 +11,3 @@ TakesSome (Err e) bytes = Unit {0}
 abbrev pub taken : Result ℕ Failed → List ℕ → List ℕ
 taken (Ok count) bytes = take count bytes
 taken (Err e) bytes = []
-
--- what has been written after it
-abbrev pub gained : Option (List ℕ) → Result ℕ Failed → List ℕ → Option (List ℕ)
-gained written result bytes = option_map (λ before. before ++ taken result bytes) written

@@ -42,7 +42,7 @@ impl Drop for MemorySink {
 }
 
 impl MemorySink {
-    ghost use Rattle.flux_outside.specs.InMemory.{sink_bytes, sink_faults, IsNewSink};
+    ghost use Rattle.flux_outside.specs.InMemory.{sink_bytes, sink_seen, IsNewSink};
 
     /// A sink that takes at most `piece` bytes a call and `room` bytes in all, for which it reserves memory.
     /// The calls whose numbers are in `fails`, counted from 1, fail; so does a call that would pass the room.
@@ -53,8 +53,7 @@ impl MemorySink {
         fails: List<u64>,
     ) -> Result<MemorySink, Memory>
         requires { 0 < piece }
-        ensures empty { IfOk result (λ sink. sink_bytes sink ≡ []) }
-        ensures faultless { IfOk result (λ sink. sink_faults sink ≡ 0) }
+        ensures empty { IfOk result (λ sink. sink_seen sink ≡ record { written = Some []; faults = 0 }) }
         ensures made { IfOk result (λ sink. IsNewSink sink room piece fails) }
     {
         let written = Vec::with_capacity(alloc, room)?;
@@ -78,17 +77,16 @@ impl MemorySink {
 impl Sink for MemorySink {
     ghost use Rattle.std.specs.Prelude.{Some, IfOk, IsOk, length};
     ghost use Rattle.flux_outside.specs.Causes.{HasCause};
-    ghost use Rattle.flux_outside.specs.Sinks.{TakesSome, gained};
-    ghost use Rattle.flux_outside.specs.InMemory.{sink_bytes, sink_faults, piece_of, SinkTakes, SinkWasCalled};
+    ghost use Rattle.flux_outside.specs.Sinks.{TakesSome, taken};
+    ghost use Rattle.flux_outside.specs.Streams.{Gains};
+    ghost use Rattle.flux_outside.specs.InMemory.{sink_seen, piece_of, SinkTakes, SinkWasCalled};
 
-    ghost written = { λ sink. Some (sink_bytes sink) };
-
-    ghost faults = { λ sink. sink_faults sink };
+    ghost seen = { sink_seen };
 
     fn write(&mut self, bytes: &[u8]) -> Result<usize, Failed>
         ensures bound { TakesSome result bytes.now }
-        ensures bytes { Some (sink_bytes self.new) ≡ gained (Some (sink_bytes self.old)) result bytes.now }
-        ensures cause { HasCause (sink_faults self.old) (sink_faults self.new) result }
+        ensures bytes { Gains (sink_seen self.old) (sink_seen self.new) (taken result bytes.now) }
+        ensures cause { HasCause (sink_seen self.old).faults (sink_seen self.new).faults result }
         // It takes as many bytes as a piece has, unless the call is to fail or the room is too small.
         ensures piece { IfOk result (λ taken. taken ≡ piece_of self.old (length bytes.now)) }
         ensures takes { IsOk result ↔ SinkTakes self.old (length bytes.now) }

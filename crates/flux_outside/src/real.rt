@@ -51,15 +51,12 @@ impl<W: Unbuffered> Sink for RealSink<W> {
     ghost use Rattle.std.specs.Prelude.{None};
     ghost use Rattle.std.specs.Io.KnownBytes.{WriteAppends};
     ghost use Rattle.flux_outside.specs.Causes.{HasCause};
-    ghost use Rattle.flux_outside.specs.Sinks.{TakesSome, gained};
+    ghost use Rattle.flux_outside.specs.Sinks.{TakesSome};
 
-    ghost written = { λ _. None };
-
-    ghost faults = { λ sink. sink.faults };
+    ghost seen = { λ sink. record { written = None; faults = sink.faults } };
 
     fn write(&mut self, bytes: &[u8]) -> Result<usize, Failed>
         ensures bound { TakesSome result bytes.now }
-        ensures bytes { None ≡ gained None result bytes.now }
         ensures cause { HasCause self.old.faults self.new.faults result }
         // What std says that its stream has gained is the piece that was taken.
         ensures stream { WriteAppends (W.contents self.old.stream) (W.contents self.new.stream) result bytes.now }

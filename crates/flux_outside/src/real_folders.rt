@@ -1,11 +1,11 @@
 //! The folders of the system: a thin adapter, which tells nothing of what they hold.
 
-ghost use Rattle.std.specs.Prelude.{◌≡◌, ◌++◌, ◌∷◌, [], ℕ, List, true, IfOk, IfSome, OnOk, OnErr};
+ghost use Rattle.std.specs.Prelude.{◌≡◌, ◌++◌, ◌∷◌, [], ℕ, List, true, false, IfOk, IfSome, OnOk, OnErr, MatchOption};
 ghost use Rattle.std.specs.Option.{option_map};
 ghost use Rattle.flux_outside.specs.Causes.{HasCause, HasStoreCause};
 ghost use Rattle.flux_outside.specs.Folders.{DocFits};
 ghost use Rattle.flux_outside.specs.Told.{doc_of};
-ghost use Rattle.flux_outside.specs.Walking.{turn_of};
+ghost use Rattle.flux_outside.specs.Walking.{turn_of, IsNext};
 
 use crate::asked::AskedNames;
 use crate::faults::{Failed, StoreFault};
@@ -213,8 +213,12 @@ impl<R: Files + AllocGlobal + Clone + Drop> RealFolder<R> {
     }
 
     /// Goes on with the folder itself, or with the next subfolder.
+    #[tactic(auto, using(crate::proofs::Lasts::last_taken))]
     fn list_next(&mut self, alloc: Global) -> Result<Step, StoreFault>
         ensures stands { OnErr result (self.new ≡ record self.old { files = self.new.files }) }
+        ensures once { result ≡ Ok Step.On → self.new.fresh ≡ false }
+        ensures begun { result ≡ Ok Step.On → MatchOption self.new.listing ⊥ (λ listing.
+            IsNext self.old.fresh self.old.pending self.new.pending listing.prefix) }
         ensures asked { self.new.asked ≡ self.old.asked }
         ensures cause { HasStoreCause self.old.files.faults self.new.files.faults result }
     {

@@ -8,13 +8,9 @@ use crate::sinks::Sink;
 
 /// Writes all of the bytes, in as many calls as the sink needs.
 pub fn write_all<O: Sink>(out: &mut O, bytes: &[u8]) -> Result<(), Failed>
-    ensures later { O.faults out.old ≤ O.faults out.new }
-    ensures wrote { OnOk result (Wrote
-        (record { written = O.written out.old; faults = O.faults out.old })
-        (record { written = O.written out.new; faults = O.faults out.new }) bytes.now) }
-    ensures broke { OnErr result (Broke
-        (record { written = O.written out.old; faults = O.faults out.old })
-        (record { written = O.written out.new; faults = O.faults out.new }) bytes.now) }
+    ensures later { (O.seen out.old).faults ≤ (O.seen out.new).faults }
+    ensures wrote { OnOk result (Wrote (O.seen out.old) (O.seen out.new) bytes.now) }
+    ensures broke { OnErr result (Broke (O.seen out.old) (O.seen out.new) bytes.now) }
 {
     let mut rest = bytes;
     while !rest.is_empty() {

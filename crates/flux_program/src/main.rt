@@ -6,7 +6,7 @@ ghost use Rattle.std.specs.IoError.{error_kind};
 ghost use Rattle.std.specs.Process.{exit_status};
 ghost use Rattle.flux_commands.specs.Statuses.{code_of};
 ghost use Rattle.flux_commands.specs.BuiltIn.{built_in};
-ghost use Rattle.flux_driver.specs.Seen.{seen_by, door_by, link_by};
+ghost use Rattle.flux_driver.specs.Seen.{seen_by};
 ghost use Rattle.flux_driver.specs.Top.{HasDone};
 
 use flux_doors::{Door, RealDoor};
@@ -94,9 +94,7 @@ fn answer_in<S: Store, F: Folder, O: Sink, E: Sink, D: Door, Rt: Threads + Wait 
     ensures there { IsErr world.new → IsErr world.old }
     ensures words { IsErr words → (exit_status result ≡ code_of Status.Memory) × (world.new ≡ world.old) }
     ensures world { IsErr world.old → exit_status result ≡ code_of Status.Memory }
-    ensures done { let seen = seen_by S.files S.asked S.faults F.folders F.asked F.faults O.written O.faults
-        E.written E.faults (door_by (link_by D.Link.had D.Link.left D.Link.left_before D.Link.written D.Link.faults)
-        D.to_come D.taken_back D.open_at D.faults D.late) in
+    ensures done { let seen = seen_by S.files S.asked S.faults F.folders F.asked F.faults O.seen E.seen D.Link.seen D.seen in
         IfOk words (λ given. IfOk world.old (λ before. IfOk world.new (λ after.
         (status : Status) × (exit_status result ≡ code_of status)
         × HasDone built_in given (seen before) status (seen after)))) }

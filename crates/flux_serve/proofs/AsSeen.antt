@@ -11,21 +11,32 @@ use Rattle.flux_outside.specs.Streams.{Stream, Wrote, Broke}
 use Rattle.flux_journal.specs.Logs.{printed_batch}
 use Rattle.flux_doors.specs.Doors.{waiting, first_link}
 use Rattle.flux_doors.specs.declared.framing.Framing.{Framing}
+use Rattle.flux_doors.specs.Seen.{SeenLink, TakesBack}
 use Rattle.flux_batches.specs.declared.reading.ReadLink.{ReadLink}
-use Rattle.flux_batches.specs.Links.{Seen, WereRead, AreRead, item_sent, items_from}
-use Rattle.flux_batches.specs.Replies.{AreAnswered, flow_behind, TakesBack}
+use Rattle.flux_batches.specs.Links.{WereRead, AreRead, item_sent, items_from}
+use Rattle.flux_batches.specs.Replies.{AreAnswered, flow_behind}
 use Rattle.flux_batches.specs.Gathered.{AreFirst, AreAll, AreGathered}
 use Rattle.flux_serve.specs.declared.batches.ServeEnd.{ServeEnd}
 use Rattle.flux_serve.specs.declared.batches.ServeEnd.TheVariants.{Closed, Counted, Door, Log, Memory}
 use Rattle.flux_serve.specs.Orders.{IsInOrder}
 use Rattle.flux_serve.specs.Batches.{Service, Batch, batch_setup, IsDriven, cells_behind, number_behind, empty_cells}
-use Rattle.flux_serve.specs.Ends.{Sight, as_seen, HasDriven, AreServed, cells_at_end, number_at_end, AreUnwritten, IsUndriven, Stands, HasStopped, HasEnded, HasServed}
+use Rattle.flux_serve.specs.Ends.{Sight, HasDriven, AreServed, cells_at_end, number_at_end, AreUnwritten, IsUndriven, Stands, HasStopped, HasEnded, HasServed}
+
+-- a sight with links as what is seen of them
+abbrev pub as_seen : {L : Type 0} → (L → SeenLink) → Sight L → Sight SeenLink
+as_seen see sight = record {
+  to_come = option_map (map (map see)) sight.to_come;
+  taken_back = option_map (map see) sight.taken_back;
+  faults = sight.faults;
+  late = sight.late;
+  log = sight.log;
+}
 
 -- links that are seen as they are
-abbrev pub itself : Seen → Seen
+abbrev pub itself : SeenLink → SeenLink
 itself link = link
 
-module _ {L : Type 0} (see : L → Seen) where
+module _ {L : Type 0} (see : L → SeenLink) where
   -- ---- batches at a door
 
   waiting_seen : (batches : List (List L)) → waiting (map (map see) batches) ≡ map (map see) (waiting batches)
@@ -46,7 +57,7 @@ module _ {L : Type 0} (see : L → Seen) where
   first_seen before after links first = record {
     left = map see first.left;
     others = map (map see) first.others;
-    first = waiting_seen before ∙ (ap (map (map see)) first.first ∙ ap (λ (l : List Seen). l ∷ map (map see) first.others) (map-append see links first.left));
+    first = waiting_seen before ∙ (ap (map (map see)) first.first ∙ ap (λ (l : List SeenLink). l ∷ map (map see) first.others) (map-append see links first.left));
     behind = ap (map (map see)) first.behind;
   }
 
@@ -71,7 +82,7 @@ module _ {L : Type 0} (see : L → Seen) where
 
   -- ---- links that were read
 
-  abbrev pub request_seen : ReadLink L → ReadLink Seen
+  abbrev pub request_seen : ReadLink L → ReadLink SeenLink
   request_seen request = record { link = see request.link; sent = request.sent }
 
   pub read_seen : (framing : Framing) (links : List L) (requests : List (ReadLink L)) → WereRead see framing links requests [] → WereRead itself framing (map see links) (map request_seen requests) []
@@ -94,7 +105,7 @@ module _ {L : Type 0} (see : L → Seen) where
 
   -- ---- a batch
 
-  abbrev pub batch_seen : Batch L → Batch Seen
+  abbrev pub batch_seen : Batch L → Batch SeenLink
   batch_seen batch = record { came = map see batch.came; requests = map request_seen batch.requests; back = map see batch.back; journal = batch.journal }
 
   cells_seen : (service : Service) (opening : Cells) (number : ℕ) (batch : Batch L) → cells_behind service opening number (batch_seen batch) ≡ cells_behind service opening number batch
@@ -128,6 +139,7 @@ module _ {L : Type 0} (see : L → Seen) where
         driven = driven_seen service opening number batch d.driven;
         back = taken_seen before.taken_back after.taken_back batch.back d.back;
         steady = d.steady;
+        later = d.later;
         gained = subst G (sym (items_seen number batch.requests)) d.gained;
       }
 
@@ -172,6 +184,7 @@ module _ {L : Type 0} (see : L → Seen) where
     back = taken_seen before.taken_back after.taken_back u.backs u.back;
     unwritten = unwritten_seen framing u.came u.backs u.unwritten;
     steady = u.steady;
+    later = u.later;
     log_ = u.log_;
   }
 

@@ -1,7 +1,7 @@
 -- Batches that were served at once, one after another.
 use Rattle.std.proofs.Common.{inl, inr, ℕ, ◌<◌, subst, arith}
 use Rattle.flow_model.specs.Keys.{Cells}
-use Rattle.flux_batches.specs.Links.{Seen}
+use Rattle.flux_doors.specs.Seen.{SeenLink}
 use Rattle.flux_serve.specs.declared.batches.ServeEnd.{ServeEnd}
 use Rattle.flux_serve.specs.Batches.{Service, empty_cells}
 use Rattle.flux_serve.specs.Ends.{Sight, cells_at_end}
@@ -10,7 +10,7 @@ use Rattle.flux_serve.specs.steps.Batches.{StopsAtOnce}
 use Rattle.flux_serve.proofs.OneByOne.{SoFar, served_some}
 
 -- the next batch ended it
-pub at_once_some : {L : Type 0} (see : L → Seen) (service : Service) (before mid after : Sight L) (count number : ℕ) (cells : Cells) (wanted : ℕ) (end : ServeEnd)
+pub at_once_some : {L : Type 0} (see : L → SeenLink) (service : Service) (before mid after : Sight L) (count number : ℕ) (cells : Cells) (wanted : ℕ) (end : ServeEnd)
     → SoFar see service before mid count number cells → count < wanted
     → StopsAtOnce see service cells count number mid after end → HasServedAtOnce see service wanted before after end
 at_once_some see service before mid after count number cells wanted end s fewer (inl stopped) =

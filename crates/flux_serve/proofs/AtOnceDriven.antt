@@ -1,5 +1,5 @@
 -- A batch that was served at once: driven whole, or only begun.
-use Rattle.std.proofs.Common.{◌≡◌, ℕ, zero, suc, ◌<◌, Bool, true, false, cond, List, [], length, Option, sym, ap, subst, refl, inl, inr, arith}
+use Rattle.std.proofs.Common.{◌≡◌, ℕ, zero, suc, ◌<◌, ◌≤◌, Bool, true, false, cond, List, [], length, Option, sym, ap, subst, refl, inl, inr, arith}
 use Rattle.std.specs.Prelude.{Result, Ok, Err, IfErr}
 use Rattle.flux_model.specs.declared.items.Item.{Item}
 use Rattle.flow_model.specs.declared.journals.Entry.{Entry}
@@ -10,9 +10,10 @@ use Rattle.flow_model.specs.Legal.{IsLegal, IsWhole}
 use Rattle.flux_laws.specs.Growth.{has_ended}
 use Rattle.flow_state.proofs.Ended.{one_live, live_in, whole-has_ended}
 use Rattle.flux_cells.specs.Kept.{Kept}
+use Rattle.flux_doors.specs.Seen.{SeenLink, TakesBack}
 use Rattle.flux_batches.specs.declared.reading.ReadLink.{ReadLink}
-use Rattle.flux_batches.specs.Links.{Seen, AreRead, items_from}
-use Rattle.flux_batches.specs.Replies.{TakesBack, AreAllAnswered}
+use Rattle.flux_batches.specs.Links.{AreRead, items_from}
+use Rattle.flux_batches.specs.Replies.{AreAllAnswered}
 use Rattle.flux_batches.specs.Gathered.{AreGathered}
 use Rattle.flux_serve.specs.declared.batches.Run.{Run}
 use Rattle.flux_serve.specs.declared.batches.ServeEnd.{ServeEnd}
@@ -25,12 +26,12 @@ use Rattle.flux_serve.proofs.Driven.{stopped_none}
 use Rattle.flux_serve.proofs.Backs.{back-answered, back-so-far}
 
 -- links that were taken back
-abbrev pub TakenBack : {L : Type 0} → (L → Seen) → Bool → List Entry → List (ReadLink L) → Option (List L) → Option (List L) → Type 0
+abbrev pub TakenBack : {L : Type 0} → (L → SeenLink) → Bool → List Entry → List (ReadLink L) → Option (List L) → Option (List L) → Type 0
 TakenBack {L} see whole entries requests before after =
     (backs : List L) × (next : ℕ) × TakesBack before after backs × AreBack see whole entries 0 requests backs [] next
 
 -- those of a batch that was driven whole were answered
-pub all-answered : {L : Type 0} → (see : L → Seen) (setup : Setup) (entries : List Entry) → IsLegal setup entries → (requests : List (ReadLink L))
+pub all-answered : {L : Type 0} → (see : L → SeenLink) (setup : Setup) (entries : List Entry) → IsLegal setup entries → (requests : List (ReadLink L))
     (before after : Option (List L)) (whole : Bool) → whole ≡ true → TakenBack see whole entries requests before after
     → AreAllAnswered see entries requests before after
 all-answered see setup entries legal requests before after true is back = record {
@@ -41,7 +42,7 @@ all-answered see setup entries legal requests before after true is back = record
 all-answered see setup entries legal requests before after false is back = absurd cc
 
 -- what is known of a batch that was begun
-pub record Begun {L : Type 0} (see : L → Seen) (service : Service) (opening : Cells) (number : ℕ) (before after : Sight L) (requests : List (ReadLink L)) (items : List Item) (journal : Journal) : Type 0 where
+pub record Begun {L : Type 0} (see : L → SeenLink) (service : Service) (opening : Cells) (number : ℕ) (before after : Sight L) (requests : List (ReadLink L)) (items : List Item) (journal : Journal) : Type 0 where
   pub to_come : Option (List (List L))
   pub taken_back : Option (List L)
   pub late : ℕ
@@ -54,10 +55,11 @@ pub record Begun {L : Type 0} (see : L → Seen) (service : Service) (opening : 
   pub returned : TakenBack see false journal.entries requests taken_back after.taken_back
   pub come : after.to_come ≡ to_come
   pub late_ : after.late ≡ late
+  pub later : before.late ≤ after.late
   pub steady : after.faults ≡ before.faults
   pub log_ : after.log ≡ before.log
 
-pub begun-of : {L : Type 0} → (see : L → Seen) (service : Service) (opening : Cells) (number : ℕ) (before after : Sight L) (requests : List (ReadLink L)) (items : List Item) (journal : Journal)
+pub begun-of : {L : Type 0} → (see : L → SeenLink) (service : Service) (opening : Cells) (number : ℕ) (before after : Sight L) (requests : List (ReadLink L)) (items : List Item) (journal : Journal)
     → Begun see service opening number before after requests items journal
     → (begun : Batch L) × IsBegun see service opening number begun before after
 begun-of {L} see service opening number before after requests items journal b =
@@ -78,6 +80,7 @@ begun-of {L} see service opening number before after requests items journal b =
         replies = back-so-far see (batch_setup service opening items) journal.entries b.legal 0 requests b.returned.0 b.returned.1 b.returned.3;
         back = subst T b.back b.returned.2;
         steady = b.steady;
+        later = b.later;
         log_ = b.log_;
       },
     )
@@ -98,7 +101,7 @@ whole-none-live setup entries whole = none-live entries (length setup.items) (λ
 
 -- ---- how it ended
 
-module _ {L : Type 0} (see : L → Seen) (service : Service) (opening : Cells) (count number : ℕ) (before after : Sight L) where
+module _ {L : Type 0} (see : L → SeenLink) (service : Service) (opening : Cells) (count number : ℕ) (before after : Sight L) where
   pub none_stops : (end : ServeEnd) → IsNoneAtOnce see service opening number before after end → StopsAtOnce see service opening count number before after end
   none_stops end (inl none) = inl (stopped_none see service opening count number before after end none)
   none_stops end (inr begun) = inr begun
@@ -109,7 +112,7 @@ module _ {L : Type 0} (see : L → Seen) (service : Service) (opening : Cells) (
   stops_if (Err end) stopped = inl stopped
 
 -- no batch was driven, and so none was at once
-pub none_at_once : {L : Type 0} → (see : L → Seen) (service : Service) (opening : Cells) (number : ℕ) (before after : Sight L)
+pub none_at_once : {L : Type 0} → (see : L → SeenLink) (service : Service) (opening : Cells) (number : ℕ) (before after : Sight L)
     (result : Result Run ServeEnd) → IfErr result (IsNone see service.framing before after) → IfErr result (IsNoneAtOnce see service opening number before after)
 none_at_once see service opening number before after (Ok run) none = tt
 none_at_once see service opening number before after (Err end) none = inl none

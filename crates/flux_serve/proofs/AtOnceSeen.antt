@@ -7,18 +7,18 @@ use Rattle.flow_model.specs.Keys.{Cells}
 use Rattle.flow_model.specs.Legal.{IsLegal, IsWhole}
 use Rattle.flux_outside.specs.Causes.{Rose}
 use Rattle.flux_outside.specs.Streams.{Stream}
+use Rattle.flux_doors.specs.Seen.{SeenLink}
 use Rattle.flux_batches.specs.declared.reading.ReadLink.{ReadLink}
-use Rattle.flux_batches.specs.Links.{Seen}
 use Rattle.flux_batches.specs.Replies.{flow_behind}
 use Rattle.flux_serve.specs.declared.batches.ServeEnd.{ServeEnd}
 use Rattle.flux_serve.specs.declared.batches.ServeEnd.TheVariants.{Door, Log}
 use Rattle.flux_serve.specs.Batches.{Service, Batch, batch_setup, empty_cells}
-use Rattle.flux_serve.specs.Ends.{Sight, as_seen, cells_at_end, number_at_end}
+use Rattle.flux_serve.specs.Ends.{Sight, cells_at_end, number_at_end}
 use Rattle.flux_serve.specs.AtOnce.{AreAnsweredSoFar, IsBegun, HasBrokenOff, HasServedAtOnce}
-use Rattle.flux_serve.proofs.AsSeen.{itself, request_seen, batch_seen, gathered_seen, taken_seen, read_seen, each_seen, items_seen, served_seen, cells_end, number_end, served_as_seen}
+use Rattle.flux_serve.proofs.AsSeen.{as_seen, itself, request_seen, batch_seen, gathered_seen, taken_seen, read_seen, each_seen, items_seen, served_seen, cells_end, number_end, served_as_seen}
 use Rattle.flux_serve.proofs.Counted.{log_faults, door_steady, log_steady, door_rose, door_same, log_rose, log_same}
 
-module _ {L : Type 0} (see : L → Seen) where
+module _ {L : Type 0} (see : L → SeenLink) where
   so_far_seen : (entries : List Entry) (flow : ℕ) (requests : List (ReadLink L)) (backs : List L) → AreAnsweredSoFar see entries flow requests backs
       → AreAnsweredSoFar itself entries flow (map (request_seen see) requests) (map see backs)
   so_far_seen entries flow [] [] a = tt
@@ -43,6 +43,7 @@ module _ {L : Type 0} (see : L → Seen) where
         replies = so_far_seen journal.entries 0 batch.requests batch.back b.replies;
         back = taken_seen see before.taken_back after.taken_back batch.back b.back;
         steady = b.steady;
+        later = b.later;
         log_ = b.log_;
       }
 
@@ -68,7 +69,7 @@ module _ {L : Type 0} (see : L → Seen) where
   at_once_seen service wanted before after end (inl served) = inl (served_as_seen see service wanted before after end served)
   at_once_seen service wanted before after end (inr broken) = inr (broken.0, broken_seen service wanted before after broken.1)
 
-module _ {L : Type 0} (see : L → Seen) (service : Service) (wanted : ℕ) (before after : Sight L) where
+module _ {L : Type 0} (see : L → SeenLink) (service : Service) (wanted : ℕ) (before after : Sight L) where
   broken_door : HasBrokenOff see service wanted before after → after.faults ≡ before.faults
   broken_door b = let broken = b.broken in broken.steady ∙ door_steady see service empty_cells 0 0 before b.mid b.batches b.served
 

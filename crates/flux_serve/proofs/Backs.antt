@@ -9,10 +9,10 @@ use Rattle.flow_model.specs.Legal.{IsLegal}
 use Rattle.flux_laws.specs.Growth.{is_end, has_ended}
 use Rattle.flux_laws.proofs.OwnEvents.{events_by-append}
 use Rattle.flux_outside.specs.Streams.{WroteOrBroke}
+use Rattle.flux_doors.specs.Seen.{SeenLink, IsUnread}
 use Rattle.flux_batches.specs.declared.reading.Sent.{Sent}
 use Rattle.flux_batches.specs.declared.reading.Sent.TheVariants.{Text, Failed, Memory}
 use Rattle.flux_batches.specs.declared.reading.ReadLink.{ReadLink}
-use Rattle.flux_batches.specs.Links.{Seen, IsUnread, stream_of}
 use Rattle.flux_batches.specs.Replies.{reply_of, flow_behind, IsAnswered, AreAnswered}
 use Rattle.flux_serve.specs.AtOnce.{IsAnsweredSoFar, AreAnsweredSoFar}
 use Rattle.flux_serve.specs.declared.replies.PendingReply.{PendingReply}
@@ -34,12 +34,12 @@ ended-more : (entries more : List Entry) (flow : ℕ) → has_ended entries flow
 ended-more entries more flow ended =
     ap (list_any is_end) (events_by-append flow entries more) ∙ any-left is_end (events_by flow entries) (events_by flow more) ended
 
-module _ (setup : Setup) (entries : List Entry) (legal : IsLegal setup entries) (flow : ℕ) (before after : Seen) where
-  wrote-all : (sent : Sent) → IsFromFront entries flow before after sent → WroteOrBroke (stream_of before) (stream_of after) (reply_of flow entries)
+module _ (setup : Setup) (entries : List Entry) (legal : IsLegal setup entries) (flow : ℕ) (before after : SeenLink) where
+  wrote-all : (sent : Sent) → IsFromFront entries flow before after sent → WroteOrBroke before.stream after.stream (reply_of flow entries)
   wrote-all sent from =
       let same : reply_of flow entries ≡ reply_of flow from.front =
       ap (reply_of flow) from.is ∙ reply-stays setup from.front from.more (subst (IsLegal setup) from.is legal) flow from.ended in
-      subst (WroteOrBroke (stream_of before) (stream_of after)) (sym same) from.wrote
+      subst (WroteOrBroke before.stream after.stream) (sym same) from.wrote
 
   from-answered : (sent : Sent) → IsFromFront entries flow before after sent → IsAnswered entries flow before after sent
   from-answered (Text text) from = wrote-all (Text text) from
@@ -52,7 +52,7 @@ module _ (setup : Setup) (entries : List Entry) (legal : IsLegal setup entries) 
   from-so-far Failed from = absurd from.text
   from-so-far Memory from = absurd from.text
 
-  none-so-far : (sent : Sent) → stream_of after ≡ stream_of before → IsAnsweredSoFar entries flow before after sent
+  none-so-far : (sent : Sent) → after.stream ≡ before.stream → IsAnsweredSoFar entries flow before after sent
   none-so-far (Text text) same = inl same
   none-so-far Failed same = same
   none-so-far Memory same = same
@@ -67,7 +67,7 @@ module _ (setup : Setup) (entries : List Entry) (legal : IsLegal setup entries) 
 
 -- ---- all links
 
-module _ {K : Type 0} (see : K → Seen) (setup : Setup) (entries : List Entry) (legal : IsLegal setup entries) where
+module _ {K : Type 0} (see : K → SeenLink) (setup : Setup) (entries : List Entry) (legal : IsLegal setup entries) where
   -- of a batch that was driven whole
   pub back-answered : (flow : ℕ) (requests : List (ReadLink K)) (backs : List K) (next : ℕ)
       → AreBack see true entries flow requests backs [] next → AreAnswered see entries flow requests backs []
@@ -92,7 +92,7 @@ module _ {K : Type 0} (see : K → Seen) (setup : Setup) (entries : List Entry) 
   )
 
 -- one link more
-pub back-more : {K : Type 0} → (see : K → Seen) (whole : Bool) (entries : List Entry) (flow : ℕ) (requests : List (ReadLink K)) (backs : List K)
+pub back-more : {K : Type 0} → (see : K → SeenLink) (whole : Bool) (entries : List Entry) (flow : ℕ) (requests : List (ReadLink K)) (backs : List K)
     (request : ReadLink K) (rest : List (ReadLink K)) (next : ℕ) (link : K)
     → AreBack see whole entries flow requests backs (request ∷ rest) next → IsUnread (see request.link) (see link)
     → IsBack whole entries next (see request.link) (see link) request.sent
@@ -107,15 +107,15 @@ back-more see whole entries flow (one ∷ requests) (first ∷ backs) request re
 
 -- ---- a link that is answered when it is taken back, if it has to be
 
-module _ {K : Type 0} (see : K → Seen) (entries : List Entry) where
+module _ {K : Type 0} (see : K → SeenLink) (entries : List Entry) where
   -- one that sent nothing is as it was
-  silent-same : (link : Seen) (flow : ℕ) (sent : Sent) → (HasText sent → ⊥) → IsAnswered entries flow link link sent
+  silent-same : (link : SeenLink) (flow : ℕ) (sent : Sent) → (HasText sent → ⊥) → IsAnswered entries flow link link sent
   silent-same link flow (Text text) silent = absurd (silent tt)
   silent-same link flow Failed silent = refl
   silent-same link flow Memory silent = refl
 
-  text-answered : (before after : Seen) (flow : ℕ) (sent : Sent) → HasText sent
-      → WroteOrBroke (stream_of before) (stream_of after) (reply_of flow entries) → IsAnswered entries flow before after sent
+  text-answered : (before after : SeenLink) (flow : ℕ) (sent : Sent) → HasText sent
+      → WroteOrBroke before.stream after.stream (reply_of flow entries) → IsAnswered entries flow before after sent
   text-answered before after flow (Text text) has wrote = wrote
   text-answered before after flow Failed has wrote = absurd has
   text-answered before after flow Memory has wrote = absurd has
@@ -135,7 +135,7 @@ module _ {K : Type 0} (see : K → Seen) (entries : List Entry) where
 
       by : (b : Bool) → (b ≡ true → HasText request.sent → before.written ≡ true)
           → (let flow = before.flow in MatchBool b (IsAnswered entries flow.0 (see request.link) (see request.link) request.sent)
-          (stream_of (see request.link) ≡ stream_of (see request.link)))
+          ((see request.link).stream ≡ (see request.link).stream))
       by false over' = refl
       by true over' = let flow = before.flow in
           silent-same (see request.link) flow.0 request.sent (λ has. let is : false ≡ true = sym fresh ∙ over' refl has in absurd cc)
@@ -144,14 +144,14 @@ module _ {K : Type 0} (see : K → Seen) (entries : List Entry) where
   pub answered-now : (before old : PendingReply K) (link : K) → before.written ≡ false → IsReplySoFar see entries before old
       → (let request = old.request in HasText request.sent) → old.written ≡ false
       → (let request = old.request in IsUnread (see request.link) (see link))
-      → (let request = old.request in let flow = old.flow in WroteOrBroke (stream_of (see request.link)) (stream_of (see link)) (reply_of flow.0 entries))
+      → (let request = old.request in let flow = old.flow in WroteOrBroke (see request.link).stream (see link).stream (reply_of flow.0 entries))
       → IsBackOf see true entries before link
   answered-now before old link fresh (inr was) has unwritten same wrote =
       let is : false ≡ true = sym unwritten ∙ was.written_ in absurd cc
   answered-now before old link fresh (inl is) has unwritten same wrote =
       let P : PendingReply K → Type 0 = λ reply. (let request = reply.request in HasText request.sent)
       → (let request = reply.request in IsUnread (see request.link) (see link))
-      → (let request = reply.request in let flow = reply.flow in WroteOrBroke (stream_of (see request.link)) (stream_of (see link)) (reply_of flow.0 entries))
+      → (let request = reply.request in let flow = reply.flow in WroteOrBroke (see request.link).stream (see link).stream (reply_of flow.0 entries))
       → IsBackOf see true entries before link in
       subst P (sym is) (λ has' same' wrote'. let request = before.request in let flow = before.flow in
       (same', inl (text-answered (see request.link) (see link) flow.0 request.sent has' wrote'))) has same wrote

@@ -3,7 +3,7 @@ use Rattle.std.proofs.Common.{◌≡◌, ◌⊎◌, inl, inr, ℕ, ◌+◌, List
 use Rattle.flow_model.specs.Keys.{Cells}
 use Rattle.flux_outside.specs.Causes.{Rose}
 use Rattle.flux_outside.specs.Streams.{Stream}
-use Rattle.flux_batches.specs.Links.{Seen}
+use Rattle.flux_doors.specs.Seen.{SeenLink}
 use Rattle.flux_serve.specs.declared.batches.ServeEnd.{ServeEnd}
 use Rattle.flux_serve.specs.declared.batches.ServeEnd.TheVariants.{Closed, Counted, Door, Log, Memory}
 use Rattle.flux_serve.specs.Batches.{Service, Batch, cells_behind, number_behind, empty_cells}
@@ -13,7 +13,7 @@ use Rattle.flux_serve.specs.Ends.{Sight, HasDriven, AreServed, cells_at_end, num
 abbrev pub log_faults : {L : Type 0} → Sight L → ℕ
 log_faults sight = let log = sight.log in log.faults
 
-module _ {L : Type 0} (see : L → Seen) (service : Service) where
+module _ {L : Type 0} (see : L → SeenLink) (service : Service) where
   -- batches that were served leave both counts
   pub door_steady : (opening : Cells) (count number : ℕ) (before after : Sight L) (batches : List (Batch L)) → AreServed see service opening count number before after batches → after.faults ≡ before.faults
   door_steady opening count number before after [] served = ap (λ (s : Sight L). s.faults) served

@@ -7,9 +7,9 @@ use Rattle.std.proofs.lemmas.Grind.{get_or-set_at}
 use Rattle.std.proofs.lemmas.List.{get_or-set_other, length-set, append-nil}
 use Rattle.std.proofs.lemmas.List.Elements.{All-get_or}
 use Rattle.flow_model.specs.declared.journals.Entry.{Entry}
+use Rattle.flux_doors.specs.Seen.{SeenLink, TakesBack}
 use Rattle.flux_batches.specs.declared.reading.ReadLink.{ReadLink}
-use Rattle.flux_batches.specs.Links.{Seen}
-use Rattle.flux_batches.specs.Replies.{flow_behind, TakesBack}
+use Rattle.flux_batches.specs.Replies.{flow_behind}
 use Rattle.flux_batches.proofs.Giving.{back_none, back_more}
 use Rattle.flux_serve.specs.declared.replies.PendingReply.{PendingReply}
 use Rattle.flux_serve.specs.declared.queues.WorkerQueue.{WorkerQueue}
@@ -112,12 +112,12 @@ dealt-all queues all (request ∷ left) flow room so_far none_left worker none b
 -- ---- taking back
 
 -- each queue has its share of the links that are left
-abbrev pub Pending : {S K : Type 0} → (K → Seen) → List Entry → List (WorkerQueue S K) → ℕ → List (ReadLink K) → Type 0
+abbrev pub Pending : {S K : Type 0} → (K → SeenLink) → List Entry → List (WorkerQueue S K) → ℕ → List (ReadLink K) → Type 0
 Pending {S} {K} see entries queues flow rest = (worker : ℕ) (none : WorkerQueue S K) → worker < length queues
     → AreRepliesSoFar see entries (share (length queues) worker flow rest) (replies_of (slice_index_or queues worker none))
 
 -- some links were given back, and so many are left
-pub record GivenSo {S K : Type 0} (see : K → Seen) (whole : Bool) (entries : List Entry) (requests : List (ReadLink K))
+pub record GivenSo {S K : Type 0} (see : K → SeenLink) (whole : Bool) (entries : List Entry) (requests : List (ReadLink K))
     (before now : Option (List K)) (queues : List (WorkerQueue S K)) (flow left : ℕ) : Type 0 where
   pub backs : List K
   pub rest : List (ReadLink K)
@@ -126,7 +126,7 @@ pub record GivenSo {S K : Type 0} (see : K → Seen) (whole : Bool) (entries : L
   pub size : length rest ≡ left
   pub pending : Pending see entries queues flow rest
 
-pub given-start : {S K : Type 0} → (see : K → Seen) (whole : Bool) (entries : List Entry) (requests : List (ReadLink K))
+pub given-start : {S K : Type 0} → (see : K → SeenLink) (whole : Bool) (entries : List Entry) (requests : List (ReadLink K))
     (before : Option (List K)) (queues : List (WorkerQueue S K)) (count : ℕ) → length requests ≡ count
     → Pending see entries queues 0 requests → GivenSo see whole entries requests before before queues 0 count
 given-start see whole entries requests before queues count size pending = record {
@@ -139,13 +139,13 @@ given-start see whole entries requests before queues count size pending = record
 }
 
 -- the front of a queue whose share isn't empty
-front-of : {K : Type 0} → (see : K → Seen) (entries : List Entry) (old : PendingReply K) (olds replies : List (PendingReply K))
+front-of : {K : Type 0} → (see : K → SeenLink) (entries : List Entry) (old : PendingReply K) (olds replies : List (PendingReply K))
     → AreRepliesSoFar see entries (old ∷ olds) replies
     → (reply : PendingReply K) × (tail : List (PendingReply K)) × (replies ≡ reply ∷ tail) × IsReplySoFar see entries old reply × AreRepliesSoFar see entries olds tail
 front-of see entries old olds [] are = absurd are
 front-of see entries old olds (reply ∷ tail) are = (reply, tail, refl, are.0, are.1)
 
-module _ {S K : Type 0} (see : K → Seen) (whole : Bool) (entries : List Entry) (requests : List (ReadLink K))
+module _ {S K : Type 0} (see : K → SeenLink) (whole : Bool) (entries : List Entry) (requests : List (ReadLink K))
     (before now : Option (List K)) (queues : List (WorkerQueue S K)) (flow left worker : ℕ) (own : flow % length queues ≡ worker)
     (within : worker < length queues) where
   -- the queue whose turn it is has a link
@@ -219,7 +219,7 @@ module _ {S K : Type 0} (see : K → Seen) (whole : Bool) (entries : List Entry)
                 (subst L (share-other (length queues) flow request rest w (λ e. apart (sym own ∙ e))) old)))
 
 -- nothing is left
-pub given-all : {S K : Type 0} → (see : K → Seen) (whole : Bool) (entries : List Entry) (requests : List (ReadLink K))
+pub given-all : {S K : Type 0} → (see : K → SeenLink) (whole : Bool) (entries : List Entry) (requests : List (ReadLink K))
     (before now : Option (List K)) (queues : List (WorkerQueue S K)) (flow left : ℕ) → GivenSo see whole entries requests before now queues flow left
     → left ≡ 0 → (backs : List K) × (next : ℕ) × TakesBack before now backs × AreBack see whole entries 0 requests backs [] next
 given-all {S} {K} see whole entries requests before now queues flow left given none = (given.backs, flow, given.taken, by given.rest given.size given.back)

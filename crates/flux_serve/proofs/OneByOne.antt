@@ -3,7 +3,7 @@ use Rattle.std.proofs.Common.{◌≡◌, ℕ, ◌+◌, ◌<◌, List, [], ◌∷
 use Rattle.flow_model.specs.Keys.{Cells}
 use Rattle.flux_cells.specs.Kept.{cells_of}
 use Rattle.flux_outside.specs.Streams.{Wrote}
-use Rattle.flux_batches.specs.Links.{Seen}
+use Rattle.flux_doors.specs.Seen.{SeenLink}
 use Rattle.flux_serve.specs.declared.batches.ServeEnd.{ServeEnd}
 use Rattle.flux_serve.specs.declared.batches.ServeEnd.TheVariants.{Closed, Counted, Door, Log, Memory}
 use Rattle.flux_serve.specs.Batches.{Service, Batch, cells_behind, number_behind, empty_cells}
@@ -11,7 +11,7 @@ use Rattle.flux_serve.specs.Ends.{Sight, HasDriven, AreServed, cells_at_end, num
 use Rattle.flux_serve.specs.steps.Batches.{HasPassed}
 
 -- one batch more was served
-served_more : {L : Type 0} (see : L → Seen) (service : Service) (opening : Cells) (count number : ℕ) (before mid after : Sight L) (batches : List (Batch L)) (batch : Batch L) (at : ℕ) → at ≡ count + length batches
+served_more : {L : Type 0} (see : L → SeenLink) (service : Service) (opening : Cells) (count number : ℕ) (before mid after : Sight L) (batches : List (Batch L)) (batch : Batch L) (at : ℕ) → at ≡ count + length batches
     → AreServed see service opening count number before mid batches → HasDriven see service (cells_at_end service opening number batches) at (number_at_end number batches) batch mid after Wrote
     → AreServed see service opening count number before after (batches ++ batch ∷ [])
 served_more {L} see service opening count number before mid after [] batch at is same driven =
@@ -31,17 +31,17 @@ number_more number [] batch = refl
 number_more number (first ∷ batches) batch = number_more (number_behind number first) batches batch
 
 -- so many batches were served, and left these cells and the number of the next link
-pub record SoFar {L : Type 0} (see : L → Seen) (service : Service) (before now : Sight L) (count number : ℕ) (cells : Cells) : Type 0 where
+pub record SoFar {L : Type 0} (see : L → SeenLink) (service : Service) (before now : Sight L) (count number : ℕ) (cells : Cells) : Type 0 where
   pub batches : List (Batch L)
   pub served : AreServed see service empty_cells 0 0 before now batches
   pub count_ : length batches ≡ count
   pub cells_ : cells ≡ cells_at_end service empty_cells 0 batches
   pub number_ : number ≡ number_at_end 0 batches
 
-pub so_far_none : {L : Type 0} (see : L → Seen) (service : Service) (before : Sight L) → SoFar see service before before 0 0 (cells_of [])
+pub so_far_none : {L : Type 0} (see : L → SeenLink) (service : Service) (before : Sight L) → SoFar see service before before 0 0 (cells_of [])
 so_far_none see service before = record { batches = []; served = refl; count_ = refl; cells_ = refl; number_ = refl }
 
-pub so_far_more : {L : Type 0} (see : L → Seen) (service : Service) (before mid after : Sight L) (count number : ℕ) (cells : Cells) (next : ℕ) (left : Cells)
+pub so_far_more : {L : Type 0} (see : L → SeenLink) (service : Service) (before mid after : Sight L) (count number : ℕ) (cells : Cells) (next : ℕ) (left : Cells)
     → SoFar see service before mid count number cells → HasPassed see service cells count number mid after left next → SoFar see service before after (count + 1) next left
 so_far_more {L} see service before mid after count number cells next left s p =
     let C : Cells → Type 0 = λ k. HasDriven see service k count number p.batch mid after Wrote in
@@ -56,11 +56,11 @@ so_far_more {L} see service before mid after count number cells next left s p =
     }
 
 -- as many as were wanted
-pub served_all : {L : Type 0} (see : L → Seen) (service : Service) (before now : Sight L) (count number : ℕ) (cells : Cells) (wanted : ℕ) → SoFar see service before now count number cells → count ≡ wanted → HasServed see service wanted before now Counted
+pub served_all : {L : Type 0} (see : L → SeenLink) (service : Service) (before now : Sight L) (count number : ℕ) (cells : Cells) (wanted : ℕ) → SoFar see service before now count number cells → count ≡ wanted → HasServed see service wanted before now Counted
 served_all see service before now count number cells wanted s all = record { batches = s.batches; mid = now; served = s.served; ended = (s.count_ ∙ all, refl) }
 
 -- the next batch ended it
-ended_of : {L : Type 0} (see : L → Seen) (service : Service) (wanted : ℕ) (batches : List (Batch L)) (mid after : Sight L) (end : ServeEnd) → length batches < wanted
+ended_of : {L : Type 0} (see : L → SeenLink) (service : Service) (wanted : ℕ) (batches : List (Batch L)) (mid after : Sight L) (end : ServeEnd) → length batches < wanted
     → HasStopped see service (cells_at_end service empty_cells 0 batches) (length batches) (number_at_end 0 batches) mid after end → HasEnded see service wanted batches mid after end
 ended_of see service wanted batches mid after Closed fewer s = (fewer, s)
 ended_of see service wanted batches mid after Counted fewer s = absurd s
@@ -68,7 +68,7 @@ ended_of see service wanted batches mid after Door fewer s = (fewer, s)
 ended_of see service wanted batches mid after Log fewer s = (fewer, s)
 ended_of see service wanted batches mid after Memory fewer s = (fewer, s)
 
-pub served_some : {L : Type 0} (see : L → Seen) (service : Service) (before mid after : Sight L) (count number : ℕ) (cells : Cells) (wanted : ℕ) (end : ServeEnd) → SoFar see service before mid count number cells → count < wanted
+pub served_some : {L : Type 0} (see : L → SeenLink) (service : Service) (before mid after : Sight L) (count number : ℕ) (cells : Cells) (wanted : ℕ) (end : ServeEnd) → SoFar see service before mid count number cells → count < wanted
     → HasStopped see service cells count number mid after end → HasServed see service wanted before after end
 served_some {L} see service before mid after count number cells wanted end s fewer stopped =
     let C : Cells → Type 0 = λ k. HasStopped see service k count number mid after end in

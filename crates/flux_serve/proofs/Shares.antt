@@ -2,8 +2,8 @@
 use Rattle.std.proofs.Common.{◌≡◌, inl, inr, ℕ, zero, suc, ◌%◌, ◌<◌, Bool, if◌then◌else◌, List, [], ◌∷◌, ◌++◌, length, slice_index_or, refl, sym, ap, ◌∙◌, append_assoc, arith}
 use Rattle.std.proofs.lemmas.Bool.{eq-eqb, ne_eqb}
 use Rattle.flow_model.specs.declared.journals.Entry.{Entry}
+use Rattle.flux_doors.specs.Seen.{SeenLink}
 use Rattle.flux_batches.specs.declared.reading.ReadLink.{ReadLink}
-use Rattle.flux_batches.specs.Links.{Seen}
 use Rattle.flux_batches.specs.Replies.{flow_behind}
 use Rattle.flux_serve.specs.declared.replies.PendingReply.{PendingReply}
 use Rattle.flux_serve.specs.steps.PendingReplies.{IsReplySoFar, AreRepliesSoFar, to_answer, share}
@@ -36,7 +36,7 @@ module _ {K : Type 0} (workers flow : ℕ) (request : ReadLink K) (rest : List (
 
 -- ---- links, each at its place
 
-module _ {K : Type 0} (see : K → Seen) where
+module _ {K : Type 0} (see : K → SeenLink) where
   -- by places, and one after another
   pub replies-each : (entries : List Entry) (old new : List (PendingReply K)) → length new ≡ length old
       → ((place : ℕ) (none : PendingReply K) → place < length old → IsReplySoFar see entries (slice_index_or old place none) (slice_index_or new place none))

@@ -1,27 +1,28 @@
 -- Links that were read, and not written.
 use Rattle.std.proofs.Common.{◌≡◌, inl, inr, ℕ, ◌+◌, ◌≤◌, List, [], ◌∷◌, length, length-append, map, refl, sym, subst, arith}
 use Rattle.flux_doors.specs.declared.framing.Framing.{Framing}
+use Rattle.flux_doors.specs.Seen.{SeenLink}
 use Rattle.flux_batches.specs.declared.reading.Sent.{Sent}
 use Rattle.flux_batches.specs.declared.reading.Sent.TheVariants.{Text, Failed, Memory}
 use Rattle.flux_batches.specs.declared.reading.ReadLink.{ReadLink}
-use Rattle.flux_batches.specs.Links.{Seen, IsSent, IsReadNoFurther, WereRead, item_sent, items_from}
+use Rattle.flux_batches.specs.Links.{IsSent, IsReadNoFurther, WereRead, item_sent, items_from}
 use Rattle.flux_serve.specs.Ends.{AreUnwritten}
 
-pub unwritten_same : {L : Type 0} → (see : L → Seen) (framing : Framing) (links : List L) → AreUnwritten see framing links links
+pub unwritten_same : {L : Type 0} → (see : L → SeenLink) (framing : Framing) (links : List L) → AreUnwritten see framing links links
 unwritten_same see framing [] = tt
 unwritten_same see framing (link ∷ links) = (refl, refl, inl (refl, refl, refl), unwritten_same see framing links)
 
-sent_unwritten : (framing : Framing) (before after : Seen) (sent : Sent) → IsSent framing before after sent → after.written ≡ before.written
+sent_unwritten : (framing : Framing) (before after : SeenLink) (sent : Sent) → IsSent framing before after sent → after.stream.written ≡ before.stream.written
 sent_unwritten framing before after (Text text) is = is.2
 sent_unwritten framing before after Failed is = is.1
 sent_unwritten framing before after Memory is = is.1
 
-sent_no_further : (framing : Framing) (before after : Seen) (sent : Sent) → IsSent framing before after sent → IsReadNoFurther framing before after
+sent_no_further : (framing : Framing) (before after : SeenLink) (sent : Sent) → IsSent framing before after sent → IsReadNoFurther framing before after
 sent_no_further framing before after (Text text) is = is.3
 sent_no_further framing before after Failed is = is.2
 sent_no_further framing before after Memory is = is.2
 
-pub unwritten_request : {L : Type 0} → (see : L → Seen) (framing : Framing) (links : List L) (requests : List (ReadLink L)) → WereRead see framing links requests [] → AreUnwritten see framing links (map (λ request. request.link) requests)
+pub unwritten_request : {L : Type 0} → (see : L → SeenLink) (framing : Framing) (links : List L) (requests : List (ReadLink L)) → WereRead see framing links requests [] → AreUnwritten see framing links (map (λ request. request.link) requests)
 unwritten_request {L} see framing links [] is = let P : List L → Type 0 = λ l. AreUnwritten see framing l [] in subst P (sym is) tt
 unwritten_request see framing [] (request ∷ requests) is = absurd is
 unwritten_request see framing (link ∷ links) (request ∷ requests) is =

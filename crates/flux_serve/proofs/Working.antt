@@ -17,7 +17,7 @@ use Rattle.flow_shared.specs.Turns.{IsTurnOf, given}
 use Rattle.flow_shared.specs.declared.seats.SharedTurn.{SharedTurn}
 use Rattle.flux_laws.specs.Growth.{has_ended}
 use Rattle.flux_outside.specs.Streams.{WroteOrBroke}
-use Rattle.flux_batches.specs.Links.{Seen, IsUnread, stream_of}
+use Rattle.flux_doors.specs.Seen.{SeenLink, IsUnread}
 use Rattle.flux_batches.specs.Replies.{reply_of}
 use Rattle.flux_serve.specs.declared.replies.PendingReply.{PendingReply}
 use Rattle.flux_serve.specs.steps.PendingReplies.{HasText, IsReplySoFar, AreRepliesSoFar}
@@ -63,7 +63,7 @@ other-default [] place one other below = absurd (omega (arith, below))
 other-default (x ∷ xs) zero one other below = refl
 other-default (x ∷ xs) (suc place) one other below = other-default xs place one other (omega (arith, below))
 
-module _ {K : Type 0} (see : K → Seen) where
+module _ {K : Type 0} (see : K → SeenLink) where
   pub reply-so-later : (seen later : List Entry) (old new : PendingReply K) → BeginsWith later seen → IsReplySoFar see seen old new → IsReplySoFar see later old new
   reply-so-later seen later old new begins is =
       let P : List Entry → Type 0 = λ l. IsReplySoFar see l old new in subst P (sym begins.1) (reply-later see seen begins.0 old new is)
@@ -78,7 +78,7 @@ module _ {K : Type 0} (see : K → Seen) where
       → (let request = old.request in let request' = new.request in request'.sent ≡ request.sent)
       → new.written ≡ true → (let flow = old.flow in has_ended seen flow.0 ≡ true)
       → (let request = old.request in let request' = new.request in let flow = old.flow in
-      WroteOrBroke (stream_of (see request.link)) (stream_of (see request'.link)) (reply_of flow.0 seen))
+      WroteOrBroke (see request.link).stream (see request'.link).stream (reply_of flow.0 seen))
       → IsReplySoFar see seen old new
   replied-so seen old new text same sent written ended wrote = inr (record {
     sent_ = sent;
@@ -180,7 +180,7 @@ module _ {L K : Type 0} where
   }
 
   -- a worker did its work, its seat was joined, and the core went on
-  pub worked-joined : (see : K → Seen) (shared : SharedState L) (entries : List Entry) (seat : SeatState L) (first seated worked joined : WorkerQueue (SeatState L) K)
+  pub worked-joined : (see : K → SeenLink) (shared : SharedState L) (entries : List Entry) (seat : SeatState L) (first seated worked joined : WorkerQueue (SeatState L) K)
       → seated.replies ≡ first.replies → HasWorked see shared seated worked → WasJoined seat worked joined → BeginsWith entries seat.seen
       → (let replies = first.replies in let replies' = joined.replies in AreRepliesSoFar see entries replies.items replies'.items)
   worked-joined see shared entries seat first seated worked joined same has was begins =
@@ -195,5 +195,5 @@ module _ {L K : Type 0} where
       subst O same (subst N (sym was.replies_) are)
 
   -- a queue has its seat after the work, too
-  pub has-worked : (see : K → Seen) (shared : SharedState L) (old new : WorkerQueue (SeatState L) K) → HasWorked see shared old new → HasSeat shared new
+  pub has-worked : (see : K → SeenLink) (shared : SharedState L) (old new : WorkerQueue (SeatState L) K) → HasWorked see shared old new → HasSeat shared new
   has-worked see shared old new has = record { seat = has.seat; seat_ = has.seat_; shared_ = has.shared_ }

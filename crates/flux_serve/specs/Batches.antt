@@ -12,8 +12,9 @@ use Rattle.flow_model.specs.Legal.{IsLegal, IsWhole}
 use Rattle.flux_laws.specs.Hoisted.{locks_of}
 use Rattle.flux_journal.specs.Logs.{printed_batch}
 use Rattle.flux_doors.specs.declared.framing.Framing.{Framing}
+use Rattle.flux_doors.specs.Seen.{SeenLink}
 use Rattle.flux_batches.specs.declared.reading.ReadLink.{ReadLink}
-use Rattle.flux_batches.specs.Links.{Seen, WereRead, AreRead, items_from}
+use Rattle.flux_batches.specs.Links.{WereRead, AreRead, items_from}
 use Rattle.flux_batches.specs.Replies.{AreAnswered}
 use Rattle.flux_serve.specs.declared.orders.BatchOrder.{BatchOrder}
 use Rattle.flux_serve.specs.Orders.{IsInOrder}
@@ -48,10 +49,10 @@ pub record Batch (L : Type 0) : Type 0 where
 abbrev pub batch_items : {L : Type 0} → ℕ → Batch L → List Item
 batch_items number batch = items_from number batch.requests
 
--- its links were read, its journal is legal and whole for its items from these cells and in the order
--- that is served, and each link was written the reply of its flow
-pub record IsDriven {L : Type 0} (see : L → Seen) (service : Service) (opening : Cells) (number : ℕ)
-    (batch : Batch L) : Type 0 where
+-- its links were read, its journal is legal and whole for its items from these cells and in the
+-- order that is served, and each link was written the reply of its flow
+pub record IsDriven {L : Type 0} (see : L → SeenLink) (service : Service) (opening : Cells)
+    (number : ℕ) (batch : Batch L) : Type 0 where
   pub read : WereRead see service.framing batch.came batch.requests []
   pub each : AreRead batch.requests
   pub legal : let journal = batch.journal in

@@ -1,14 +1,13 @@
 -- What serving has done, batch after batch, and how it ended.
-use Rattle.std.specs.Prelude.{◌≡◌, ℕ, ◌+◌, ◌<◌, ◌≤◌, ◌⊎◌, List, [], ◌∷◌, length, map}
+use Rattle.std.specs.Prelude.{◌≡◌, ℕ, ◌+◌, ◌<◌, ◌≤◌, ◌⊎◌, List, [], ◌∷◌, length}
 use Rattle.std.specs.Prelude.{Option, None, IfSome}
-use Rattle.std.specs.Option.{option_map}
 use Rattle.flow_model.specs.Keys.{Cells}
 use Rattle.flux_outside.specs.Causes.{Rose}
 use Rattle.flux_outside.specs.Streams.{Stream, Wrote, Broke}
 use Rattle.flux_doors.specs.Doors.{waiting, first_link}
 use Rattle.flux_doors.specs.declared.framing.Framing.{Framing}
-use Rattle.flux_batches.specs.Links.{Seen, IsSame, IsUnread, IsReadNoFurther}
-use Rattle.flux_batches.specs.Replies.{TakesBack}
+use Rattle.flux_doors.specs.Seen.{SeenLink, SeenDoor, IsSame, IsUnread, TakesBack}
+use Rattle.flux_batches.specs.Links.{IsReadNoFurther}
 use Rattle.flux_batches.specs.Gathered.{AreGathered}
 use Rattle.flux_serve.specs.declared.batches.ServeEnd.{ServeEnd}
 use Rattle.flux_serve.specs.declared.batches.ServeEnd.TheVariants.{Closed, Counted, Door}
@@ -16,8 +15,8 @@ use Rattle.flux_serve.specs.declared.batches.ServeEnd.TheVariants.{Log, Memory}
 use Rattle.flux_serve.specs.Batches.{Service, Batch, IsDriven, batch_text}
 use Rattle.flux_serve.specs.Batches.{cells_behind, number_behind, empty_cells}
 
--- a door and a log: the links to come and those taken back, where they are reported, the door's counts,
--- and the log
+-- a door and a log: the links to come and those taken back, where they are reported, the door's
+-- counts, and the log
 pub record Sight (L : Type 0) : Type 0 where
   pub to_come : Option (List (List L))
   pub taken_back : Option (List L)
@@ -25,19 +24,20 @@ pub record Sight (L : Type 0) : Type 0 where
   pub late : ℕ
   pub log : Stream
 
--- the same with links as what is seen of them
-abbrev pub as_seen : {L : Type 0} → (L → Seen) → Sight L → Sight Seen
-as_seen see sight = record {
-  to_come = option_map (map (map see)) sight.to_come;
-  taken_back = option_map (map see) sight.taken_back;
-  faults = sight.faults;
-  late = sight.late;
-  log = sight.log;
+-- what is seen of a door, beside a log
+abbrev pub sight_of : {L : Type 0} → SeenDoor L → Stream → Sight L
+sight_of door log = record {
+  to_come = door.to_come;
+  taken_back = door.taken_back;
+  faults = door.faults;
+  late = door.late;
+  log = log;
 }
 
 -- a batch was driven: its links are the first of the door's next batch, one to 64, and went back;
--- the log gained its text, or what is said of it
-pub record HasDriven {L : Type 0} (see : L → Seen) (service : Service) (opening : Cells)
+-- the door's count is as before, and that of later accepts didn't fall; the log gained its text, or
+-- what is said of it
+pub record HasDriven {L : Type 0} (see : L → SeenLink) (service : Service) (opening : Cells)
     (count number : ℕ) (batch : Batch L) (before after : Sight L)
     (Gained : Stream → Stream → List ℕ → Type 0) : Type 0 where
   pub formed : AreGathered before.to_come after.to_come before.late after.late batch.came
@@ -45,11 +45,12 @@ pub record HasDriven {L : Type 0} (see : L → Seen) (service : Service) (openin
   pub driven : IsDriven see service opening number batch
   pub back : TakesBack before.taken_back after.taken_back batch.back
   pub steady : after.faults ≡ before.faults
+  pub later : before.late ≤ after.late
   pub gained : Gained before.log after.log (batch_text service count number batch)
 
 -- batches were served one after another: each was driven from the cells that the one before left,
 -- and its text was written
-abbrev pub AreServed : {L : Type 0} → (L → Seen) → Service → Cells → ℕ → ℕ → Sight L → Sight L
+abbrev pub AreServed : {L : Type 0} → (L → SeenLink) → Service → Cells → ℕ → ℕ → Sight L → Sight L
     → List (Batch L) → Type 0
 AreServed see service opening count number before after [] = after ≡ before
 AreServed {L} see service opening count number before after (batch ∷ batches) =
@@ -73,18 +74,19 @@ number_at_end number (batch ∷ batches) = number_at_end (number_behind number b
 
 -- links went back, each at its place, with nothing written on them; each wasn't read, or no further
 -- than its text needs
-abbrev pub AreUnwritten : {L : Type 0} → (L → Seen) → Framing → List L → List L → Type 0
+abbrev pub AreUnwritten : {L : Type 0} → (L → SeenLink) → Framing → List L → List L → Type 0
 AreUnwritten see framing [] [] = Unit {0}
 AreUnwritten see framing (link ∷ links) (back ∷ backs) =
     let old = see link in let new = see back in
-    IsSame old new × (new.written ≡ old.written)
+    IsSame old new × (new.stream.written ≡ old.stream.written)
     × (IsUnread old new ⊎ IsReadNoFurther framing old new) × AreUnwritten see framing links backs
 AreUnwritten see framing [] (back ∷ backs) = ⊥
 AreUnwritten see framing (link ∷ links) [] = ⊥
 
 -- a batch that wasn't driven: the first links of the door's next batch, at most 64; or none, where
--- the door gave nothing; the log and the door's count are as before
-pub record IsUndriven {L : Type 0} (see : L → Seen) (framing : Framing) (before after : Sight L)
+-- the door gave nothing; the log and the door's count are as before, and that of later accepts didn't
+-- fall
+pub record IsUndriven {L : Type 0} (see : L → SeenLink) (framing : Framing) (before after : Sight L)
     : Type 0 where
   pub came : List L
   pub backs : List L
@@ -94,6 +96,7 @@ pub record IsUndriven {L : Type 0} (see : L → Seen) (framing : Framing) (befor
   pub back : TakesBack before.taken_back after.taken_back backs
   pub unwritten : AreUnwritten see framing came backs
   pub steady : after.faults ≡ before.faults
+  pub later : before.late ≤ after.late
   pub log_ : after.log ≡ before.log
 
 -- the log is as before
@@ -101,7 +104,7 @@ abbrev pub Stands : Stream → Stream → List ℕ → Type 0
 Stands before after text = after ≡ before
 
 -- how the batch after those that were served ended
-abbrev pub HasStopped : {L : Type 0} → (L → Seen) → Service → Cells → ℕ → ℕ → Sight L → Sight L
+abbrev pub HasStopped : {L : Type 0} → (L → SeenLink) → Service → Cells → ℕ → ℕ → Sight L → Sight L
     → ServeEnd → Type 0
 HasStopped see service opening count number before after Closed =
     IfSome before.to_come (λ batches. first_link (waiting batches) ≡ None)
@@ -118,25 +121,17 @@ HasStopped {L} see service opening count number before after Memory =
     ⊎ ((batch : Batch L) × HasDriven see service opening count number batch before after Stands)
 
 -- as many batches as were wanted, or fewer
-abbrev pub HasEnded : {L : Type 0} → (L → Seen) → Service → ℕ → List (Batch L) → Sight L → Sight L
-    → ServeEnd → Type 0
+abbrev pub HasEnded : {L : Type 0} → (L → SeenLink) → Service → ℕ → List (Batch L) → Sight L
+    → Sight L → ServeEnd → Type 0
 HasEnded see service wanted batches before after Counted =
     (length batches ≡ wanted) × (after ≡ before)
-HasEnded see service wanted batches before after Closed = (length batches < wanted)
+HasEnded see service wanted batches before after end =
+    (length batches < wanted)
     × HasStopped see service (cells_at_end service empty_cells 0 batches) (length batches)
-    (number_at_end 0 batches) before after Closed
-HasEnded see service wanted batches before after Door = (length batches < wanted)
-    × HasStopped see service (cells_at_end service empty_cells 0 batches) (length batches)
-    (number_at_end 0 batches) before after Door
-HasEnded see service wanted batches before after Log = (length batches < wanted)
-    × HasStopped see service (cells_at_end service empty_cells 0 batches) (length batches)
-    (number_at_end 0 batches) before after Log
-HasEnded see service wanted batches before after Memory = (length batches < wanted)
-    × HasStopped see service (cells_at_end service empty_cells 0 batches) (length batches)
-    (number_at_end 0 batches) before after Memory
+    (number_at_end 0 batches) before after end
 
 -- serving: batches that were served, and how it ended after them
-pub record HasServed {L : Type 0} (see : L → Seen) (service : Service) (wanted : ℕ)
+pub record HasServed {L : Type 0} (see : L → SeenLink) (service : Service) (wanted : ℕ)
     (before after : Sight L) (end : ServeEnd) : Type 0 where
   pub batches : List (Batch L)
   pub mid : Sight L

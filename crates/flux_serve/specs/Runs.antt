@@ -1,5 +1,5 @@
 -- Calls that run the items of batches, as `serve_by` takes them.
-use Rattle.std.specs.Prelude.{◌≡◌, ℕ, ◌≤◌, List, length, Result, IfOk}
+use Rattle.std.specs.Prelude.{◌≡◌, ◌≤◌, List, length, Result, IfOk}
 use Rattle.std.specs.List.{AllByRecursion}
 use denote.Ref.{MutBor}
 use denote.Param.Members.{Shared}
@@ -13,8 +13,8 @@ use Rattle.flux_batches.specs.Links.{IsLinkItem}
 use Rattle.flux_serve.specs.Orders.{IsInOrder}
 use Rattle.flux_serve.specs.Batches.{Service, batch_setup}
 
--- a journal that is legal and whole for these items from these cells, and in the order that is served;
--- and the cells after it
+-- a journal that is legal and whole for these items from these cells, and in the order that is
+-- served; and the cells after it
 pub record IsRun (service : Service) (opening : Kept) (items : List Item) (run : Journal × Kept)
     : Type 0 where
   pub legal : let journal = run.0 in

@@ -6,12 +6,14 @@ ghost use Rattle.flow_model.specs.CellsAfter.{cells_after};
 ghost use Rattle.flow_model.specs.Legal.{IsLegal, IsWhole};
 ghost use Rattle.flux_cells.specs.Kept.{cells_of};
 ghost use Rattle.flux_outside.specs.Streams.{Stream, Wrote};
+ghost use Rattle.flux_doors.specs.Seen.{IsLater};
 ghost use Rattle.flux_journal.specs.Logs.{printed_batch};
-ghost use Rattle.flux_batches.specs.Links.{seen_by, AreRead, items_from};
+ghost use Rattle.flux_batches.specs.Links.{AreRead, items_from};
 ghost use Rattle.flux_serve.specs.Orders.{IsInOrder};
 ghost use Rattle.flux_serve.specs.Batches.{batch_setup};
 ghost use Rattle.flux_serve.specs.Runs.{MayRun, Runs};
-ghost use Rattle.flux_serve.specs.steps.Batches.{sight_in, service_in, IsTaken, IsNone, HasFinished, HasRun};
+ghost use Rattle.flux_serve.specs.Ends.{sight_of};
+ghost use Rattle.flux_serve.specs.steps.Batches.{service_in, IsTaken, IsNone, HasFinished, HasRun};
 
 use crate::runs::{Served, run_items};
 use flow_model::Journal;
@@ -61,20 +63,16 @@ pub fn take<D: Door, Rt: Threads + Sync>(
     framing: Framing,
 ) -> Result<VecDeque<ReadLink<D::Link>>, ServeEnd>
     requires { D.out door.old ≡ 0 }
-    ensures taken { IfOk result (λ requests. IsTaken
-        (seen_by D.Link.had D.Link.left D.Link.left_before D.Link.written D.Link.faults)
-        framing (D.to_come door.old) (D.to_come door.new) (D.late door.old) (D.late door.new) requests.items) }
+    ensures taken { IfOk result (λ requests. IsTaken D.Link.seen framing (D.seen door.old).to_come (D.seen door.new).to_come (D.seen door.old).late (D.seen door.new).late requests.items) }
     ensures out { IfOk result (λ requests. (D.out door.new ≡ deque_len requests) × (deque_len requests ≤ 64)) }
     ensures some { IfOk result (λ requests. 0 < deque_len requests) }
-    ensures back { OnOk result (D.taken_back door.new ≡ D.taken_back door.old) }
-    ensures open { D.open_at door.new ≡ D.open_at door.old }
-    ensures steady { OnOk result (D.faults door.new ≡ D.faults door.old) }
+    ensures back { OnOk result ((D.seen door.new).taken_back ≡ (D.seen door.old).taken_back) }
+    ensures open { (D.seen door.new).open_at ≡ (D.seen door.old).open_at }
+    ensures steady { OnOk result ((D.seen door.new).faults ≡ (D.seen door.old).faults) }
     ensures none_out { OnErr result (D.out door.new ≡ 0) }
-    ensures later { (D.faults door.old ≤ D.faults door.new) × (D.late door.old ≤ D.late door.new) }
-    ensures none { (log : Stream) → IfErr result (IsNone
-        (seen_by D.Link.had D.Link.left D.Link.left_before D.Link.written D.Link.faults) framing
-        (sight_in D.to_come D.taken_back D.faults D.late door.old log)
-        (sight_in D.to_come D.taken_back D.faults D.late door.new log)) }
+    ensures later { IsLater (D.seen door.old) (D.seen door.new) }
+    ensures none { (log : Stream) → IfErr result (IsNone D.Link.seen framing
+        (sight_of (D.seen door.old) log) (sight_of (D.seen door.new) log)) }
 {
     let links = match gather(alloc, door) {
         Ok(links) => links,
@@ -158,18 +156,13 @@ pub fn drive_batch<
     requires numbers { number + 64 < 2 ^ 63 }
     ensures again { MayRun F.Fn run.now state.new }
     ensures out { D.out door.new ≡ 0 }
-    ensures open { D.open_at door.new ≡ D.open_at door.old }
-    ensures later { (D.faults door.old ≤ D.faults door.new) × (D.late door.old ≤ D.late door.new) }
+    ensures open { (D.seen door.new).open_at ≡ (D.seen door.old).open_at }
+    ensures later { IsLater (D.seen door.old) (D.seen door.new) }
     ensures bound { IfOk result (λ run. run.next ≤ number + 64) }
-    ensures ran { (log : Stream) → IfOk result (HasRun
-        (seen_by D.Link.had D.Link.left D.Link.left_before D.Link.written D.Link.faults)
-        (service_in L.meaning served.now) (cells_of opening) number
-        (sight_in D.to_come D.taken_back D.faults D.late door.old log)
-        (sight_in D.to_come D.taken_back D.faults D.late door.new log)) }
-    ensures none { (log : Stream) → IfErr result (IsNone
-        (seen_by D.Link.had D.Link.left D.Link.left_before D.Link.written D.Link.faults) served.now.framing
-        (sight_in D.to_come D.taken_back D.faults D.late door.old log)
-        (sight_in D.to_come D.taken_back D.faults D.late door.new log)) }
+    ensures ran { (log : Stream) → IfOk result (HasRun D.Link.seen (service_in L.meaning served.now) (cells_of opening) number
+        (sight_of (D.seen door.old) log) (sight_of (D.seen door.new) log)) }
+    ensures none { (log : Stream) → IfErr result (IsNone D.Link.seen served.now.framing
+        (sight_of (D.seen door.old) log) (sight_of (D.seen door.new) log)) }
 {
     let links = match take(rt, alloc, door, served.framing) {
         Ok(links) => links,
@@ -195,14 +188,14 @@ fn write_batch<O: Sink>(
     count: u32,
     run: &Run,
 ) -> Result<(), ServeEnd>
-    ensures later { O.faults log.old ≤ O.faults log.new }
+    ensures later { (O.seen log.old).faults ≤ (O.seen log.new).faults }
     ensures wrote { OnOk result (Wrote
-        (record { written = O.written log.old; faults = O.faults log.old })
-        (record { written = O.written log.new; faults = O.faults log.new })
+        (O.seen log.old)
+        (O.seen log.new)
         (printed_batch program.now count run.now.items run.now.journal)) }
     ensures ends { IfErr result (λ end. HasFinished end
-        (record { written = O.written log.old; faults = O.faults log.old })
-        (record { written = O.written log.new; faults = O.faults log.new })
+        (O.seen log.old)
+        (O.seen log.new)
         (printed_batch program.now count run.now.items run.now.journal)) }
 {
     match print_batch(alloc, program, count, run.items.as_slice(), &run.journal) {
@@ -222,15 +215,15 @@ pub fn log_batch<O: Sink>(
     count: u32,
     run: Run,
 ) -> Result<(Cells, u64), ServeEnd>
-    ensures later { O.faults log.old ≤ O.faults log.new }
+    ensures later { (O.seen log.old).faults ≤ (O.seen log.new).faults }
     ensures left { IfOk result (λ next. (next.0 ≡ run.cells) × (next.1 ≡ run.next)) }
     ensures wrote { OnOk result (Wrote
-        (record { written = O.written log.old; faults = O.faults log.old })
-        (record { written = O.written log.new; faults = O.faults log.new })
+        (O.seen log.old)
+        (O.seen log.new)
         (printed_batch program.now count run.items run.journal)) }
     ensures ends { IfErr result (λ end. HasFinished end
-        (record { written = O.written log.old; faults = O.faults log.old })
-        (record { written = O.written log.new; faults = O.faults log.new })
+        (O.seen log.old)
+        (O.seen log.new)
         (printed_batch program.now count run.items run.journal)) }
 {
     match write_batch(alloc, program, log, count, &run) {

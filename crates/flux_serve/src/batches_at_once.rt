@@ -7,10 +7,11 @@ ghost use Rattle.flow_model.specs.CellsAfter.{cells_after};
 ghost use Rattle.flow_model.specs.Legal.{IsLegal, IsWhole};
 ghost use Rattle.flux_cells.specs.Kept.{cells_of};
 ghost use Rattle.flux_outside.specs.Streams.{Stream};
+ghost use Rattle.flux_doors.specs.Seen.{IsLater, TakesBack, KeepsElse};
 ghost use Rattle.flow_core.specs.States.{opened, setup_in};
-ghost use Rattle.flux_batches.specs.Links.{seen_by, AreRead, items_from};
-ghost use Rattle.flux_batches.specs.Replies.{TakesBack};
-ghost use Rattle.flux_serve.specs.steps.Batches.{sight_in, service_in, MayServe, HasRun, IsNoneAtOnce};
+ghost use Rattle.flux_batches.specs.Links.{AreRead, items_from};
+ghost use Rattle.flux_serve.specs.Ends.{sight_of};
+ghost use Rattle.flux_serve.specs.steps.Batches.{service_in, MayServe, HasRun, IsNoneAtOnce};
 ghost use Rattle.flux_serve.specs.steps.PendingReplies.{IsEmptyQueue, AreBack};
 
 use crate::batches::{Run, ServeEnd, take};
@@ -99,12 +100,10 @@ fn run_queues<L: Library + Send + Sync, D: Door, G: Gate + Sync, Rt: Threads + W
     ensures whole { result.2 ≡ true → IsWhole (setup_in L.meaning core) result.0.entries }
     ensures broken { result.2 ≡ false → IsWhole (setup_in L.meaning core) result.0.entries → ⊥ }
     ensures cells { cells_of result.1 ≡ cells_after (setup_in L.meaning core) result.0.entries }
-    ensures back { (backs : List D.Link) × (next : ℕ) × TakesBack (D.taken_back door.old) (D.taken_back door.new) backs
-        × AreBack (seen_by D.Link.had D.Link.left D.Link.left_before D.Link.written D.Link.faults) result.2 result.0.entries 0
+    ensures back { (backs : List D.Link) × (next : ℕ) × TakesBack (D.seen door.old).taken_back (D.seen door.new).taken_back backs
+        × AreBack D.Link.seen result.2 result.0.entries 0
         links.items backs [] next }
-    ensures kept { D.to_come door.new ≡ D.to_come door.old }
-    ensures open { D.open_at door.new ≡ D.open_at door.old }
-    ensures counts { (D.faults door.new ≡ D.faults door.old) × (D.late door.new ≡ D.late door.old) }
+    ensures kept { KeepsElse (D.seen door.old) (D.seen door.new) }
 {
     let came = Snapshot::of(&links);
     let count = links.len();
@@ -160,19 +159,13 @@ pub fn drive_batch_at_once<
     requires out { D.out door.old ≡ 0 }
     requires numbers { number + 64 < 2 ^ 63 }
     ensures out { D.out door.new ≡ 0 }
-    ensures open { D.open_at door.new ≡ D.open_at door.old }
-    ensures later { (D.faults door.old ≤ D.faults door.new) × (D.late door.old ≤ D.late door.new) }
+    ensures open { (D.seen door.new).open_at ≡ (D.seen door.old).open_at }
+    ensures later { IsLater (D.seen door.old) (D.seen door.new) }
     ensures bound { IfOk result (λ run. run.next ≤ number + 64) }
-    ensures ran { (log : Stream) → IfOk result (HasRun
-        (seen_by D.Link.had D.Link.left D.Link.left_before D.Link.written D.Link.faults)
-        (service_in L.meaning served.now) (cells_of opening) number
-        (sight_in D.to_come D.taken_back D.faults D.late door.old log)
-        (sight_in D.to_come D.taken_back D.faults D.late door.new log)) }
-    ensures none { (log : Stream) → IfErr result (IsNoneAtOnce
-        (seen_by D.Link.had D.Link.left D.Link.left_before D.Link.written D.Link.faults)
-        (service_in L.meaning served.now) (cells_of opening) number
-        (sight_in D.to_come D.taken_back D.faults D.late door.old log)
-        (sight_in D.to_come D.taken_back D.faults D.late door.new log)) }
+    ensures ran { (log : Stream) → IfOk result (HasRun D.Link.seen (service_in L.meaning served.now) (cells_of opening) number
+        (sight_of (D.seen door.old) log) (sight_of (D.seen door.new) log)) }
+    ensures none { (log : Stream) → IfErr result (IsNoneAtOnce D.Link.seen (service_in L.meaning served.now) (cells_of opening) number
+        (sight_of (D.seen door.old) log) (sight_of (D.seen door.new) log)) }
 {
     let links = match take(rt, alloc, door, served.framing) {
         Ok(links) => links,

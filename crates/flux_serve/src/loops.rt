@@ -3,10 +3,10 @@
 ghost use Rattle.std.specs.Prelude.{◌≡◌, ℕ, ◌+◌, ◌^◌, ◌<◌, ◌≤◌, IfOk, IfErr};
 ghost use Rattle.flux_cells.specs.Kept.{cells_of};
 ghost use Rattle.flux_outside.specs.Streams.{Stream};
-ghost use Rattle.flux_batches.specs.Links.{seen_by};
-ghost use Rattle.flux_serve.specs.Ends.{HasStopped, HasServed};
+ghost use Rattle.flux_doors.specs.Seen.{IsLater};
+ghost use Rattle.flux_serve.specs.Ends.{sight_of, HasStopped, HasServed};
 ghost use Rattle.flux_serve.specs.AtOnce.{HasServedAtOnce};
-ghost use Rattle.flux_serve.specs.steps.Batches.{sight_in, service_in, HasRun, HasPassed, IsNone, IsNoneAtOnce, StopsAtOnce};
+ghost use Rattle.flux_serve.specs.steps.Batches.{service_in, HasRun, HasPassed, IsNone, IsNoneAtOnce, StopsAtOnce};
 ghost use Rattle.flux_serve.specs.steps.Driving.{tells_by, ends_before, ends_at_once, MayDrive, Drives};
 
 use crate::batches::{Run, ServeEnd, log_batch};
@@ -26,39 +26,24 @@ fn drive_next<L: Library, D: Door, S, F: Fn(&mut S, &mut D, Cells, u64) -> Resul
     opening: Cells,
     number: u64,
 ) -> Result<Run, ServeEnd>
-    requires may { MayDrive F.Fn drive.now
-        (tells_by (seen_by D.Link.had D.Link.left D.Link.left_before D.Link.written D.Link.faults)
-        D.to_come D.taken_back D.open_at D.out D.faults D.late) state.old }
-    requires drives { Drives F.Fn drive.now
-        (tells_by (seen_by D.Link.had D.Link.left D.Link.left_before D.Link.written D.Link.faults)
-        D.to_come D.taken_back D.open_at D.out D.faults D.late)
-        (ends_at_once (seen_by D.Link.had D.Link.left D.Link.left_before D.Link.written D.Link.faults) (service_in L.meaning served.now))
+    requires may { MayDrive F.Fn drive.now (tells_by D.Link.seen D.seen D.out) state.old }
+    requires drives { Drives F.Fn drive.now (tells_by D.Link.seen D.seen D.out) (ends_at_once D.Link.seen (service_in L.meaning served.now))
         (service_in L.meaning served.now) }
     requires out { D.out door.old ≡ 0 }
     requires numbers { number + 64 < 2 ^ 63 }
-    ensures again { MayDrive F.Fn drive.now
-        (tells_by (seen_by D.Link.had D.Link.left D.Link.left_before D.Link.written D.Link.faults)
-        D.to_come D.taken_back D.open_at D.out D.faults D.late) state.new }
+    ensures again { MayDrive F.Fn drive.now (tells_by D.Link.seen D.seen D.out) state.new }
     ensures out { D.out door.new ≡ 0 }
-    ensures open { D.open_at door.new ≡ D.open_at door.old }
-    ensures later { (D.faults door.old ≤ D.faults door.new) × (D.late door.old ≤ D.late door.new) }
+    ensures open { (D.seen door.new).open_at ≡ (D.seen door.old).open_at }
+    ensures later { IsLater (D.seen door.old) (D.seen door.new) }
     ensures bound { IfOk result (λ run. run.next ≤ number + 64) }
-    ensures ran { (log : Stream) → IfOk result (HasRun (seen_by D.Link.had D.Link.left D.Link.left_before D.Link.written D.Link.faults)
-        (service_in L.meaning served.now) (cells_of opening) number
-        (sight_in D.to_come D.taken_back D.faults D.late door.old log)
-        (sight_in D.to_come D.taken_back D.faults D.late door.new log)) }
-    ensures none { (log : Stream) → IfErr result (IsNoneAtOnce (seen_by D.Link.had D.Link.left D.Link.left_before D.Link.written D.Link.faults)
-        (service_in L.meaning served.now) (cells_of opening) number
-        (sight_in D.to_come D.taken_back D.faults D.late door.old log)
-        (sight_in D.to_come D.taken_back D.faults D.late door.new log)) }
-    ensures before { Drives F.Fn drive.now
-        (tells_by (seen_by D.Link.had D.Link.left D.Link.left_before D.Link.written D.Link.faults)
-        D.to_come D.taken_back D.open_at D.out D.faults D.late)
-        (ends_before (seen_by D.Link.had D.Link.left D.Link.left_before D.Link.written D.Link.faults) served.now.framing)
+    ensures ran { (log : Stream) → IfOk result (HasRun D.Link.seen (service_in L.meaning served.now) (cells_of opening) number
+        (sight_of (D.seen door.old) log) (sight_of (D.seen door.new) log)) }
+    ensures none { (log : Stream) → IfErr result (IsNoneAtOnce D.Link.seen (service_in L.meaning served.now) (cells_of opening) number
+        (sight_of (D.seen door.old) log) (sight_of (D.seen door.new) log)) }
+    ensures before { Drives F.Fn drive.now (tells_by D.Link.seen D.seen D.out) (ends_before D.Link.seen served.now.framing)
         (service_in L.meaning served.now)
-        → (log : Stream) → IfErr result (IsNone (seen_by D.Link.had D.Link.left D.Link.left_before D.Link.written D.Link.faults) served.now.framing
-        (sight_in D.to_come D.taken_back D.faults D.late door.old log)
-        (sight_in D.to_come D.taken_back D.faults D.late door.new log)) }
+        → (log : Stream) → IfErr result (IsNone D.Link.seen served.now.framing
+        (sight_of (D.seen door.old) log) (sight_of (D.seen door.new) log)) }
 {
     drive(state, door, opening, number)
 }
@@ -81,48 +66,26 @@ fn serve_batch<
     count: u32,
     number: u64,
 ) -> Result<(Cells, u64), ServeEnd>
-    requires may { MayDrive F.Fn drive.now
-        (tells_by (seen_by D.Link.had D.Link.left D.Link.left_before D.Link.written D.Link.faults)
-        D.to_come D.taken_back D.open_at D.out D.faults D.late) state.old }
-    requires drives { Drives F.Fn drive.now
-        (tells_by (seen_by D.Link.had D.Link.left D.Link.left_before D.Link.written D.Link.faults)
-        D.to_come D.taken_back D.open_at D.out D.faults D.late)
-        (ends_at_once (seen_by D.Link.had D.Link.left D.Link.left_before D.Link.written D.Link.faults) (service_in L.meaning served.now))
+    requires may { MayDrive F.Fn drive.now (tells_by D.Link.seen D.seen D.out) state.old }
+    requires drives { Drives F.Fn drive.now (tells_by D.Link.seen D.seen D.out) (ends_at_once D.Link.seen (service_in L.meaning served.now))
         (service_in L.meaning served.now) }
     requires out { D.out door.old ≡ 0 }
     requires numbers { number + 64 < 2 ^ 63 }
-    ensures again { MayDrive F.Fn drive.now
-        (tells_by (seen_by D.Link.had D.Link.left D.Link.left_before D.Link.written D.Link.faults)
-        D.to_come D.taken_back D.open_at D.out D.faults D.late) state.new }
+    ensures again { MayDrive F.Fn drive.now (tells_by D.Link.seen D.seen D.out) state.new }
     ensures out { D.out door.new ≡ 0 }
-    ensures open { D.open_at door.new ≡ D.open_at door.old }
-    ensures later { (D.faults door.old ≤ D.faults door.new) × (D.late door.old ≤ D.late door.new) }
-    ensures later_log { O.faults log.old ≤ O.faults log.new }
+    ensures open { (D.seen door.new).open_at ≡ (D.seen door.old).open_at }
+    ensures later { IsLater (D.seen door.old) (D.seen door.new) }
+    ensures later_log { (O.seen log.old).faults ≤ (O.seen log.new).faults }
     ensures bound { IfOk result (λ next. next.1 ≤ number + 64) }
-    ensures passed { IfOk result (λ next. HasPassed (seen_by D.Link.had D.Link.left D.Link.left_before D.Link.written D.Link.faults)
-        (service_in L.meaning served.now) (cells_of opening) count number
-        (sight_in D.to_come D.taken_back D.faults D.late door.old
-        (record { written = O.written log.old; faults = O.faults log.old }))
-        (sight_in D.to_come D.taken_back D.faults D.late door.new
-        (record { written = O.written log.new; faults = O.faults log.new }))
+    ensures passed { IfOk result (λ next. HasPassed D.Link.seen (service_in L.meaning served.now) (cells_of opening) count number
+        (sight_of (D.seen door.old) (O.seen log.old)) (sight_of (D.seen door.new) (O.seen log.new))
         (cells_of next.0) next.1) }
-    ensures stopped { IfErr result (StopsAtOnce (seen_by D.Link.had D.Link.left D.Link.left_before D.Link.written D.Link.faults)
-        (service_in L.meaning served.now) (cells_of opening) count number
-        (sight_in D.to_come D.taken_back D.faults D.late door.old
-        (record { written = O.written log.old; faults = O.faults log.old }))
-        (sight_in D.to_come D.taken_back D.faults D.late door.new
-        (record { written = O.written log.new; faults = O.faults log.new }))) }
-    ensures before { Drives F.Fn drive.now
-        (tells_by (seen_by D.Link.had D.Link.left D.Link.left_before D.Link.written D.Link.faults)
-        D.to_come D.taken_back D.open_at D.out D.faults D.late)
-        (ends_before (seen_by D.Link.had D.Link.left D.Link.left_before D.Link.written D.Link.faults) served.now.framing)
+    ensures stopped { IfErr result (StopsAtOnce D.Link.seen (service_in L.meaning served.now) (cells_of opening) count number
+        (sight_of (D.seen door.old) (O.seen log.old)) (sight_of (D.seen door.new) (O.seen log.new))) }
+    ensures before { Drives F.Fn drive.now (tells_by D.Link.seen D.seen D.out) (ends_before D.Link.seen served.now.framing)
         (service_in L.meaning served.now)
-        → IfErr result (HasStopped (seen_by D.Link.had D.Link.left D.Link.left_before D.Link.written D.Link.faults)
-        (service_in L.meaning served.now) (cells_of opening) count number
-        (sight_in D.to_come D.taken_back D.faults D.late door.old
-        (record { written = O.written log.old; faults = O.faults log.old }))
-        (sight_in D.to_come D.taken_back D.faults D.late door.new
-        (record { written = O.written log.new; faults = O.faults log.new }))) }
+        → IfErr result (HasStopped D.Link.seen (service_in L.meaning served.now) (cells_of opening) count number
+        (sight_of (D.seen door.old) (O.seen log.old)) (sight_of (D.seen door.new) (O.seen log.new))) }
 {
     match drive_next(served, door, state, drive, opening, number) {
         Ok(run) => log_batch(alloc, &served.program, log, count, run),
@@ -147,40 +110,23 @@ pub fn serve_batches<
     drive: &F,
     batches: u32,
 ) -> ServeEnd
-    requires may { MayDrive F.Fn drive.now
-        (tells_by (seen_by D.Link.had D.Link.left D.Link.left_before D.Link.written D.Link.faults)
-        D.to_come D.taken_back D.open_at D.out D.faults D.late) state.old }
-    requires drives { Drives F.Fn drive.now
-        (tells_by (seen_by D.Link.had D.Link.left D.Link.left_before D.Link.written D.Link.faults)
-        D.to_come D.taken_back D.open_at D.out D.faults D.late)
-        (ends_at_once (seen_by D.Link.had D.Link.left D.Link.left_before D.Link.written D.Link.faults) (service_in L.meaning served.now))
+    requires may { MayDrive F.Fn drive.now (tells_by D.Link.seen D.seen D.out) state.old }
+    requires drives { Drives F.Fn drive.now (tells_by D.Link.seen D.seen D.out) (ends_at_once D.Link.seen (service_in L.meaning served.now))
         (service_in L.meaning served.now) }
     requires out { D.out door.old ≡ 0 }
-    ensures again { MayDrive F.Fn drive.now
-        (tells_by (seen_by D.Link.had D.Link.left D.Link.left_before D.Link.written D.Link.faults)
-        D.to_come D.taken_back D.open_at D.out D.faults D.late) state.new }
+    ensures again { MayDrive F.Fn drive.now (tells_by D.Link.seen D.seen D.out) state.new }
     ensures out { D.out door.new ≡ 0 }
-    ensures open { D.open_at door.new ≡ D.open_at door.old }
-    ensures later { (D.faults door.old ≤ D.faults door.new) × (D.late door.old ≤ D.late door.new) }
-    ensures later_log { O.faults log.old ≤ O.faults log.new }
-    ensures served { HasServedAtOnce (seen_by D.Link.had D.Link.left D.Link.left_before D.Link.written D.Link.faults)
-        (service_in L.meaning served.now) batches
-        (sight_in D.to_come D.taken_back D.faults D.late door.old
-        (record { written = O.written log.old; faults = O.faults log.old }))
-        (sight_in D.to_come D.taken_back D.faults D.late door.new
-        (record { written = O.written log.new; faults = O.faults log.new }))
+    ensures open { (D.seen door.new).open_at ≡ (D.seen door.old).open_at }
+    ensures later { IsLater (D.seen door.old) (D.seen door.new) }
+    ensures later_log { (O.seen log.old).faults ≤ (O.seen log.new).faults }
+    ensures served { HasServedAtOnce D.Link.seen (service_in L.meaning served.now) batches
+        (sight_of (D.seen door.old) (O.seen log.old)) (sight_of (D.seen door.new) (O.seen log.new))
         result }
     // Where no call breaks a batch off, none was.
-    ensures before { Drives F.Fn drive.now
-        (tells_by (seen_by D.Link.had D.Link.left D.Link.left_before D.Link.written D.Link.faults)
-        D.to_come D.taken_back D.open_at D.out D.faults D.late)
-        (ends_before (seen_by D.Link.had D.Link.left D.Link.left_before D.Link.written D.Link.faults) served.now.framing)
+    ensures before { Drives F.Fn drive.now (tells_by D.Link.seen D.seen D.out) (ends_before D.Link.seen served.now.framing)
         (service_in L.meaning served.now)
-        → HasServed (seen_by D.Link.had D.Link.left D.Link.left_before D.Link.written D.Link.faults) (service_in L.meaning served.now) batches
-        (sight_in D.to_come D.taken_back D.faults D.late door.old
-        (record { written = O.written log.old; faults = O.faults log.old }))
-        (sight_in D.to_come D.taken_back D.faults D.late door.new
-        (record { written = O.written log.new; faults = O.faults log.new }))
+        → HasServed D.Link.seen (service_in L.meaning served.now) batches
+        (sight_of (D.seen door.old) (O.seen log.old)) (sight_of (D.seen door.new) (O.seen log.new))
         result }
 {
     let mut opening = Cells::new(alloc);

@@ -2,8 +2,7 @@
 
 ghost use Rattle.std.specs.Prelude.{◌≡◌, ℕ, ◌<◌, ◌≤◌, All, IfOk, length, vec_len, slice_index_or, List, [], None};
 ghost use Rattle.std.specs.VecDeque.{deque_len};
-ghost use Rattle.flux_batches.specs.Links.{seen_by};
-ghost use Rattle.flux_batches.specs.Replies.{TakesBack};
+ghost use Rattle.flux_doors.specs.Seen.{TakesBack, KeepsElse};
 ghost use Rattle.flux_serve.specs.steps.PendingReplies.{AreRepliesSoFar, share, IsEmptyQueue, AreBack};
 
 use crate::replies::{PendingReply, flow_behind};
@@ -82,15 +81,13 @@ pub fn give_back_links<S: Drop, D: Door>(
     requires count { length came.now.value.items ≡ count }
     requires out { D.out door.old ≡ count }
     requires replies { (worker : ℕ) (none : WorkerQueue S D.Link) → worker < length queues.old
-        → AreRepliesSoFar (seen_by D.Link.had D.Link.left D.Link.left_before D.Link.written D.Link.faults) entries.now
+        → AreRepliesSoFar D.Link.seen entries.now
         (share (length queues.old) worker 0 came.now.value.items) (slice_index_or queues.old worker none).replies.items }
     ensures out { D.out door.new ≡ 0 }
-    ensures back { (backs : List D.Link) × (next : ℕ) × TakesBack (D.taken_back door.old) (D.taken_back door.new) backs
-        × AreBack (seen_by D.Link.had D.Link.left D.Link.left_before D.Link.written D.Link.faults) whole entries.now 0
+    ensures back { (backs : List D.Link) × (next : ℕ) × TakesBack (D.seen door.old).taken_back (D.seen door.new).taken_back backs
+        × AreBack D.Link.seen whole entries.now 0
         came.now.value.items backs [] next }
-    ensures kept { D.to_come door.new ≡ D.to_come door.old }
-    ensures open { D.open_at door.new ≡ D.open_at door.old }
-    ensures counts { (D.faults door.new ≡ D.faults door.old) × (D.late door.new ≡ D.late door.old) }
+    ensures kept { KeepsElse (D.seen door.old) (D.seen door.new) }
 {
     let mut flow = 0u32;
     let mut left = count;

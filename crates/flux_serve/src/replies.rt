@@ -2,7 +2,7 @@
 
 ghost use Rattle.std.specs.Prelude.{◌≡◌, ◌+◌, ◌<◌, ◌≤◌, true, false, MatchBool};
 ghost use Rattle.flux_outside.specs.Streams.{WroteOrBroke};
-ghost use Rattle.flux_batches.specs.Links.{seen_by, IsUnread};
+ghost use Rattle.flux_doors.specs.Seen.{IsUnread};
 ghost use Rattle.flux_batches.specs.Replies.{flow_behind};
 ghost use Rattle.flux_serve.specs.steps.PendingReplies.{HasText, IsReplySoFar, IsBackOf};
 
@@ -54,14 +54,10 @@ impl<K: Link> PendingReply<K> {
 
     /// Writes the reply. A link that fails is its client's loss.
     pub fn write(&mut self, text: &[u8])
-        ensures same { IsUnread (seen_by K.had K.left K.left_before K.written K.faults self.old.request.link)
-            (seen_by K.had K.left K.left_before K.written K.faults self.new.request.link) }
+        ensures same { IsUnread (K.seen self.old.request.link) (K.seen self.new.request.link) }
         ensures sent { self.new.request.sent ≡ self.old.request.sent }
         ensures written { self.new.written ≡ true }
-        ensures wrote { WroteOrBroke
-            (record { written = K.written self.old.request.link; faults = K.faults self.old.request.link })
-            (record { written = K.written self.new.request.link; faults = K.faults self.new.request.link })
-            text.now }
+        ensures wrote { WroteOrBroke (K.seen self.old.request.link).stream (K.seen self.new.request.link).stream text.now }
     {
         self.written = true;
         match send(&mut self.request.link, text) {
@@ -74,8 +70,8 @@ impl<K: Link> PendingReply<K> {
     pub fn answer(&mut self, entries: &[Entry], whole: bool)
         ensures sent { self.new.request.sent ≡ self.old.request.sent }
         ensures back { (before : PendingReply K) → before.written ≡ false
-            → IsReplySoFar (seen_by K.had K.left K.left_before K.written K.faults) entries.now before self.old
-            → IsBackOf (seen_by K.had K.left K.left_before K.written K.faults) whole entries.now before self.new.request.link }
+            → IsReplySoFar K.seen entries.now before self.old
+            → IsBackOf K.seen whole entries.now before self.new.request.link }
     {
         if whole && self.is_open() {
             reply(&mut self.request.link, entries, self.flow);

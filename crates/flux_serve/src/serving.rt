@@ -5,12 +5,13 @@ ghost use Rattle.std.specs.List.{AllByRecursion};
 ghost use Rattle.std.specs.Arc.{arc_value};
 ghost use Rattle.flux_cells.specs.Kept.{cells_of};
 ghost use Rattle.flux_outside.specs.Streams.{Stream};
-ghost use Rattle.flux_batches.specs.Links.{seen_by, IsLinkItem};
+ghost use Rattle.flux_doors.specs.Seen.{IsLater};
+ghost use Rattle.flux_batches.specs.Links.{IsLinkItem};
 ghost use Rattle.flux_serve.specs.Served.{CanServe};
 ghost use Rattle.flux_serve.specs.Batches.{Service};
 ghost use Rattle.flux_serve.specs.Runs.{IsRun, MayRun, Runs};
-ghost use Rattle.flux_serve.specs.Ends.{HasServed};
-ghost use Rattle.flux_serve.specs.steps.Batches.{sight_in, service_in, MayServe, HasRun, IsNone};
+ghost use Rattle.flux_serve.specs.Ends.{sight_of, HasServed};
+ghost use Rattle.flux_serve.specs.steps.Batches.{service_in, MayServe, HasRun, IsNone};
 
 use crate::batches::{ServeEnd, drive_batch};
 use crate::loops::serve_batches;
@@ -56,27 +57,12 @@ pub fn serve_by<
     ensures again { MayRun F.Fn run.now state.new }
     // Each accepted link has gone back to the door.
     ensures out { D.out door.new ≡ 0 }
-    ensures open { D.open_at door.new ≡ D.open_at door.old }
-    ensures later { (D.faults door.old ≤ D.faults door.new) × (D.late door.old ≤ D.late door.new) }
-    ensures later_log { O.faults log.old ≤ O.faults log.new }
+    ensures open { (D.seen door.new).open_at ≡ (D.seen door.old).open_at }
+    ensures later { IsLater (D.seen door.old) (D.seen door.new) }
+    ensures later_log { (O.seen log.old).faults ≤ (O.seen log.new).faults }
     ensures served { let service : Service = (record { program = arc_value served.now.program; framing = served.now.framing; order = served.now.order; meaning = L.meaning (arc_value served.now.library) }) in
-        HasServed
-        (seen_by D.Link.had D.Link.left D.Link.left_before D.Link.written D.Link.faults)
-        service batches
-        (record {
-          to_come = D.to_come door.old;
-          taken_back = D.taken_back door.old;
-          faults = D.faults door.old;
-          late = D.late door.old;
-          log = record { written = O.written log.old; faults = O.faults log.old };
-        })
-        (record {
-          to_come = D.to_come door.new;
-          taken_back = D.taken_back door.new;
-          faults = D.faults door.new;
-          late = D.late door.new;
-          log = record { written = O.written log.new; faults = O.faults log.new };
-        }) result }
+        HasServed D.Link.seen service batches
+        (sight_of (D.seen door.old) (O.seen log.old)) (sight_of (D.seen door.new) (O.seen log.new)) result }
 {
     serve_batches(
         alloc,
@@ -91,16 +77,13 @@ pub fn serve_by<
             requires numbers { number + 64 < 2 ^ 63 }
             ensures again { MayRun F.Fn run.entry.now state.new }
             ensures out { D.out door.new ≡ 0 }
-            ensures open { D.open_at door.new ≡ D.open_at door.old }
-            ensures later { (D.faults door.old ≤ D.faults door.new) × (D.late door.old ≤ D.late door.new) }
+            ensures open { (D.seen door.new).open_at ≡ (D.seen door.old).open_at }
+            ensures later { IsLater (D.seen door.old) (D.seen door.new) }
             ensures bound { IfOk result (λ run. run.next ≤ number + 64) }
-            ensures ran { (log : Stream) → IfOk result (HasRun (seen_by D.Link.had D.Link.left D.Link.left_before D.Link.written D.Link.faults)
-                (service_in L.meaning served.entry.now) (cells_of opening) number
-                (sight_in D.to_come D.taken_back D.faults D.late door.old log)
-                (sight_in D.to_come D.taken_back D.faults D.late door.new log)) }
-            ensures none { (log : Stream) → IfErr result (IsNone (seen_by D.Link.had D.Link.left D.Link.left_before D.Link.written D.Link.faults) served.entry.now.framing
-                (sight_in D.to_come D.taken_back D.faults D.late door.old log)
-                (sight_in D.to_come D.taken_back D.faults D.late door.new log)) }
+            ensures ran { (log : Stream) → IfOk result (HasRun D.Link.seen (service_in L.meaning served.entry.now) (cells_of opening) number
+                (sight_of (D.seen door.old) log) (sight_of (D.seen door.new) log)) }
+            ensures none { (log : Stream) → IfErr result (IsNone D.Link.seen served.entry.now.framing
+                (sight_of (D.seen door.old) log) (sight_of (D.seen door.new) log)) }
         { drive_batch(rt, alloc, served, door, state, run, opening, number) },
         batches,
     )
@@ -127,27 +110,12 @@ pub fn serve<L: Library, D: Door, O: Sink, R: Runtime, G: Gate, Rt: Threads + Wa
     ensures again { R.ready runtime.new }
     // Each accepted link has gone back to the door.
     ensures out { D.out door.new ≡ 0 }
-    ensures open { D.open_at door.new ≡ D.open_at door.old }
-    ensures later { (D.faults door.old ≤ D.faults door.new) × (D.late door.old ≤ D.late door.new) }
-    ensures later_log { O.faults log.old ≤ O.faults log.new }
+    ensures open { (D.seen door.new).open_at ≡ (D.seen door.old).open_at }
+    ensures later { IsLater (D.seen door.old) (D.seen door.new) }
+    ensures later_log { (O.seen log.old).faults ≤ (O.seen log.new).faults }
     ensures served { let service : Service = (record { program = arc_value served.now.program; framing = served.now.framing; order = served.now.order; meaning = L.meaning (arc_value served.now.library) }) in
-        HasServed
-        (seen_by D.Link.had D.Link.left D.Link.left_before D.Link.written D.Link.faults)
-        service batches
-        (record {
-          to_come = D.to_come door.old;
-          taken_back = D.taken_back door.old;
-          faults = D.faults door.old;
-          late = D.late door.old;
-          log = record { written = O.written log.old; faults = O.faults log.old };
-        })
-        (record {
-          to_come = D.to_come door.new;
-          taken_back = D.taken_back door.new;
-          faults = D.faults door.new;
-          late = D.late door.new;
-          log = record { written = O.written log.new; faults = O.faults log.new };
-        }) result }
+        HasServed D.Link.seen service batches
+        (sight_of (D.seen door.old) (O.seen log.old)) (sight_of (D.seen door.new) (O.seen log.new)) result }
 {
     serve_by(
         rt,

@@ -4,11 +4,12 @@ ghost use Rattle.std.specs.Prelude.{◌≡◌, ◌+◌, ◌^◌, ◌<◌, ◌≤
 ghost use Rattle.std.specs.Arc.{arc_value};
 ghost use Rattle.flux_cells.specs.Kept.{cells_of};
 ghost use Rattle.flux_outside.specs.Streams.{Stream};
-ghost use Rattle.flux_batches.specs.Links.{seen_by};
+ghost use Rattle.flux_doors.specs.Seen.{IsLater};
 ghost use Rattle.flux_serve.specs.Served.{CanServe};
 ghost use Rattle.flux_serve.specs.Batches.{Service};
 ghost use Rattle.flux_serve.specs.AtOnce.{HasServedAtOnce};
-ghost use Rattle.flux_serve.specs.steps.Batches.{sight_in, service_in, MayServe, HasRun, IsNoneAtOnce};
+ghost use Rattle.flux_serve.specs.Ends.{sight_of};
+ghost use Rattle.flux_serve.specs.steps.Batches.{service_in, MayServe, HasRun, IsNoneAtOnce};
 
 use crate::batches::ServeEnd;
 use crate::batches_at_once::drive_batch_at_once;
@@ -54,27 +55,12 @@ pub fn serve_at_once<
     requires out { D.out door.old ≡ 0 }
     // Each accepted link has gone back to the door.
     ensures out { D.out door.new ≡ 0 }
-    ensures open { D.open_at door.new ≡ D.open_at door.old }
-    ensures later { (D.faults door.old ≤ D.faults door.new) × (D.late door.old ≤ D.late door.new) }
-    ensures later_log { O.faults log.old ≤ O.faults log.new }
+    ensures open { (D.seen door.new).open_at ≡ (D.seen door.old).open_at }
+    ensures later { IsLater (D.seen door.old) (D.seen door.new) }
+    ensures later_log { (O.seen log.old).faults ≤ (O.seen log.new).faults }
     ensures served { let service : Service = (record { program = arc_value served.now.program; framing = served.now.framing; order = served.now.order; meaning = L.meaning (arc_value served.now.library) }) in
-        HasServedAtOnce
-        (seen_by D.Link.had D.Link.left D.Link.left_before D.Link.written D.Link.faults)
-        service batches
-        (record {
-          to_come = D.to_come door.old;
-          taken_back = D.taken_back door.old;
-          faults = D.faults door.old;
-          late = D.late door.old;
-          log = record { written = O.written log.old; faults = O.faults log.old };
-        })
-        (record {
-          to_come = D.to_come door.new;
-          taken_back = D.taken_back door.new;
-          faults = D.faults door.new;
-          late = D.late door.new;
-          log = record { written = O.written log.new; faults = O.faults log.new };
-        }) result }
+        HasServedAtOnce D.Link.seen service batches
+        (sight_of (D.seen door.old) (O.seen log.old)) (sight_of (D.seen door.new) (O.seen log.new)) result }
 {
     let mut workers = workers;
     serve_batches(
@@ -91,17 +77,13 @@ pub fn serve_at_once<
             requires numbers { number + 64 < 2 ^ 63 }
             ensures again { 0 < workers.new }
             ensures out { D.out door.new ≡ 0 }
-            ensures open { D.open_at door.new ≡ D.open_at door.old }
-            ensures later { (D.faults door.old ≤ D.faults door.new) × (D.late door.old ≤ D.late door.new) }
+            ensures open { (D.seen door.new).open_at ≡ (D.seen door.old).open_at }
+            ensures later { IsLater (D.seen door.old) (D.seen door.new) }
             ensures bound { IfOk result (λ run. run.next ≤ number + 64) }
-            ensures ran { (log : Stream) → IfOk result (HasRun (seen_by D.Link.had D.Link.left D.Link.left_before D.Link.written D.Link.faults)
-                (service_in L.meaning served.entry.now) (cells_of opening) number
-                (sight_in D.to_come D.taken_back D.faults D.late door.old log)
-                (sight_in D.to_come D.taken_back D.faults D.late door.new log)) }
-            ensures none { (log : Stream) → IfErr result (IsNoneAtOnce (seen_by D.Link.had D.Link.left D.Link.left_before D.Link.written D.Link.faults)
-                (service_in L.meaning served.entry.now) (cells_of opening) number
-                (sight_in D.to_come D.taken_back D.faults D.late door.old log)
-                (sight_in D.to_come D.taken_back D.faults D.late door.new log)) }
+            ensures ran { (log : Stream) → IfOk result (HasRun D.Link.seen (service_in L.meaning served.entry.now) (cells_of opening) number
+                (sight_of (D.seen door.old) log) (sight_of (D.seen door.new) log)) }
+            ensures none { (log : Stream) → IfErr result (IsNoneAtOnce D.Link.seen (service_in L.meaning served.entry.now) (cells_of opening) number
+                (sight_of (D.seen door.old) log) (sight_of (D.seen door.new) log)) }
         { drive_batch_at_once(rt, alloc, served, door, *workers, gate, opening, number) },
         batches,
     )

@@ -5,7 +5,6 @@ ghost use Rattle.flow_core.specs.Runs.{GoesOn};
 ghost use Rattle.flow_turns.specs.Turns.{IsCallIn};
 ghost use Rattle.flow_shared.specs.Journals.{BeginsWith};
 ghost use Rattle.flow_shared.specs.States.{SeatState};
-ghost use Rattle.flux_batches.specs.Links.{seen_by};
 ghost use Rattle.flux_serve.specs.steps.PendingReplies.{HasText, IsReplySoFar, AreRepliesSoFar};
 ghost use Rattle.flux_serve.specs.steps.Workers.{KeepsReply, KeepReplies, HasSeat, HasWorked, WasJoined};
 
@@ -40,7 +39,7 @@ fn visit<L: Library, K: Link, G: Gate, R: Wait>(
     requires text { HasText reply.old.request.sent }
     ensures shared { result.0.shared ≡ shared.now }
     ensures seen { BeginsWith result.0.seen seat.seen }
-    ensures reply { IsReplySoFar (seen_by K.had K.left K.left_before K.written K.faults) result.0.seen reply.old reply.new }
+    ensures reply { IsReplySoFar K.seen result.0.seen reply.old reply.new }
 {
     let flow = reply.flow;
     let mut turn = shared.turn(rt, seat);
@@ -93,7 +92,7 @@ fn visit_open<L: Library, K: Link, G: Gate, R: Wait>(
     requires { seat.shared ≡ shared.now }
     ensures shared { result.0.shared ≡ shared.now }
     ensures seen { BeginsWith result.0.seen seat.seen }
-    ensures reply { KeepsReply (seen_by K.had K.left K.left_before K.written K.faults) seat.seen result.0.seen reply.old reply.new }
+    ensures reply { KeepsReply K.seen seat.seen result.0.seen reply.old reply.new }
 {
     if reply.is_open() {
         return visit(rt, alloc, shared, seat, reply, gate);
@@ -123,7 +122,7 @@ fn round<L: Library, K: Link, G: Gate, R: Wait>(
     requires { seat.shared ≡ shared.now }
     ensures shared { result.0.shared ≡ shared.now }
     ensures seen { BeginsWith result.0.seen seat.seen }
-    ensures replies { KeepReplies (seen_by K.had K.left K.left_before K.written K.faults) seat.seen result.0.seen replies.old replies.new }
+    ensures replies { KeepReplies K.seen seat.seen result.0.seen replies.old replies.new }
 {
     let mut seat = seat;
     let mut all = Stage::Ended;
@@ -147,7 +146,7 @@ fn rounds<L: Library, K: Link, G: Gate, R: Wait>(
 ) -> SharedSeat<L>
     requires { seat.shared ≡ shared.now }
     ensures shared { result.shared ≡ shared.now }
-    ensures replies { KeepReplies (seen_by K.had K.left K.left_before K.written K.faults) seat.seen result.seen replies.old replies.new }
+    ensures replies { KeepReplies K.seen seat.seen result.seen replies.old replies.new }
 {
     let mut seat = seat;
     let mut pause = Pause::new();
@@ -174,7 +173,7 @@ fn answer_all<L: Library, K: Link, G: Gate, R: Wait>(
 ) -> SharedSeat<L>
     requires shared { seat.shared ≡ shared.now }
     ensures shared { result.shared ≡ shared.now }
-    ensures replies { AreRepliesSoFar (seen_by K.had K.left K.left_before K.written K.faults) result.seen replies.old.items replies.new.items }
+    ensures replies { AreRepliesSoFar K.seen result.seen replies.old.items replies.new.items }
 {
     rounds(rt, alloc, shared, seat, replies.make_contiguous(), gate)
 }
@@ -188,7 +187,7 @@ fn work<L: Library, K: Link, G: Gate, R: Wait>(
     gate: &G,
 )
     requires { HasSeat shared.now queue.old }
-    ensures { HasWorked (seen_by K.had K.left K.left_before K.written K.faults) shared.now queue.old queue.new }
+    ensures { HasWorked K.seen shared.now queue.old queue.new }
 {
     let Some(seat) = queue.seat.take() else {
         unreachable!()
@@ -209,7 +208,7 @@ fn shift<L: Library + Send + Sync, K: Link + Send, G: Gate + Sync, R: Threads + 
     requires seats { (place : ℕ) (none : WorkerQueue (SeatState L) K) → place < length queues.old
         → HasSeat shared.now (slice_index_or queues.old place none) }
     ensures { (place : ℕ) (none : WorkerQueue (SeatState L) K) → place < length queues.old
-        → HasWorked (seen_by K.had K.left K.left_before K.written K.faults) shared.now
+        → HasWorked K.seen shared.now
         (slice_index_or queues.old place none) (slice_index_or queues.new place none) }
 {
     let threads = queues.len();
@@ -219,7 +218,7 @@ fn shift<L: Library + Send + Sync, K: Link + Send, G: Gate + Sync, R: Threads + 
         threads,
         &|_, queue: &mut WorkerQueue<SharedSeat<L>, K>|
             requires { HasSeat shared.now queue.old }
-            ensures { HasWorked (seen_by K.had K.left K.left_before K.written K.faults) shared.entry.now queue.old queue.new }
+            ensures { HasWorked K.seen shared.entry.now queue.old queue.new }
         { work(rt, alloc, shared, queue, gate) },
     );
 }
@@ -301,7 +300,7 @@ pub fn drive<
     requires some { 0 < length queues.old }
     ensures on { GoesOn core result }
     ensures replies { (place : ℕ) (none : WorkerQueue (SeatState L) K) → place < length queues.old
-        → AreRepliesSoFar (seen_by K.had K.left K.left_before K.written K.faults) result.entries
+        → AreRepliesSoFar K.seen result.entries
         (slice_index_or queues.old place none).replies.items (slice_index_or queues.new place none).replies.items }
 {
     match Shared::new(alloc, core) {

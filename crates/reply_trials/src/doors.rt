@@ -12,18 +12,9 @@ pub struct TellingLink<'a> {
 }
 
 impl Link for TellingLink<'_> {
-    ghost use Rattle.std.specs.Prelude.{Some};
-    ghost use Rattle.flux_doors.specs.Memory.{link_had, link_left, link_left_before, link_written, link_faults};
+    ghost use Rattle.flux_doors.specs.Memory.{link_seen};
 
-    ghost had = { λ telling. Some (link_had telling.link) };
-
-    ghost left = { λ telling. Some (link_left telling.link) };
-
-    ghost left_before = { λ telling. Some (link_left_before telling.link) };
-
-    ghost written = { λ telling. Some (link_written telling.link) };
-
-    ghost faults = { λ telling. link_faults telling.link };
+    ghost seen = { λ telling. link_seen telling.link };
 
     fn read(&mut self, buffer: &mut [u8]) -> Result<usize, Failed> {
         self.link.read(buffer)
@@ -47,21 +38,19 @@ pub struct TellingDoor<'a> {
 
 impl<'a> Door for TellingDoor<'a> {
     ghost use Rattle.std.specs.Prelude.{None};
-    ghost use Rattle.flux_doors.specs.Memory.{door_port, door_out, door_faults, door_late};
+    ghost use Rattle.flux_doors.specs.Memory.{door_seen, door_out};
 
     type Link = TellingLink<'a>;
 
-    ghost to_come = { λ _. None };
-
-    ghost taken_back = { λ _. None };
-
-    ghost open_at = { λ telling. door_port telling.door };
+    ghost seen = { λ telling. record {
+      to_come = None;
+      taken_back = None;
+      open_at = (door_seen telling.door).open_at;
+      faults = (door_seen telling.door).faults;
+      late = (door_seen telling.door).late;
+    } };
 
     ghost out = { λ telling. door_out telling.door };
-
-    ghost faults = { λ telling. door_faults telling.door };
-
-    ghost late = { λ telling. door_late telling.door };
 
     fn expect(&mut self, framing: Framing) {
         self.door.expect(framing)

@@ -1,5 +1,6 @@
 -- Where a flow's emissions are among some entries. No promise cites it.
-use Rattle.std.specs.Prelude.{◌≡◌, ℕ, ◌+◌, ◌<◌, ◌≤◌, ◌==◌, if◌then◌else◌, List, [], length, take, drop}
+use Rattle.std.specs.Prelude.{◌≡◌, ℕ, ◌+◌, ◌<◌, ◌≤◌, ◌==◌, if◌then◌else◌, List, [], length, take}
+use Rattle.std.specs.Prelude.{drop}
 use Rattle.std.specs.List.{slice_index_or}
 use Rattle.flow_model.specs.declared.journals.Entry.{Entry}
 use Rattle.flux_batches.specs.declared.spans.Span.{Span}

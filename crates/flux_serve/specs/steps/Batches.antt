@@ -6,10 +6,11 @@ use Rattle.flux_cells.specs.Kept.{cells_of}
 use Rattle.flux_outside.specs.Streams.{Stream, Wrote, Broke}
 use Rattle.flux_doors.specs.declared.framing.Framing.{Framing}
 use Rattle.flux_batches.specs.declared.reading.ReadLink.{ReadLink}
-use Rattle.flux_batches.specs.Links.{Seen, WereRead}
+use Rattle.flux_batches.specs.Links.{WereRead}
 use Rattle.flux_batches.specs.Gathered.{AreGathered}
 use Rattle.flux_outside.specs.Causes.{Rose}
 use Rattle.flux_doors.specs.Doors.{waiting, first_link}
+use Rattle.flux_doors.specs.Seen.{SeenLink}
 use Rattle.flow_model.specs.Keys.{Cells}
 use Rattle.flux_serve.specs.declared.runs.Served.{Served}
 use Rattle.flux_serve.specs.declared.batches.Run.{Run}
@@ -23,18 +24,7 @@ use Rattle.flux_serve.specs.declared.batches.ServeEnd.TheVariants.{Log, Memory}
 
 -- ---- what contracts speak of
 
--- a door, as these tell it, beside a log
-abbrev pub sight_in : {D L : Type 0} → (D → Option (List (List L))) → (D → Option (List L)) → (D → ℕ) → (D → ℕ)
-    → D → Stream → Sight L
-sight_in to_come taken_back faults late door log = record {
-  to_come = to_come door;
-  taken_back = taken_back door;
-  faults = faults door;
-  late = late door;
-  log = log;
-}
-
--- the same beside another log
+-- a sight beside another log
 abbrev pub with_log : {L : Type 0} → Sight L → Stream → Sight L
 with_log sight log = record {
   to_come = sight.to_come;
@@ -61,7 +51,7 @@ MayServe meaning served =
 -- ---- batches
 
 -- links came and were read
-pub record IsTaken {L : Type 0} (see : L → Seen) (framing : Framing)
+pub record IsTaken {L : Type 0} (see : L → SeenLink) (framing : Framing)
     (before after : Option (List (List L))) (late late' : ℕ) (requests : List (ReadLink L)) : Type 0 where
   pub came : List L
   pub formed : AreGathered before after late late' came
@@ -69,7 +59,7 @@ pub record IsTaken {L : Type 0} (see : L → Seen) (framing : Framing)
   pub read : WereRead see framing came requests []
 
 -- no batch was driven
-abbrev pub IsNone : {L : Type 0} → (L → Seen) → Framing → Sight L → Sight L → ServeEnd → Type 0
+abbrev pub IsNone : {L : Type 0} → (L → SeenLink) → Framing → Sight L → Sight L → ServeEnd → Type 0
 IsNone see framing before after Closed =
     IfSome before.to_come (λ batches. first_link (waiting batches) ≡ None)
     × (after.taken_back ≡ before.taken_back) × (after.log ≡ before.log)
@@ -90,8 +80,8 @@ HasFinished Log before after text = Broke before after text
 HasFinished Memory before after text = after ≡ before
 
 -- a batch was driven and answered, and its text is still to be written
-pub record HasRun {L : Type 0} (see : L → Seen) (service : Service) (opening : Cells) (number : ℕ)
-    (before after : Sight L) (run : Run) : Type 0 where
+pub record HasRun {L : Type 0} (see : L → SeenLink) (service : Service) (opening : Cells)
+    (number : ℕ) (before after : Sight L) (run : Run) : Type 0 where
   pub batch : Batch L
   pub driven : HasDriven see service opening 0 number batch before after Stands
   pub items_ : run.items ≡ batch_items number batch
@@ -100,7 +90,7 @@ pub record HasRun {L : Type 0} (see : L → Seen) (service : Service) (opening :
   pub next_ : run.next ≡ number_behind number batch
 
 -- a batch was served, and left these cells and the number of the next link
-pub record HasPassed {L : Type 0} (see : L → Seen) (service : Service) (opening : Cells)
+pub record HasPassed {L : Type 0} (see : L → SeenLink) (service : Service) (opening : Cells)
     (count number : ℕ) (before after : Sight L) (cells : Cells) (next : ℕ) : Type 0 where
   pub batch : Batch L
   pub driven : HasDriven see service opening count number batch before after Wrote
@@ -108,14 +98,14 @@ pub record HasPassed {L : Type 0} (see : L → Seen) (service : Service) (openin
   pub number_ : next ≡ number_behind number batch
 
 -- no batch was driven whole: none was begun, or one was, and memory ran out
-abbrev pub IsNoneAtOnce : {L : Type 0} → (L → Seen) → Service → Cells → ℕ → Sight L → Sight L → ServeEnd
-    → Type 0
+abbrev pub IsNoneAtOnce : {L : Type 0} → (L → SeenLink) → Service → Cells → ℕ → Sight L → Sight L
+    → ServeEnd → Type 0
 IsNoneAtOnce {L} see service opening number before after end =
     IsNone see service.framing before after end
     ⊎ ((end ≡ Memory) × ((begun : Batch L) × IsBegun see service opening number begun before after))
 
 -- how a batch ended that was served at once: as in serving, or begun and not driven whole
-abbrev pub StopsAtOnce : {L : Type 0} → (L → Seen) → Service → Cells → ℕ → ℕ → Sight L → Sight L
+abbrev pub StopsAtOnce : {L : Type 0} → (L → SeenLink) → Service → Cells → ℕ → ℕ → Sight L → Sight L
     → ServeEnd → Type 0
 StopsAtOnce {L} see service opening count number before after end =
     HasStopped see service opening count number before after end

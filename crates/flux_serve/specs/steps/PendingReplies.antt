@@ -1,13 +1,15 @@
--- Links that workers answer: dealt by their flows' numbers, and taken back in order. No promise cites it.
-use Rattle.std.specs.Prelude.{◌≡◌, ℕ, ◌%◌, ◌≤◌, ◌⊎◌, Bool, true, false, ◌==◌, if◌then◌else◌, MatchBool, List, [], ◌∷◌, ◌++◌, None, ⊤}
+-- Links that workers answer: dealt by their flows' numbers, and taken back in order. No promise
+-- cites it.
+use Rattle.std.specs.Prelude.{◌≡◌, ℕ, ◌%◌, ◌≤◌, ◌⊎◌, Bool, true, false, ◌==◌, if◌then◌else◌}
+use Rattle.std.specs.Prelude.{MatchBool, List, [], ◌∷◌, ◌++◌, None, ⊤}
 use Rattle.std.specs.VecDeque.{deque_len, deque_capacity}
 use Rattle.flow_model.specs.declared.journals.Entry.{Entry}
 use Rattle.flux_laws.specs.Growth.{has_ended}
 use Rattle.flux_outside.specs.Streams.{WroteOrBroke}
+use Rattle.flux_doors.specs.Seen.{SeenLink, IsUnread}
 use Rattle.flux_batches.specs.declared.reading.Sent.{Sent}
 use Rattle.flux_batches.specs.declared.reading.Sent.TheVariants.{Text, Failed, Memory}
 use Rattle.flux_batches.specs.declared.reading.ReadLink.{ReadLink}
-use Rattle.flux_batches.specs.Links.{Seen, IsUnread, stream_of}
 use Rattle.flux_batches.specs.Replies.{reply_of, flow_behind, IsAnswered}
 use Rattle.flux_serve.specs.declared.replies.PendingReply.{PendingReply}
 use Rattle.flux_serve.specs.declared.queues.WorkerQueue.{WorkerQueue}
@@ -26,16 +28,18 @@ to_answer request flow = record { request = request; flow = record { 0 = flow };
 
 -- a link with an item was written the reply that its flow had in a front of some entries, with its
 -- `end` there
-pub record IsFromFront (entries : List Entry) (flow : ℕ) (before after : Seen) (sent : Sent) : Type 0 where
+pub record IsFromFront (entries : List Entry) (flow : ℕ) (before after : SeenLink)
+    (sent : Sent) : Type 0 where
   pub text : HasText sent
   pub front : List Entry
   pub more : List Entry
   pub is : entries ≡ front ++ more
   pub ended : has_ended front flow ≡ true
-  pub wrote : WroteOrBroke (stream_of before) (stream_of after) (reply_of flow front)
+  pub wrote : WroteOrBroke before.stream after.stream (reply_of flow front)
 
 -- and is marked as written
-pub record WasReplied {K : Type 0} (see : K → Seen) (entries : List Entry) (old new : PendingReply K) : Type 0 where
+pub record WasReplied {K : Type 0} (see : K → SeenLink) (entries : List Entry)
+    (old new : PendingReply K) : Type 0 where
   pub sent_ : let request = old.request in let request' = new.request in request'.sent ≡ request.sent
   pub written_ : new.written ≡ true
   pub same : let request = old.request in let request' = new.request in IsUnread (see request.link) (see request'.link)
@@ -43,11 +47,13 @@ pub record WasReplied {K : Type 0} (see : K → Seen) (entries : List Entry) (ol
       IsFromFront entries flow.0 (see request.link) (see request'.link) request.sent
 
 -- a link is as it was, or was written so
-abbrev pub IsReplySoFar : {K : Type 0} → (K → Seen) → List Entry → PendingReply K → PendingReply K → Type 0
+abbrev pub IsReplySoFar : {K : Type 0} → (K → SeenLink) → List Entry → PendingReply K
+    → PendingReply K → Type 0
 IsReplySoFar see entries old new = (new ≡ old) ⊎ WasReplied see entries old new
 
 -- each of some links, at its place
-abbrev pub AreRepliesSoFar : {K : Type 0} → (K → Seen) → List Entry → List (PendingReply K) → List (PendingReply K) → Type 0
+abbrev pub AreRepliesSoFar : {K : Type 0} → (K → SeenLink) → List Entry → List (PendingReply K)
+    → List (PendingReply K) → Type 0
 AreRepliesSoFar see entries [] [] = ⊤
 AreRepliesSoFar see entries [] (new ∷ news) = ⊥
 AreRepliesSoFar see entries (old ∷ olds) [] = ⊥
@@ -56,7 +62,8 @@ AreRepliesSoFar see entries (old ∷ olds) (new ∷ news) =
 
 -- ---- shares
 
--- a worker's share of links, from a flow on: those whose flow's number modulo the number of workers is its own one
+-- a worker's share of links, from a flow on: those whose flow's number modulo the number of workers
+-- is its own one
 abbrev pub share : {K : Type 0} → ℕ → ℕ → ℕ → List (ReadLink K) → List (PendingReply K)
 share workers worker flow [] = []
 share workers worker flow (request ∷ rest) =
@@ -73,21 +80,22 @@ pub record IsEmptyQueue {S K : Type 0} (room : ℕ) (queue : WorkerQueue S K) : 
 -- ---- links that are taken back
 
 -- a link that was taken back: of a batch that was driven whole, and of any other
-abbrev pub IsBack : Bool → List Entry → ℕ → Seen → Seen → Sent → Type 0
+abbrev pub IsBack : Bool → List Entry → ℕ → SeenLink → SeenLink → Sent → Type 0
 IsBack whole entries flow before after sent =
-    MatchBool whole (IsAnswered entries flow before after sent) (stream_of after ≡ stream_of before)
+    MatchBool whole (IsAnswered entries flow before after sent) (after.stream ≡ before.stream)
     ⊎ IsFromFront entries flow before after sent
 
 -- that of a link that is to be answered
-abbrev pub IsBackOf : {K : Type 0} → (K → Seen) → Bool → List Entry → PendingReply K → K → Type 0
+abbrev pub IsBackOf : {K : Type 0} → (K → SeenLink) → Bool → List Entry → PendingReply K → K
+    → Type 0
 IsBackOf see whole entries reply link =
     let request = reply.request in let flow = reply.flow in
     IsUnread (see request.link) (see link)
     × IsBack whole entries flow.0 (see request.link) (see link) request.sent
 
 -- links were given back as these, from a flow on, each at its place; those are left, from a flow on
-abbrev pub AreBack : {K : Type 0} → (K → Seen) → Bool → List Entry → ℕ → List (ReadLink K) → List K
-    → List (ReadLink K) → ℕ → Type 0
+abbrev pub AreBack : {K : Type 0} → (K → SeenLink) → Bool → List Entry → ℕ → List (ReadLink K)
+    → List K → List (ReadLink K) → ℕ → Type 0
 AreBack see whole entries flow requests [] left next = (requests ≡ left) × (flow ≡ next)
 AreBack see whole entries flow [] (back ∷ backs) left next = ⊥
 AreBack see whole entries flow (request ∷ rest) (back ∷ backs) left next =

@@ -1,12 +1,12 @@
 use Rattle.std.proofs.Common.{List, [], sym, subst, ◌∙◌}
 use Rattle.flux_batches.specs.declared.reading.ReadLink.{ReadLink}
-use Rattle.flux_batches.specs.Links.{Seen, seen_by, WereRead}
+use Rattle.flux_batches.specs.Links.{WereRead}
 use Rattle.flux_batches.proofs.ReadLemmas.{request-all}
 use Rattle.flux_batches.proofs.reading.read_links.Goals as goal
 
 pub returns-clause-request : goal.returns-clause-request
 returns-clause-request g c =
-    let see : g.row.K.Denot → Seen = seen_by g.K.Link.had g.K.Link.left g.K.Link.left_before g.K.Link.written g.K.Link.faults in
+    let see = g.K.Link.seen in
     let P : List (ReadLink g.row.K.Denot) → Type 0 = λ them. WereRead see c.args.framing c.args.links.items them [] in
     let there = c.make_contiguous.ensures in
     let long = c.read_each.auto.request in

@@ -1,5 +1,4 @@
 use Rattle.std.proofs.Common.{ℕ, ◌+◌, ◌<◌, List, length, drop, subst, inr, ◌∙◌, arith}
-use Rattle.flux_outside.specs.Streams.{Stream}
 use Rattle.flux_outside.proofs.Writes.{SoFar}
 use Rattle.flux_batches.specs.Replies.{reply_of}
 use Rattle.flux_batches.proofs.Pieces.{so_far_piece, so_far_piece_broke, reply-next}
@@ -7,9 +6,9 @@ use Rattle.flux_batches.proofs.replying.reply.Goals as goal
 
 pub loop-entry-preserved : goal.loop-entry-preserved
 loop-entry-preserved g c =
-    let before : Stream = record { written = g.K.Link.written c.args.link.now; faults = g.K.Link.faults c.args.link.now } in
-    let mid : Stream = record { written = g.K.Link.written c.loop-entry.link; faults = g.K.Link.faults c.loop-entry.link } in
-    let after : Stream = record { written = g.K.Link.written c.send.new.link; faults = g.K.Link.faults c.send.new.link } in
+    let before = (g.K.Link.seen c.args.link.now).stream in
+    let mid = (g.K.Link.seen c.loop-entry.link).stream in
+    let after = (g.K.Link.seen c.send.new.link).stream in
     let bytes = reply_of c.args.flow.0 c.args.entries.now in
     let rest = reply_of c.args.flow.0 (drop (c.loop-entry.entry-index + 1) c.args.entries.now) in
     let below : c.loop-entry.entry-index < length c.args.entries.now = omega arith in
@@ -24,9 +23,9 @@ loop-entry-preserved g c =
 
 pub returns-in-Err-clause-wrote : goal.returns-in-Err-clause-wrote
 returns-in-Err-clause-wrote g c =
-    let before : Stream = record { written = g.K.Link.written c.args.link.now; faults = g.K.Link.faults c.args.link.now } in
-    let mid : Stream = record { written = g.K.Link.written c.loop-entry.link; faults = g.K.Link.faults c.loop-entry.link } in
-    let after : Stream = record { written = g.K.Link.written c.send.new.link; faults = g.K.Link.faults c.send.new.link } in
+    let before = (g.K.Link.seen c.args.link.now).stream in
+    let mid = (g.K.Link.seen c.loop-entry.link).stream in
+    let after = (g.K.Link.seen c.send.new.link).stream in
     let bytes = reply_of c.args.flow.0 c.args.entries.now in
     let rest = reply_of c.args.flow.0 (drop (c.loop-entry.entry-index + 1) c.args.entries.now) in
     let below : c.loop-entry.entry-index < length c.args.entries.now = omega arith in

@@ -7,11 +7,10 @@ pub loop-rest-preserved : goal.loop-rest-preserved
 loop-rest-preserved g c =
     let rest = c.loop-rest.rest.now in
     let n = c.in_ok-count.count in
-    let same = c.loop-rest.invariant.0 in (
-      (c.write.ensures.had ∙ same.0, c.write.ensures.left ∙ same.1, c.write.ensures.before ∙ same.2),
+    let same = c.loop-rest.invariant.0 in
+    let more = c.write.ensures.same in (
+      (more.0 ∙ same.0, more.1 ∙ same.1, more.2 ∙ same.2),
       rw (take_rest rest n)
-          (so_far_more (record { written = g.K.Link.written c.args.link.now; faults = g.K.Link.faults c.args.link.now })
-          (record { written = g.K.Link.written c.loop-rest.link; faults = g.K.Link.faults c.loop-rest.link })
-          (record { written = g.K.Link.written c.write.new.self; faults = g.K.Link.faults c.write.new.self })
+          (so_far_more (g.K.Link.seen c.args.link.now).stream (g.K.Link.seen c.loop-rest.link).stream (g.K.Link.seen c.write.new.self).stream
           c.args.bytes.now rest n c.loop-rest.invariant.1 c.in_ok-count.ensures.bytes c.in_ok-count.ensures.cause.steady),
     )

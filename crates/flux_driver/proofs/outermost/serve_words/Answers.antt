@@ -1,6 +1,5 @@
 use Rattle.std.specs.Arc.{arc_value}
 use Rattle.flux_commands.specs.BuiltIn.{built_in, docs_in}
-use Rattle.flux_driver.specs.Seen.{Link, link_by}
 use Rattle.flux_driver.proofs.Steps.{told_same}
 use Rattle.flux_driver.proofs.Answered.{told_done}
 use Rattle.flux_driver.proofs.Serves.{serves_some}
@@ -21,7 +20,7 @@ serve_ready-end-requires-clause-source g c = λ κs lives. let ready = c.in-Ok.e
 
 pub returns-in-Ok-clause-done : goal.returns-in-Ok-clause-done
 returns-in-Ok-clause-done g c =
-    let see : g.row.D-Link.Denot → Link = link_by g.D.Link.Link.had g.D.Link.Link.left g.D.Link.Link.left_before g.D.Link.Link.written g.D.Link.Link.faults in
+    let see = g.D.Link.Link.seen in
     let all = arc_value c.in-Ok.ready.library in
     ready_done built_in c.args.words.now _ _ c.in-Ok.service (docs_in all) c.in-Ok.ready.checked c.in-Ok.ready.framing c.in-Ok.ensures.ready c.serve_ready-end.result c.tell_end.result c.in-Ok.ensures.spelled c.in-Ok.ensures.docs
     (by_as_seen c.in-Ok.service.replying see _ _ _ _ _ c.serve_ready-end.ensures.served)
@@ -32,8 +31,7 @@ returns-in-Ok-clause-done g c =
       folder = c.ready_words.ensures.later_folder;
       out = c.serve_ready-end.ensures.later_log;
       err = c.tell_end.ensures.later;
-      door = c.serve_ready-end.ensures.later.0;
-      late = c.serve_ready-end.ensures.later.1;
+      door = c.serve_ready-end.ensures.later;
     })
     c.in-Ok.ensures.asked c.in-Ok.ensures.counts c.in-Ok.ensures.complete c.tell_end.ensures.status
 

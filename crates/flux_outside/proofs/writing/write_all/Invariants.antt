@@ -3,9 +3,7 @@ use Rattle.flux_outside.proofs.Writes.{SoFar}
 use Rattle.flux_outside.proofs.writing.write_all.Given as goal
 
 abbrev pub invariant-loop-rest : goal.invariant-loop-rest
-invariant-loop-rest g l =
-    SoFar (record { written = g.O.Sink.written l.fn.out; faults = g.O.Sink.faults l.fn.out })
-    (record { written = g.O.Sink.written l.out; faults = g.O.Sink.faults l.out }) l.bytes l.rest
+invariant-loop-rest g l = SoFar (g.O.Sink.seen l.fn.out) (g.O.Sink.seen l.out) l.bytes l.rest
 
 abbrev pub decreases-loop-rest : goal.decreases-loop-rest
 decreases-loop-rest g l = length l.rest

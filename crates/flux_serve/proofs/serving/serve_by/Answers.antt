@@ -2,14 +2,14 @@ use denote.Param.Members.{lentᵐ}
 use denote.Param.Send.{sendable}
 use Rattle.std.proofs.Common.{refl, ◌∙◌, [], arith}
 use Rattle.flux_cells.specs.Kept.{cells_of}
-use Rattle.flux_batches.specs.Links.{Seen, seen_by}
-use Rattle.flux_serve.specs.steps.Batches.{sight_in, service_in}
+use Rattle.flux_serve.specs.Ends.{sight_of}
+use Rattle.flux_serve.specs.steps.Batches.{service_in}
 use Rattle.flux_serve.proofs.AtOnceDriven.{none_at_once}
 use Rattle.flux_serve.proofs.serving.serve_by.Goals as goal
 
 pub serve_batches-requires-clause-drives : goal.serve_batches-requires-clause-drives
 serve_batches-requires-clause-drives g c κs within p p' q q' opening number result none few post =
-    let see : g.row.D-Link.Denot → Seen = seen_by g.D.Link.Link.had g.D.Link.Link.left g.D.Link.Link.left_before g.D.Link.Link.written g.D.Link.Link.faults in
+    let see = g.D.Link.Link.seen in
     let all = post.1 in
     let outs = all.1 in
     let opens = outs.1 in
@@ -24,8 +24,8 @@ serve_batches-requires-clause-drives g c κs within p p' q q' opening number res
       bound = bounds.0;
       ran = runs.0;
       none = λ log. none_at_once see (service_in g.L.Meaning.meaning c.args.served.now) (cells_of opening) number
-          (sight_in g.D.Door.to_come g.D.Door.taken_back g.D.Door.faults g.D.Door.late q.now log)
-          (sight_in g.D.Door.to_come g.D.Door.taken_back g.D.Door.faults g.D.Door.late q'.now log) result (runs.1 log);
+          (sight_of (g.D.Door.seen q.now) log)
+          (sight_of (g.D.Door.seen q'.now) log) result (runs.1 log);
     }
 
 pub returns-clause-again : goal.returns-clause-again

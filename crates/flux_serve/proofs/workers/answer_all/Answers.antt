@@ -1,5 +1,4 @@
 use Rattle.std.proofs.Common.{◌≡◌, List, length, sym, subst, ◌∙◌}
-use Rattle.flux_batches.specs.Links.{Seen, seen_by}
 use Rattle.flux_serve.specs.declared.replies.PendingReply.{PendingReply}
 use Rattle.flux_serve.specs.steps.PendingReplies.{AreRepliesSoFar}
 use Rattle.flux_serve.proofs.Working.{keeps-are}
@@ -7,7 +6,7 @@ use Rattle.flux_serve.proofs.workers.answer_all.Goals as goal
 
 pub returns-clause-replies : goal.returns-clause-replies
 returns-clause-replies g c =
-    let see : g.row.K.Denot → Seen = seen_by g.K.Link.had g.K.Link.left g.K.Link.left_before g.K.Link.written g.K.Link.faults in
+    let see = g.K.Link.seen in
     let there = c.make_contiguous.ensures in
     let all = c.make_contiguous.result.now in
     let long : length c.rounds.new.replies ≡ length all = c.rounds.auto.replies in

@@ -2,20 +2,19 @@ use Rattle.std.proofs.Common.{[], slice_index_or, refl, sym, subst, arith}
 use Rattle.std.proofs.lemmas.List.{append-nil}
 use Rattle.flow_core.specs.States.{CoreState}
 use Rattle.flow_core.specs.Runs.{GoesOn}
-use Rattle.flux_batches.specs.Links.{Seen, seen_by}
 use Rattle.flux_serve.proofs.Shares.{replies-same}
 use Rattle.flux_serve.proofs.Working.{has-worked, worked-joined}
 use Rattle.flux_serve.proofs.workers.drive.Goals as goal
 
 pub join_all-seat-requires-clause-seats : goal.join_all-seat-requires-clause-seats
 join_all-seat-requires-clause-seats g c place none below =
-    let see : g.row.K.Denot → Seen = seen_by g.K.Link.had g.K.Link.left g.K.Link.left_before g.K.Link.written g.K.Link.faults in
+    let see = g.K.Link.seen in
     has-worked see _ (slice_index_or c.seat_all-seat.new.queues place none) (slice_index_or c.shift.new.queues place none)
     (c.shift.ensures place none (omega (arith, below, c.shift.auto.queues)))
 
 pub returns-in-Ok-clause-replies : goal.returns-in-Ok-clause-replies
 returns-in-Ok-clause-replies g c place none below =
-    let see : g.row.K.Denot → Seen = seen_by g.K.Link.had g.K.Link.left g.K.Link.left_before g.K.Link.written g.K.Link.faults in
+    let see = g.K.Link.seen in
     let core = c.close.result in
     worked-joined see _ core.entries c.join_all-seat.result (slice_index_or c.args.queues.now place none) (slice_index_or c.seat_all-seat.new.queues place none)
     (slice_index_or c.shift.new.queues place none) (slice_index_or c.join_all-seat.new.queues place none)
@@ -32,5 +31,5 @@ returns-in-Err-clause-on g c =
 
 pub returns-in-Err-clause-replies : goal.returns-in-Err-clause-replies
 returns-in-Err-clause-replies g c place none below =
-    let see : g.row.K.Denot → Seen = seen_by g.K.Link.had g.K.Link.left g.K.Link.left_before g.K.Link.written g.K.Link.faults in
+    let see = g.K.Link.seen in
     replies-same see _ _

@@ -1,12 +1,11 @@
 use Rattle.std.proofs.Common.{◌∙◌, arith}
 use Rattle.std.proofs.lemmas.List.{length-set}
-use Rattle.flux_batches.specs.Links.{Seen, seen_by}
 use Rattle.flux_serve.proofs.Working.{begins-more, keeps-at}
 use Rattle.flux_serve.proofs.workers.round.Goals as goal
 
 pub loop-place-preserved : goal.loop-place-preserved
 loop-place-preserved g c =
-    let see : g.row.K.Denot → Seen = seen_by g.K.Link.had g.K.Link.left g.K.Link.left_before g.K.Link.written g.K.Link.faults in
+    let see = g.K.Link.seen in
     let before = c.loop-place.invariant in
     let at = c.loop-place.place in
     let replies = c.loop-place.replies in

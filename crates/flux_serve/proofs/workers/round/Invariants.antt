@@ -1,5 +1,4 @@
 use Rattle.std.proofs.Common.{◌≡◌, length}
-use Rattle.flux_batches.specs.Links.{seen_by}
 use Rattle.flow_shared.specs.Journals.{BeginsWith}
 use Rattle.flux_serve.specs.steps.Workers.{KeepReplies}
 use Rattle.flux_serve.proofs.workers.round.Given as goal
@@ -8,5 +7,5 @@ use Rattle.flux_serve.proofs.workers.round.Given as goal
 abbrev pub invariant-loop-place : goal.invariant-loop-place
 invariant-loop-place g l =
     (l.seat.shared ≡ l.shared) × BeginsWith l.seat.seen l.fn.seat.seen
-    × KeepReplies (seen_by g.K.Link.had g.K.Link.left g.K.Link.left_before g.K.Link.written g.K.Link.faults) l.fn.seat.seen l.seat.seen l.fn.replies l.replies
+    × KeepReplies g.K.Link.seen l.fn.seat.seen l.seat.seen l.fn.replies l.replies
     × (length l.replies ≡ length l.fn.replies)

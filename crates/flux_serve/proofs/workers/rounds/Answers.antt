@@ -1,17 +1,16 @@
 use Rattle.std.proofs.Common.{refl, ◌∙◌}
-use Rattle.flux_batches.specs.Links.{Seen, seen_by}
 use Rattle.flux_serve.proofs.Working.{begins-same, keeps-then, keep-all-none}
 use Rattle.flux_serve.proofs.workers.rounds.Goals as goal
 
 pub loop-init : goal.loop-init
 loop-init g c =
-    let see : g.row.K.Denot → Seen = seen_by g.K.Link.had g.K.Link.left g.K.Link.left_before g.K.Link.written g.K.Link.faults in
+    let see = g.K.Link.seen in
     let first = c.args.seat in
     (c.requires, keep-all-none see first.seen first.seen c.args.replies.now (begins-same first.seen), refl)
 
 pub loop-preserved-in-Went : goal.loop-preserved-in-Went
 loop-preserved-in-Went g c =
-    let see : g.row.K.Denot → Seen = seen_by g.K.Link.had g.K.Link.left g.K.Link.left_before g.K.Link.written g.K.Link.faults in
+    let see = g.K.Link.seen in
     let before = c.loop.invariant in
     let one = c.args.seat in
     let two = c.loop.seat in
@@ -23,7 +22,7 @@ loop-preserved-in-Went g c =
 
 pub loop-preserved : goal.loop-preserved
 loop-preserved g c =
-    let see : g.row.K.Denot → Seen = seen_by g.K.Link.had g.K.Link.left g.K.Link.left_before g.K.Link.written g.K.Link.faults in
+    let see = g.K.Link.seen in
     let before = c.loop.invariant in
     let one = c.args.seat in
     let two = c.loop.seat in
@@ -35,7 +34,7 @@ loop-preserved g c =
 
 pub returns-in-Ended-clause-replies : goal.returns-in-Ended-clause-replies
 returns-in-Ended-clause-replies g c =
-    let see : g.row.K.Denot → Seen = seen_by g.K.Link.had g.K.Link.left g.K.Link.left_before g.K.Link.written g.K.Link.faults in
+    let see = g.K.Link.seen in
     let before = c.loop.invariant in
     let one = c.args.seat in
     let two = c.loop.seat in

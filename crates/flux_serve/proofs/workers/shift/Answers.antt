@@ -2,7 +2,6 @@ use denote.Param.Send.{sendable}
 use Rattle.std.proofs.Common.{slice_index_or, sym, subst}
 use Rattle.std.proofs.Crossing.{sync as heap_sync}
 use Rattle.flow_shared.specs.States.{SeatState}
-use Rattle.flux_batches.specs.Links.{Seen, seen_by}
 use Rattle.flux_serve.specs.declared.queues.WorkerQueue.{WorkerQueue}
 use Rattle.flux_serve.specs.steps.Workers.{HasSeat, HasWorked}
 use Rattle.flux_serve.proofs.Crossing.{seat_send, all_sync, queue_send}
@@ -21,7 +20,7 @@ for_each_mut-requires-clause-accepts g c κs within i p below is =
 
 pub returns : goal.returns
 returns g c place none below =
-    let see : g.row.K.Denot → Seen = seen_by g.K.Link.had g.K.Link.left g.K.Link.left_before g.K.Link.written g.K.Link.faults in
+    let see = g.K.Link.seen in
     let changed = (c.for_each_mut.ensures place none below).1 in
     let argument = changed.argument in
     let O : WorkerQueue (SeatState g.row.L.Denot) g.row.K.Denot → Type 0 = λ old. HasWorked see c.args.shared.now old (slice_index_or c.for_each_mut.new.s place none) in

@@ -5,7 +5,6 @@ use Rattle.flow_core.specs.Runs.{GoesOn}
 use Rattle.flow_shared.specs.States.{SeatState}
 use Rattle.flux_laws.specs.Growth.{has_ended}
 use Rattle.flux_outside.specs.Streams.{WroteOrBroke}
-use Rattle.flux_batches.specs.Links.{Seen, seen_by, stream_of}
 use Rattle.flux_batches.specs.Replies.{reply_of}
 use Rattle.flux_serve.proofs.Working.{begins-more, given-shared, given-seen, replied-so}
 use Rattle.flux_serve.proofs.workers.visit.Goals as goal
@@ -55,7 +54,7 @@ returns-in-Stands-clause-reply g c = inl refl
 
 pub returns-in-Replies-clause-reply : goal.returns-in-Replies-clause-reply
 returns-in-Replies-clause-reply g c =
-    let see : g.row.K.Denot → Seen = seen_by g.K.Link.had g.K.Link.left g.K.Link.left_before g.K.Link.written g.K.Link.faults in
+    let see = g.K.Link.seen in
     let old = c.args.reply.now in
     let new = c.write.new.self in
     let request = old.request in
@@ -65,7 +64,7 @@ returns-in-Replies-clause-reply g c =
     let is = ap (λ (s : SeatState g.row.L.Denot). s.seen) c.give-seat.ensures.seat in
     let told = c.in-Replies.ensures.next in
     let E : List Entry → Type 0 = λ e. has_ended e flow.0 ≡ true in
-    let W : List ℕ → Type 0 = WroteOrBroke (stream_of (see request.link)) (stream_of (see request'.link)) in
+    let W : List ℕ → Type 0 = WroteOrBroke (see request.link).stream (see request'.link).stream in
     replied-so see seat.seen old new c.requires.text c.write.ensures.same c.write.ensures.sent c.write.ensures.written
     (subst E (sym is) told.0)
     (subst W (c.as_slice.ensures.value ∙ told.1 ∙ ap (reply_of flow.0) (sym is)) c.write.ensures.wrote)
