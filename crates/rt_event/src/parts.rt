@@ -61,12 +61,12 @@ pub fn call_of<L: Library>(core: &mut Core<L>, flow: FlowNo) -> Next<L>
     }
 }
 
-/// The loop and so many helpers, the loop first.
+/// So many helpers, and after them the loop: where no thread can be made, the last one is run first, and drives all flows.
 pub fn parts<L: Library>(core: &Core<L>, helpers: u8) -> Result<Vec<Part>, Memory> {
     let mut parts = Vec::new(core.alloc());
-    parts.push(Part::Lead(Lead::new(core)?))?;
     for number in 0..helpers {
         parts.push(Part::Helper(Helper::new(number)))?;
     }
+    parts.push(Part::Lead(Lead::new(core)?))?;
     Ok(parts)
 }

@@ -2,7 +2,8 @@
 //!
 //! It prints what came of each trial, which is the same whatever the order of the threads' turns. Each journal of flows that were driven
 //! to their ends is audited. With the words `heavy RUNTIME SHAPE FLOWS ROUNDS` it drives flows of heavy calls, for the benches, and
-//! audits nothing. With `seeds RUNTIME N` it drives N random programs once each.
+//! audits nothing. With `seeds RUNTIME N` it drives N random programs once each, and with `held RUNTIME FLOWS HOLDER` flows that wait
+//! for one of them, which holds the key from the start.
 #![tactic(auto)]
 
 mod burdens;
@@ -11,6 +12,7 @@ mod gates;
 mod halls;
 mod heavy;
 mod lates;
+mod partial;
 mod queues;
 mod refusals;
 mod runs;
@@ -22,6 +24,7 @@ use flow_core::OpenGate;
 use halls::two_tries;
 use heavy::drive_load;
 use lates::late_of;
+use partial::drive_held;
 use queues::takes;
 use refusals::driven_twice;
 use runs::{Driver, calls_held, drive_many, kept, nested_kept};
@@ -126,6 +129,23 @@ fn answer_nested<R: Threads + Wait + Sync + Print>(
     Ok(())
 }
 
+/// Flows that wait for one of them, which holds the key from the start.
+fn answer_held<R: Threads + Wait + Sync + Print>(
+    rt: &R,
+    alloc: Global,
+    driver: Driver,
+    name: &str,
+) -> Result<(), Trouble> {
+    for holder in [0, 64] {
+        let held = drive_held(rt, alloc, driver, 65, holder)?;
+        println!(rt;
+            "{name}: flow {holder} of 65 holds the key first: {} have ended, counted {}, upheld {}",
+            held.ended, held.greatest, held.is_upheld
+        )?;
+    }
+    Ok(())
+}
+
 /// Calls that are refused, each in turn.
 fn answer_refusals<R: Threads + Wait + Sync + Print>(
     rt: &R,
@@ -194,6 +214,7 @@ fn answer_drivers<R: Threads + Wait + Sync + Print>(rt: &R, alloc: Global) -> Re
     for (driver, name) in DRIVERS {
         answer_seeds(rt, alloc, *driver, name)?;
         answer_nested(rt, alloc, *driver, name)?;
+        answer_held(rt, alloc, *driver, name)?;
         answer_refusals(rt, alloc, *driver, name)?;
     }
     Ok(())
@@ -245,6 +266,18 @@ fn answer<R: Threads + Wait + Sync + Print + Files + Alloc + Clock>(
             let heavy = drive_load(rt, alloc, driver, load)?;
             let [half, most] = heavy.pauses;
             println!(rt; "flows {} half {half} most {most}", heavy.ended)?;
+            Ok(())
+        }
+        Words::Held {
+            driver,
+            flows,
+            holder,
+        } => {
+            let held = drive_held(rt, alloc, driver, flows, holder)?;
+            println!(rt;
+                "{} flows have ended, upheld {}",
+                held.ended, held.is_upheld
+            )?;
             Ok(())
         }
         Words::Seeds { driver, seeds } => {
