@@ -1,11 +1,12 @@
 //! Groups of flows, each flow with a leaf of its own.
 
+ghost use Rattle.std.specs.Prelude.{◌≡◌, ◌-◌, IfOk, vec_len};
 ghost use Rattle.flow_core.specs.Runs.{GoesOn};
-ghost use Rattle.flow_turns.specs.Workers.{RunsIn};
+ghost use Rattle.flow_turns.specs.Workers.{RunsIn, IsOver};
 
 use crate::groups::{Group, Stage};
 use flow_core::{Core, Gate};
-use flow_turns::{Next, TurnEnd, Worker, freed_since, go_on, share};
+use flow_turns::{Next, TurnEnd, Worker, freed_since, give_up, go_on, is_over, share};
 use flux_library::Library;
 use flux_model::FlowNo;
 use flux_values::Memory;
@@ -30,16 +31,17 @@ pub fn rounds<L: Library + Send + Sync, G: Gate + Sync, R: Threads + Wait + Sync
     core: Core<L>,
     gate: &G,
 ) -> Core<L>
-    ensures { GoesOn core result }
+    ensures on { GoesOn core result }
+    ensures over { IsOver result }
 {
     let mut core = core;
     for _ in rt.forever() {
-        if core.is_halted() || core.live() == 0 {
+        if is_over(&core) {
             return core;
         }
         core = groups(rt, core, gate);
     }
-    core
+    unreachable!()
 }
 
 /// Group after group.
@@ -62,7 +64,9 @@ fn groups<L: Library + Send + Sync, G: Gate + Sync, R: Threads + Wait + Sync>(
 }
 
 /// A leaf for each flow from `first` up to `end`.
-fn leaves(alloc: Global, first: u32, end: u32) -> Result<Vec<Leaf>, Memory> {
+fn leaves(alloc: Global, first: u32, end: u32) -> Result<Vec<Leaf>, Memory>
+    ensures { IfOk result (λ leaves. vec_len leaves ≡ end - first) }
+{
     let mut leaves = Vec::new(alloc);
     for number in first..end {
         leaves.push(Leaf {
@@ -87,11 +91,7 @@ fn group<L: Library + Send + Sync, G: Gate + Sync, R: Threads + Wait + Sync>(
     let alloc = core.alloc();
     match (leaves(alloc, first, end), Group::new(alloc, first, end)) {
         (Ok(leaves), Ok(group)) => share(rt, core, &group, leaves, gate),
-        _ => {
-            let mut core = core;
-            core.halt();
-            core
-        }
+        _ => give_up(core),
     }
 }
 
