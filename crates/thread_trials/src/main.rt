@@ -26,7 +26,7 @@ use heavy::drive_load;
 use lates::late_of;
 use partial::drive_held;
 use queues::takes;
-use refusals::driven_twice;
+use refusals::{driven_once, driven_twice};
 use runs::{Driver, calls_held, drive_many, kept, nested_kept};
 use std::alloc::Global;
 use std::env;
@@ -177,6 +177,23 @@ fn answer_beside<R: Threads + Wait + Sync + Print>(
     Ok(())
 }
 
+/// Calls that are refused, each in turn, while the program's own runtime drives: it goes on by the thread that calls.
+fn answer_drained<R: Threads + Wait + Sync + Print>(
+    rt: &R,
+    alloc: Global,
+    driver: Driver,
+    name: &str,
+) -> Result<(), Trouble> {
+    for call in 1..=4 {
+        let came = driven_once(rt, alloc, driver, call)?;
+        println!(rt;
+            "{name}: call {call} is refused, and the drive goes on: ended {}, counted {}, upheld {}",
+            came.ended, came.greatest, came.is_upheld
+        )?;
+    }
+    Ok(())
+}
+
 /// A call that is run twice.
 fn answer_late<R: Threads + Wait + Sync + Print>(
     rt: &R,
@@ -230,6 +247,7 @@ fn answer_shared<R: Wait + Print>(rt: &R, alloc: Global) -> Result<(), Trouble> 
 fn answer_threads<R: Threads + Wait + Sync + Print>(rt: &R, alloc: Global) -> Result<(), Trouble> {
     for (driver, name) in BESIDE {
         answer_beside(rt, alloc, *driver, name)?;
+        answer_drained(rt, alloc, *driver, name)?;
     }
     answer_late(rt, alloc, Driver::Helpers(1), "event=1")?;
     answer_drivers(rt, alloc)?;

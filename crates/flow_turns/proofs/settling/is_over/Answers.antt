@@ -9,7 +9,7 @@ returns-then-is_halted g c =
 
 pub returns-else-is_halted : goal.returns-else-is_halted
 returns-else-is_halted g c =
-    let live = c.live-else-is_halted in (
+    let live = c.live in (
       (λ is. inr (sym live.ensures ∙ eqb-true live.result 0 is)),
       ⊎_elim (λ is. absurd (true≢false (sym is ∙ sym c.is_halted.ensures ∙ c.if-is_halted.false)))
           (λ none. ap (λ n. n == 0) (live.ensures ∙ none)),

@@ -1,6 +1,4 @@
-use Rattle.std.specs.Prelude.{◌==◌}
 use Rattle.std.proofs.Common.{◌≡◌, ◌∙◌, ⊎_elim, sym, ap}
-use Rattle.std.proofs.lemmas.Bool.{true≢false}
 use Rattle.flow_core.specs.States.{CoreState}
 use Rattle.flow_core.specs.Runs.{live_count}
 use Rattle.flow_turns.proofs.settling.settle.Goals as goal
@@ -34,5 +32,5 @@ returns-else-live-eq0-clause-want g c =
       | else-halted w ↦ w.core-is ∙ w.resume.ensures ∙ ap (λ h. record c.args.core { halted = h }) (sym w.if-halted.false)
     ] in
     ⊎_elim (λ is. is)
-    (λ none. absurd (true≢false (sym (ap (λ n. n == 0) (c.live.ensures ∙ ap live_count same ∙ none)) ∙ c.if-live-eq0.false)))
+    (λ none. absurd (c.if-live-eq0.false (c.live.ensures ∙ ap live_count same ∙ none)))
     c.requires
