@@ -103,7 +103,11 @@ impl PoolWorker {
     {
         for _flow in 0..FLOWS_A_TURN {
             let Some(flow) = self.next_flow(rt, desk, core.flows()) else {
-                return if is_over(core) { Next::Ends } else { Next::Rests };
+                return if is_over(core) {
+                    Next::Ends
+                } else {
+                    Next::Rests
+                };
             };
             let known = core.journal().entries.len();
             let end = go_on(core, flow);
