@@ -3,4 +3,5 @@
 mod cells;
 mod classes;
 mod graphs;
+mod plans;
 mod tables;

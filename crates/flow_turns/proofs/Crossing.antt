@@ -2,7 +2,7 @@
 use denote.RattleType.{RattleType}
 use denote.Param.Send.{IsSend, IsSync, sendable, view_sync}
 use denote.Param.SendFields.{declared_sync}
-use Rattle.std.proofs.Crossing.{send as heap_send, sync as heap_sync, crosses, frees}
+use Rattle.std.proofs.Crossing.{send as heap_send, sync as heap_sync, crosses}
 use Rattle.flux_values.specs.declared.meanings.Meaning as meaning
 use Rattle.flow_core.specs.contracts.cores.Core as core
 use Rattle.flow_core.proofs.Crossing.{core_send}

@@ -1,5 +1,5 @@
 -- What a flow's own steps add, and how they end.
-use Rattle.std.proofs.Common.{◌≡◌, ◌≢◌, ◌⊎◌, inl, inr, ℕ, Bool, true, List, [], ◌∷◌, ◌++◌, Option, Some, None, Result, Ok, Err, refl, sym, ap, subst, ◌∙◌, append_assoc}
+use Rattle.std.proofs.Common.{◌≡◌, inl, inr, Bool, List, [], ◌∷◌, ◌++◌, Result, Ok, Err, refl, sym, ap, ◌∙◌, append_assoc}
 use Rattle.std.specs.Prelude.{IfOk, OnErr}
 use Rattle.std.specs.List.{AllByRecursion}
 use Rattle.std.proofs.lemmas.List.{append-nil}
@@ -9,7 +9,6 @@ use Rattle.flux_model.specs.declared.items.FlowNo.{FlowNo}
 use Rattle.flow_model.specs.declared.journals.Entry.{Entry}
 use Rattle.flow_model.specs.declared.journals.Event.{Event}
 use Rattle.flow_model.specs.declared.journals.Event.TheVariants as events
-use Rattle.flux_laws.specs.Growth.{has_ended}
 use Rattle.flow_state.specs.declared.inputs.Inputs.{Inputs}
 use Rattle.flow_core.specs.declared.cores.Step.{Step}
 use Rattle.flow_core.specs.declared.cores.Step.TheVariants as steps
@@ -17,7 +16,7 @@ use Rattle.flow_core.specs.declared.cores.Finish.{Finish}
 use Rattle.flow_core.specs.declared.cores.Finish.TheVariants as finishes
 use Rattle.flow_core.specs.States.{CoreState}
 use Rattle.flow_core.specs.Runs.{GoesOn, LeavesOthers}
-use Rattle.flow_core.specs.Moves.{with_entry, HasStepped, HasFinished}
+use Rattle.flow_core.specs.Moves.{HasStepped, HasFinished}
 use Rattle.flow_turns.specs.Turns.{AddsOwn}
 
 abbrev Owns : FlowNo → List Entry → Type 0

@@ -1,5 +1,5 @@
 -- A drive as a whole: a core that was resumed, has gone on, and was settled.
-use Rattle.std.proofs.Common.{◌≡◌, Bool, false, ◌++◌, [], Result, Ok, Err, refl, sym, ap, ◌∙◌}
+use Rattle.std.proofs.Common.{◌≡◌, inl, Bool, true, false, ◌++◌, [], Result, Ok, Err, refl, sym, ap, ◌∙◌}
 use Rattle.std.specs.Prelude.{IfOk, IfErr}
 use Rattle.std.proofs.lemmas.List.{append-nil}
 use Rattle.flux_values.specs.Meanings.{LibraryMeaning}
@@ -7,10 +7,15 @@ use Rattle.flow_core.specs.States.{CoreState}
 use Rattle.flow_core.specs.Runs.{GoesOn, GoesOnLegally, GoesToEnd}
 use Rattle.flow_core.specs.declared.runtimes.Stopped.{Stopped}
 use Rattle.flow_turns.specs.Settling.{IsSetBack, EndsWhole}
+use Rattle.flow_turns.specs.Workers.{IsOver}
 
 module _ {L : Type 0} where
   pub goes-none : (core : CoreState L) → GoesOn core core
   goes-none core = record { setup_ = refl; more = []; added = sym (append-nil core.entries) }
+
+  -- a core that was halted is over
+  pub over_halted : (old new : CoreState L) → new ≡ record old { halted = true } → IsOver new
+  over_halted old new is = inl (ap (λ (c : CoreState L). c.halted) is)
 
   pub goes-flag : (core : CoreState L) (halted : Bool) → GoesOn core (record core { halted = halted })
   goes-flag core halted = record { setup_ = refl; more = []; added = sym (append-nil core.entries) }

@@ -2,13 +2,14 @@
 use Rattle.std.specs.Prelude.{◌≡◌, ◌⊎◌, true, ⊤}
 use Rattle.flux_values.specs.declared.answers.Answer.{Answer}
 use Rattle.flux_values.specs.Meanings.{LibraryMeaning}
+use Rattle.flux_model.specs.declared.items.FlowNo.{FlowNo}
 use Rattle.flow_state.specs.States.{SetupState}
 use Rattle.flow_core.specs.States.{CoreState, JobState}
 use Rattle.flow_core.specs.Moves.{HasFinished}
 use Rattle.flow_core.specs.Runs.{GoesOn, live_count}
 use Rattle.flow_core.specs.declared.cores.Finish.{Finish}
 use Rattle.flow_hall.specs.States.{HallState}
-use Rattle.flow_turns.specs.Turns.{IsCallIn}
+use Rattle.flow_turns.specs.Turns.{IsCallIn, IsOwnCall}
 use Rattle.flow_turns.specs.declared.workers.Next.{Next}
 use Rattle.flow_turns.specs.declared.workers.Next.TheVariants.{Goes, Rests, Runs, Ends}
 use Rattle.flow_turns.specs.declared.workers.Post.{Post}
@@ -28,6 +29,20 @@ module _ {L : Type 0} where
   -- the core is halted, or no flow is live
   abbrev pub IsOver : CoreState L → Type 0
   IsOver core = (core.halted ≡ true) ⊎ (live_count core ≡ 0)
+
+  -- a worker ends only then
+  abbrev pub EndsIn : CoreState L → Next L → Type 0
+  EndsIn core Goes = ⊤
+  EndsIn core Rests = ⊤
+  EndsIn core (Runs job) = ⊤
+  EndsIn core Ends = IsOver core
+
+  -- the call that a worker runs, if it runs one, is the one that this flow has begun
+  abbrev pub RunsOwn : CoreState L → FlowNo → Next L → Type 0
+  RunsOwn core flow Goes = ⊤
+  RunsOwn core flow Rests = ⊤
+  RunsOwn core flow (Runs job) = IsOwnCall core flow job
+  RunsOwn core flow Ends = ⊤
 
   -- a call's answer was handed in, at a turn that found this core and left the other
   pub record HandsInAnswer (meaning : L → LibraryMeaning) (base : CoreState L) (job : JobState L)

@@ -6,6 +6,7 @@ ghost use Rattle.flow_turns.specs.Turns.{IsCallIn};
 ghost use Rattle.flow_turns.specs.Workers.{RunsIn, HasSeat, WasRun};
 
 use crate::calls::run;
+use crate::settling::give_up;
 use crate::turns::take_answer;
 use flow_core::{Core, Gate, Job};
 use flow_hall::{Hall, HallSeat};
@@ -223,10 +224,6 @@ pub fn share<
             let seat = work_all(rt, alloc, &hall, seat, shared, workers, gate);
             hall.close(rt, seat)
         }
-        Err(stopped) => {
-            let mut core = stopped.core;
-            core.halt();
-            core
-        }
+        Err(stopped) => give_up(stopped.core),
     }
 }

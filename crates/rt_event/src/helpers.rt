@@ -2,7 +2,7 @@
 
 ghost use Rattle.std.specs.Prelude.{◌<◌};
 ghost use Rattle.flow_core.specs.Runs.{GoesOn};
-ghost use Rattle.flow_turns.specs.Workers.{RunsIn};
+ghost use Rattle.flow_turns.specs.Workers.{RunsIn, EndsIn};
 
 use crate::bells::{Bells, await_bell};
 use crate::parts::call_of;
@@ -43,6 +43,7 @@ impl Helper {
     ) -> Next<L>
         ensures on { GoesOn core.old core.new }
         ensures runs { RunsIn core.new.setup result }
+        ensures ends { EndsIn core.new result }
     {
         if self.runs {
             bells.lead.ring();
@@ -60,6 +61,7 @@ impl Helper {
     ) -> Next<L>
         ensures on { GoesOn core.old core.new }
         ensures runs { RunsIn core.new.setup result }
+        ensures ends { EndsIn core.new result }
     {
         let Some(board) = bells.board(self.number) else {
             return Next::Rests;

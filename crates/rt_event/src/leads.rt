@@ -2,7 +2,8 @@
 
 ghost use Rattle.std.specs.Prelude.{◌<◌, length, IfSome};
 ghost use Rattle.flow_core.specs.Runs.{GoesOn};
-ghost use Rattle.flow_turns.specs.Workers.{RunsIn};
+ghost use Rattle.rt_event.specs.Calls.{IsLowestCall};
+ghost use Rattle.flow_turns.specs.Workers.{RunsIn, EndsIn};
 
 use crate::bells::{Bells, await_bell};
 use crate::parts::call_of;
@@ -22,7 +23,8 @@ const TURNS_WITHOUT_ENTRY: u32 = 1_000;
 
 /// The lowest flow whose call is begun.
 fn lowest_call<L: Library>(core: &Core<L>) -> Option<FlowNo>
-    ensures { IfSome result (λ flow. flow.0 < length core.now.setup.items) }
+    ensures flow { IfSome result (λ flow. flow.0 < length core.now.setup.items) }
+    ensures lowest { IsLowestCall core.now result }
 {
     for number in 0..core.flows() {
         let flow = FlowNo(number);
@@ -64,6 +66,7 @@ impl Lead {
     ) -> Next<L>
         ensures on { GoesOn core.old core.new }
         ensures runs { RunsIn core.new.setup result }
+        ensures ends { EndsIn core.new result }
     {
         self.rung = bells.lead.rung();
         if self.advance(rt, bells, core).is_err() {

@@ -11,8 +11,28 @@ use std::sync::atomic::{AtomicBool, Ordering};
 pub struct Place {
     /// Rung when the leaf's flow may go on.
     pub bell: Bell,
+    /// Whether the leaf has had a turn.
+    begun: AtomicBool,
     /// Whether the leaf has returned.
     returned: AtomicBool,
+}
+
+/// How far a leaf is.
+#[derive(Clone, Copy, Drop)]
+pub enum Stage {
+    /// It has had no turn, and has none where its thread can't be made before others have returned.
+    Expected,
+    /// It lets its flow go on.
+    Works,
+    /// It has returned, or there is none in this group.
+    Returned,
+}
+
+impl Place {
+    /// Notes that the leaf has a turn.
+    pub fn begin(&self) {
+        self.begun.store(true, Ordering::SeqCst);
+    }
 }
 
 /// Flows in a row. Each has a leaf, until that returns.
@@ -29,6 +49,7 @@ impl Group {
         for _flow in first..end {
             places.push(Place {
                 bell: Bell::new(),
+                begun: AtomicBool::new(false),
                 returned: AtomicBool::new(false),
             })?;
         }
@@ -41,11 +62,17 @@ impl Group {
         self.places.get(place as usize)
     }
 
-    /// Whether a flow has a leaf that may let it go on.
-    pub fn has_leaf(&self, flow: FlowNo) -> bool {
-        match self.place(flow) {
-            Some(place) => !place.returned.load(Ordering::SeqCst),
-            None => false,
+    /// How far the leaf of a flow is.
+    pub fn stage(&self, flow: FlowNo) -> Stage {
+        let Some(place) = self.place(flow) else {
+            return Stage::Returned;
+        };
+        if place.returned.load(Ordering::SeqCst) {
+            Stage::Returned
+        } else if place.begun.load(Ordering::SeqCst) {
+            Stage::Works
+        } else {
+            Stage::Expected
         }
     }
 

@@ -1,11 +1,12 @@
 //! Groups of flows, each flow with a leaf of its own.
 
+ghost use Rattle.std.specs.Prelude.{◌≡◌, ◌-◌, IfOk, vec_len};
 ghost use Rattle.flow_core.specs.Runs.{GoesOn};
-ghost use Rattle.flow_turns.specs.Workers.{RunsIn};
+ghost use Rattle.flow_turns.specs.Workers.{RunsIn, IsOver};
 
-use crate::groups::Group;
+use crate::groups::{Group, Stage};
 use flow_core::{Core, Gate};
-use flow_turns::{Next, TurnEnd, Worker, freed_since, go_on, share};
+use flow_turns::{Next, TurnEnd, Worker, freed_since, give_up, go_on, is_over, share};
 use flux_library::Library;
 use flux_model::FlowNo;
 use flux_values::Memory;
@@ -20,6 +21,9 @@ const GROUP: u32 = 64;
 /// A leaf whose flow waits looks again after so many milliseconds, though its bell wasn't rung.
 const LONGEST_SLEEP: u64 = 100;
 
+/// A leaf whose flow waits for one whose leaf has had no turn yet rests so often, at most.
+const RESTS_FOR_EXPECTED: u8 = 10;
+
 /// All groups, again and again, until no flow is live or the core is halted. A second round is for flows that waited for one
 /// of a later group.
 pub fn rounds<L: Library + Send + Sync, G: Gate + Sync, R: Threads + Wait + Sync>(
@@ -27,16 +31,17 @@ pub fn rounds<L: Library + Send + Sync, G: Gate + Sync, R: Threads + Wait + Sync
     core: Core<L>,
     gate: &G,
 ) -> Core<L>
-    ensures { GoesOn core result }
+    ensures on { GoesOn core result }
+    ensures over { IsOver result }
 {
     let mut core = core;
     for _ in rt.forever() {
-        if core.is_halted() || core.live() == 0 {
+        if is_over(&core) {
             return core;
         }
         core = groups(rt, core, gate);
     }
-    core
+    unreachable!()
 }
 
 /// Group after group.
@@ -59,12 +64,15 @@ fn groups<L: Library + Send + Sync, G: Gate + Sync, R: Threads + Wait + Sync>(
 }
 
 /// A leaf for each flow from `first` up to `end`.
-fn leaves(alloc: Global, first: u32, end: u32) -> Result<Vec<Leaf>, Memory> {
+fn leaves(alloc: Global, first: u32, end: u32) -> Result<Vec<Leaf>, Memory>
+    ensures { IfOk result (λ leaves. vec_len leaves ≡ end - first) }
+{
     let mut leaves = Vec::new(alloc);
     for number in first..end {
         leaves.push(Leaf {
             flow: FlowNo(number),
             rung: 0,
+            rests: RESTS_FOR_EXPECTED,
         })?;
     }
     Ok(leaves)
@@ -83,11 +91,7 @@ fn group<L: Library + Send + Sync, G: Gate + Sync, R: Threads + Wait + Sync>(
     let alloc = core.alloc();
     match (leaves(alloc, first, end), Group::new(alloc, first, end)) {
         (Ok(leaves), Ok(group)) => share(rt, core, &group, leaves, gate),
-        _ => {
-            let mut core = core;
-            core.halt();
-            core
-        }
+        _ => give_up(core),
     }
 }
 
@@ -97,11 +101,29 @@ pub struct Leaf {
     flow: FlowNo,
     /// How often its bell had been rung before its last turn.
     rung: u32,
+    /// So often more it rests for a leaf that has had no turn.
+    rests: u8,
+}
+
+impl Leaf {
+    /// Whether it rests, since its flow waits for one that can go on before the group is over: one with a leaf in this group
+    /// that works, or is expected to.
+    fn rests_for(&mut self, group: &Group, blocker: FlowNo) -> bool {
+        match group.stage(blocker) {
+            Stage::Works => true,
+            Stage::Returned => false,
+            Stage::Expected => {
+                let rests = self.rests > 0;
+                self.rests = self.rests.saturating_sub(1);
+                rests
+            }
+        }
+    }
 }
 
 impl Worker<Group> for Leaf {
-    /// It ends where its flow has ended or the core is halted. It ends too where its flow waits for one without a leaf in this
-    /// group: that one can't go on before the group is over.
+    /// It ends where its flow has ended or the core is halted, and where its flow waits for one that can't go on before the
+    /// group is over.
     fn turn<L: Library, R: Wait>(&mut self, _rt: &R, group: &Group, core: &mut Core<L>) -> Next<L>
         ensures on { GoesOn core.old core.new }
         ensures runs { RunsIn core.new.setup result }
@@ -113,6 +135,7 @@ impl Worker<Group> for Leaf {
         if flow.0 >= core.flows() {
             return Next::Ends;
         }
+        place.begin();
         self.rung = place.bell.rung();
         let known = core.journal().entries.len();
         let end = go_on(core, flow);
@@ -122,7 +145,7 @@ impl Worker<Group> for Leaf {
             return Next::Ends;
         }
         match end {
-            TurnEnd::Waits(blocker) if group.has_leaf(blocker) => Next::Rests,
+            TurnEnd::Waits(blocker) if self.rests_for(group, blocker) => Next::Rests,
             TurnEnd::Waits(_) | TurnEnd::Halted => {
                 group.leave(flow);
                 Next::Ends

@@ -1,11 +1,12 @@
 //! The desk: the queue of flows' numbers, and the numbers that are out.
 
-ghost use Rattle.std.specs.Prelude.{◌≡◌, ◌<◌, All};
+ghost use Rattle.std.specs.Prelude.{◌≡◌, ◌<◌, All, IfOk, length};
 
+use flow_core::Core;
 use flow_queue::{FlowQueue, QueuePass};
+use flux_library::Library;
 use flux_model::FlowNo;
 use flux_values::Memory;
-use std::alloc::Global;
 use std::collections::VecDeque;
 use std::mem;
 use std::sync::Wait;
@@ -47,10 +48,13 @@ fn new_place(queue: &FlowQueue, spare: QueuePass) -> (QueuePass, Place)
 }
 
 impl Desk {
-    /// A desk with the numbers of so many flows in its queue.
-    pub fn new<R: Wait>(rt: &R, alloc: Global, flows: u32) -> Result<Desk, Memory>
-        requires { 0 < flows }
+    /// A desk with the numbers of all flows of a core in its queue.
+    pub fn new<L: Library, R: Wait>(rt: &R, core: &Core<L>) -> Result<Desk, Memory>
+        requires { 0 < length core.now.setup.items }
+        ensures { IfOk result (λ desk. desk.queue.flows ≡ length core.now.setup.items) }
     {
+        let alloc = core.alloc();
+        let flows = core.flows();
         let (queue, pass) = FlowQueue::new(rt, alloc, flows)?;
         let mut spare = pass;
         let mut places = Vec::new(alloc);

@@ -1,12 +1,12 @@
 //! Workers.
 
-ghost use Rattle.std.specs.Prelude.{◌<◌, IfSome};
+ghost use Rattle.std.specs.Prelude.{◌≡◌, ◌<◌, IfOk, IfSome, vec_len};
 ghost use Rattle.flow_core.specs.Runs.{GoesOn};
-ghost use Rattle.flow_turns.specs.Workers.{RunsIn};
+ghost use Rattle.flow_turns.specs.Workers.{RunsIn, EndsIn};
 
 use crate::desks::Desk;
 use flow_core::Core;
-use flow_turns::{Bell, Next, TurnEnd, Worker, freed_since, go_on};
+use flow_turns::{Bell, Next, TurnEnd, Worker, freed_since, go_on, is_over};
 use flux_library::Library;
 use flux_model::FlowNo;
 use flux_values::Memory;
@@ -55,9 +55,11 @@ pub struct PoolWorker {
 }
 
 /// So many workers.
-pub fn workers(alloc: Global, count: u8) -> Result<Vec<PoolWorker>, Memory> {
+pub fn workers(alloc: Global, count: u8) -> Result<Vec<PoolWorker>, Memory>
+    ensures { IfOk result (λ workers. vec_len workers ≡ count) }
+{
     let mut workers = Vec::new(alloc);
-    for _worker in 0..count {
+    for _ in 0..count {
         workers.push(PoolWorker {
             current: None,
             rung: 0,
@@ -71,6 +73,7 @@ impl Worker<Office> for PoolWorker {
     fn turn<L: Library, R: Wait>(&mut self, rt: &R, office: &Office, core: &mut Core<L>) -> Next<L>
         ensures on { GoesOn core.old core.new }
         ensures runs { RunsIn core.new.setup result }
+        ensures ends { EndsIn core.new result }
     {
         self.rung = office.bell.rung();
         let mut desk = office.desk.lock(rt);
@@ -96,11 +99,15 @@ impl PoolWorker {
     ) -> Next<L>
         ensures on { GoesOn core.old core.new }
         ensures runs { RunsIn core.new.setup result }
+        ensures ends { EndsIn core.new result }
     {
         for _flow in 0..FLOWS_A_TURN {
             let Some(flow) = self.next_flow(rt, desk, core.flows()) else {
-                let over = core.is_halted() || core.live() == 0;
-                return if over { Next::Ends } else { Next::Rests };
+                return if is_over(core) {
+                    Next::Ends
+                } else {
+                    Next::Rests
+                };
             };
             let known = core.journal().entries.len();
             let end = go_on(core, flow);

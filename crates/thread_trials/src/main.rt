@@ -2,7 +2,8 @@
 //!
 //! It prints what came of each trial, which is the same whatever the order of the threads' turns. Each journal of flows that were driven
 //! to their ends is audited. With the words `heavy RUNTIME SHAPE FLOWS ROUNDS` it drives flows of heavy calls, for the benches, and
-//! audits nothing. With `seeds RUNTIME N` it drives N random programs once each.
+//! audits nothing. With `seeds RUNTIME N` it drives N random programs once each, and with `held RUNTIME FLOWS HOLDER` flows that wait
+//! for one of them, which holds the key from the start.
 #![tactic(auto)]
 
 mod burdens;
@@ -11,6 +12,7 @@ mod gates;
 mod halls;
 mod heavy;
 mod lates;
+mod partial;
 mod queues;
 mod refusals;
 mod runs;
@@ -22,8 +24,9 @@ use flow_core::OpenGate;
 use halls::two_tries;
 use heavy::drive_load;
 use lates::late_of;
+use partial::drive_held;
 use queues::takes;
-use refusals::driven_twice;
+use refusals::{driven_once, driven_twice};
 use runs::{Driver, calls_held, drive_many, kept, nested_kept};
 use std::alloc::Global;
 use std::env;
@@ -126,6 +129,23 @@ fn answer_nested<R: Threads + Wait + Sync + Print>(
     Ok(())
 }
 
+/// Flows that wait for one of them, which holds the key from the start.
+fn answer_held<R: Threads + Wait + Sync + Print>(
+    rt: &R,
+    alloc: Global,
+    driver: Driver,
+    name: &str,
+) -> Result<(), Trouble> {
+    for holder in [0, 64] {
+        let held = drive_held(rt, alloc, driver, 65, holder)?;
+        println!(rt;
+            "{name}: flow {holder} of 65 holds the key first: {} have ended, counted {}, upheld {}",
+            held.ended, held.greatest, held.is_upheld
+        )?;
+    }
+    Ok(())
+}
+
 /// Calls that are refused, each in turn.
 fn answer_refusals<R: Threads + Wait + Sync + Print>(
     rt: &R,
@@ -154,6 +174,23 @@ fn answer_beside<R: Threads + Wait + Sync + Print>(
     println!(rt;
         "{name}: the first call waited for another flow's, and the journal is upheld: {held}"
     )?;
+    Ok(())
+}
+
+/// Calls that are refused, each in turn, while the program's own runtime drives: it goes on by the thread that calls.
+fn answer_drained<R: Threads + Wait + Sync + Print>(
+    rt: &R,
+    alloc: Global,
+    driver: Driver,
+    name: &str,
+) -> Result<(), Trouble> {
+    for call in 1..=4 {
+        let came = driven_once(rt, alloc, driver, call)?;
+        println!(rt;
+            "{name}: call {call} is refused, and the drive goes on: ended {}, counted {}, upheld {}",
+            came.ended, came.greatest, came.is_upheld
+        )?;
+    }
     Ok(())
 }
 
@@ -194,6 +231,7 @@ fn answer_drivers<R: Threads + Wait + Sync + Print>(rt: &R, alloc: Global) -> Re
     for (driver, name) in DRIVERS {
         answer_seeds(rt, alloc, *driver, name)?;
         answer_nested(rt, alloc, *driver, name)?;
+        answer_held(rt, alloc, *driver, name)?;
         answer_refusals(rt, alloc, *driver, name)?;
     }
     Ok(())
@@ -209,6 +247,7 @@ fn answer_shared<R: Wait + Print>(rt: &R, alloc: Global) -> Result<(), Trouble> 
 fn answer_threads<R: Threads + Wait + Sync + Print>(rt: &R, alloc: Global) -> Result<(), Trouble> {
     for (driver, name) in BESIDE {
         answer_beside(rt, alloc, *driver, name)?;
+        answer_drained(rt, alloc, *driver, name)?;
     }
     answer_late(rt, alloc, Driver::Helpers(1), "event=1")?;
     answer_drivers(rt, alloc)?;
@@ -245,6 +284,18 @@ fn answer<R: Threads + Wait + Sync + Print + Files + Alloc + Clock>(
             let heavy = drive_load(rt, alloc, driver, load)?;
             let [half, most] = heavy.pauses;
             println!(rt; "flows {} half {half} most {most}", heavy.ended)?;
+            Ok(())
+        }
+        Words::Held {
+            driver,
+            flows,
+            holder,
+        } => {
+            let held = drive_held(rt, alloc, driver, flows, holder)?;
+            println!(rt;
+                "{} flows have ended, upheld {}",
+                held.ended, held.is_upheld
+            )?;
             Ok(())
         }
         Words::Seeds { driver, seeds } => {

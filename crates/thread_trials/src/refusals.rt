@@ -1,10 +1,14 @@
 //! A library that answers want of memory once.
 
 use crate::burdens::Burden;
-use crate::runs::{Came, Driver, came_of, drive, run_core};
+use crate::runs::{Came, Driver, came_of, drive, run_core, run_of};
 use flow_core::{Core, OpenGate};
 use flux_library::Library;
 use plain_journals::Given;
+use rt_all::AnyRuntime;
+use rt_event::EventLoop;
+use rt_perflow::PerFlow;
+use rt_pool::Pool;
 use std::alloc::Global;
 use std::marker::{Send, Sync};
 use std::sync::Wait;
@@ -62,4 +66,32 @@ pub fn driven_twice<R: Threads + Wait + Sync>(
         first_is_right: has_stopped || may_end(driver),
         came: came_of(alloc, FLOWS, &run, LEFT_OUT)?,
     })
+}
+
+/// The program's own runtime that drives so.
+fn any_of(driver: Driver) -> AnyRuntime {
+    match driver {
+        Driver::Event => AnyRuntime::Event(EventLoop { helpers: 0 }),
+        Driver::Helpers(helpers) => AnyRuntime::Event(EventLoop {
+            helpers: helpers.min(16),
+        }),
+        Driver::PerFlow => AnyRuntime::PerFlow(PerFlow),
+        Driver::Pool(workers) => AnyRuntime::Pool(Pool {
+            workers: workers.clamp(1, 16),
+        }),
+    }
+}
+
+/// Drives four flows by the program's own runtime, of which one call is refused: where its threads stop, the thread that calls goes on.
+pub fn driven_once<R: Threads + Wait + Sync>(
+    rt: &R,
+    alloc: Global,
+    driver: Driver,
+    call: u64,
+) -> Result<Came, Trouble> {
+    let watcher = Burden::refusing(call);
+    let core = open(alloc, FLOWS.text, FLOWS.given, Watched { watcher })?;
+    let mut runtime = any_of(driver);
+    let run = run_of(runtime.drive_by_threads(rt, core, &OpenGate))?;
+    came_of(alloc, FLOWS, &run, LEFT_OUT)
 }

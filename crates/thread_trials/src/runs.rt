@@ -58,14 +58,9 @@ pub struct Run {
     pub ended: u32,
 }
 
-/// Drives a core to its end.
-pub fn run_core<L: Library + Send + Sync, G: Gate + Sync, R: Threads + Wait + Sync>(
-    rt: &R,
-    driver: Driver,
-    core: Core<L>,
-    gate: &G,
-) -> Result<Run, Trouble> {
-    match drive(rt, driver, core, gate) {
+/// What flows did whose core was driven to its end.
+pub fn run_of<L: Library>(driven: Result<Core<L>, Stopped<L>>) -> Result<Run, Trouble> {
+    match driven {
         Ok(core) => {
             let ended = core.flows().saturating_sub(core.live());
             let journal = journal_of(core);
@@ -76,6 +71,16 @@ pub fn run_core<L: Library + Send + Sync, G: Gate + Sync, R: Threads + Wait + Sy
             Err(Trouble::Memory)
         }
     }
+}
+
+/// Drives a core to its end.
+pub fn run_core<L: Library + Send + Sync, G: Gate + Sync, R: Threads + Wait + Sync>(
+    rt: &R,
+    driver: Driver,
+    core: Core<L>,
+    gate: &G,
+) -> Result<Run, Trouble> {
+    run_of(drive(rt, driver, core, gate))
 }
 
 /// A core of the text's program with a flow for each number is driven to its end.

@@ -23,8 +23,19 @@ const BENCHED: &[(Driver, &str)] = &[(Driver::Helpers(4), "event=4")];
 #[derive(Clone, Copy)]
 pub enum Words {
     Trials,
-    Heavy { driver: Driver, load: Load },
-    Seeds { driver: Driver, seeds: u32 },
+    Heavy {
+        driver: Driver,
+        load: Load,
+    },
+    Seeds {
+        driver: Driver,
+        seeds: u32,
+    },
+    Held {
+        driver: Driver,
+        flows: u32,
+        holder: u32,
+    },
 }
 
 fn driver_of(word: &str) -> Result<Driver, Trouble> {
@@ -71,6 +82,14 @@ fn seeds_of(driver: &str, seeds: &str) -> Result<Words, Trouble> {
     })
 }
 
+fn held_of(driver: &str, flows: &str, holder: &str) -> Result<Words, Trouble> {
+    Ok(Words::Held {
+        driver: driver_of(driver)?,
+        flows: number_of(flows)?,
+        holder: number_of(holder)?,
+    })
+}
+
 pub fn read_words(words: &[String]) -> Result<Words, Trouble> {
     match words {
         [_] => Ok(Words::Trials),
@@ -82,6 +101,9 @@ pub fn read_words(words: &[String]) -> Result<Words, Trouble> {
         ),
         [_, many, driver, seeds] if many.as_str() == "seeds" => {
             seeds_of(driver.as_str(), seeds.as_str())
+        }
+        [_, held, driver, flows, holder] if held.as_str() == "held" => {
+            held_of(driver.as_str(), flows.as_str(), holder.as_str())
         }
         _ => Err(Trouble::Words),
     }
