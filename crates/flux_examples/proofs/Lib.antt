@@ -12,4 +12,4 @@ mod Links
 mod Replies
 mod RepliesAtOnce
 mod Served
-mod Printing
+mod Fits

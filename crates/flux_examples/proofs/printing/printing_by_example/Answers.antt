@@ -1,4 +1,4 @@
-use Rattle.flux_examples.proofs.Printing.{fits, refuses}
+use Rattle.flux_examples.proofs.Fits.{fits, refuses}
 use Rattle.flux_examples.proofs.printing.printing_by_example.Goals as goal
 
 pub returns : goal.returns

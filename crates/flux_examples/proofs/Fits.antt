@@ -2,6 +2,7 @@
 use Rattle.std.proofs.Common.{◌<◌, ℕ, [], ◌∷◌, refl, arith}
 use Rattle.std.proofs.lemmas.Int.{ints}
 use Rattle.std.proofs.lemmas.List.Elements.{All-nil, All-from_recursion, All-head}
+use Rattle.flux_examples.specs.Small.{a}
 use Rattle.flux_examples.specs.Printing.{Fits, Refuses}
 
 pub fits : Fits
@@ -19,5 +20,5 @@ refuses = record {
   byte = λ printable. let small = All-head (λ b. b < 256) 256 [] printable.emits in omega (arith, small);
   items_ = λ kept. let same = kept.items_ (1 ∷ []) refl in cc;
   text = λ kept. let holds = kept.journal_ in cc;
-  lock = λ used. used _ refl;
+  lock = λ used. used a refl;
 }
