@@ -5,7 +5,7 @@ use Rattle.std.proofs.lemmas.List.{append-nil}
 use Rattle.flux_library.specs.Documents.{DocMap}
 use Rattle.flux_library.specs.laws.Documents.{same_docs}
 use Rattle.flux_docs.proofs.Once.{one_docs, not_lost}
-use Rattle.flux_cli.specs.Commands.{Command, check, plan, format, run, audit, load, serve, help, simulate, swarm}
+use Rattle.flux_cli.specs.Commands.{Command, run, audit, serve, simulate, swarm}
 use Rattle.flux_commands.specs.declared.prepared.Prepared.{Prepared}
 use Rattle.flux_commands.specs.declared.prepared.Prepared.TheVariants.{Text, No}
 use Rattle.flux_commands.specs.declared.refusals.Refusal.{Refusal}
@@ -13,7 +13,7 @@ use Rattle.flux_commands.specs.declared.refusals.Refusal.TheVariants as refusals
 use Rattle.flux_commands.specs.declared.statuses.Status.{Status}
 use Rattle.flux_commands.specs.declared.statuses.Status.TheVariants as statuses
 use Rattle.flux_commands.specs.Told.{Files, Folders, Told}
-use Rattle.flux_commands.specs.Commands.{ReadsProgram, folder_of}
+use Rattle.flux_commands.specs.Commands.{inputs_of, ReadsProgram}
 use Rattle.flux_commands.specs.Documents.{AreDocs, IsDirLost, TellsDocs}
 use Rattle.flux_commands.specs.Origins.{named}
 use Rattle.flux_commands.specs.Causes.{lost_line, not_served_line}
@@ -26,6 +26,7 @@ use Rattle.flux_commands.specs.Prepared.{status_with, PreparesAll, prepared_stat
 use Rattle.flux_commands.specs.steps.Preparing.{IsPrepared, AsksFiles, AsksAll, IsRefusedAll, IsFirm}
 use Rattle.flux_commands.specs.Counts.{CountsBothRefusal, CountsBoth}
 use Rattle.flux_commands.specs.Due.{AnswersDue}
+use Rattle.flux_commands.proofs.Steps.{folder_of}
 use Rattle.flux_commands.proofs.Once.{View, same_view}
 
 -- ---- the documents are one, or lost
@@ -43,7 +44,7 @@ not_both (Some held) (Some dir) docs name tells are lost = not_lost held dir doc
 -- ---- what was asked for
 
 pub asks_with : (library : Libraries) (command : Command) (told : Told) (status : Status) (docs : DocMap) (folder folder_after store store_after : List (List ℕ)) → AreDocs told.folders (folder_of command) docs
-    → folder_after ≡ folder ++ option_to_list (folder_of command) → AsksFiles (library docs) command told.files store store_after → AsksAll library command told status folder folder_after store store_after
+    → folder_after ≡ folder ++ option_to_list (folder_of command) → AsksFiles (library docs) (inputs_of command) told.files store store_after → AsksAll library (inputs_of command) told status folder folder_after store store_after
 asks_with library command told status docs folder folder_after store store_after are first files = record {
   dirs = option_to_list (folder_of command);
   names = files.names;
@@ -53,7 +54,7 @@ asks_with library command told status docs folder folder_after store store_after
 }
 
 pub asks_stopped : (library : Libraries) (command : Command) (told : Told) (status : Status) (folder folder_after store : List (List ℕ))
-    → folder_after ≡ folder ++ option_to_list (folder_of command) → IsStopped (folder_of command) status → AsksAll library command told status folder folder_after store store
+    → folder_after ≡ folder ++ option_to_list (folder_of command) → IsStopped (folder_of command) status → AsksAll library (inputs_of command) told status folder folder_after store store
 asks_stopped library command told status folder folder_after store first stopped = record {
   dirs = option_to_list (folder_of command);
   names = [];
@@ -91,17 +92,13 @@ module _ (library : Libraries) (command : Command) (told : Told) where
   lost_missing None name unread = absurd unread
   lost_missing (Some dir) name unread = unread
 
-  reads_program : (other : Command) → AreUnread told.folders (folder_of other) refusals.Read → (file : List ℕ) × ReadsProgram other (named file)
-  reads_program (check file) unread = absurd unread
-  reads_program (plan file) unread = absurd unread
-  reads_program (format file) unread = absurd unread
+  reads_program : (other : Command) → AreUnread told.folders (folder_of other) refusals.Read → (file : List ℕ) × ReadsProgram (inputs_of other) (named file)
   reads_program (run file items options) unread = (file, refl)
   reads_program (audit file items journal docs) unread = (file, refl)
-  reads_program (load count first runtime) unread = absurd unread
   reads_program (serve file serving) unread = (file, refl)
-  reads_program help unread = absurd unread
   reads_program (simulate file items simulating) unread = (file, refl)
   reads_program (swarm file items journal hash docs) unread = (file, refl)
+  reads_program other unread = absurd unread
 
   none_unread : (dir : Option (List ℕ)) (refusal : Refusal) → (IsStopped dir (status_of refusal) → ⊥) → AreUnread told.folders dir refusal → ⊥
   none_unread dir refusal never unread = never (unread_stops told.folders dir refusal unread)
@@ -158,7 +155,7 @@ module _ (library : Libraries) (command : Command) (files : Files) (folders : Fo
   told = record { files = files; folders = folders }
 
   abbrev Missed : Status → List ℕ → Type 0
-  Missed due line = (due ≡ statuses.Missing) × IsFolderMissing command told line
+  Missed due line = (due ≡ statuses.Missing) × IsFolderMissing (inputs_of command) told line
 
   abbrev Seen_with : Status → List ℕ → List ℕ → Type 0
   Seen_with due text line = (docs : DocMap) × AreDocs folders (folder_of command) docs × View (library docs) command files due text line
@@ -179,7 +176,7 @@ module _ (library : Libraries) (command : Command) (files : Files) (folders : Fo
   seen statuses.Memory text line d = absurd d
 
   pub due_with : (docs : DocMap) (status : Status) (text line : List ℕ) → AreDocs folders (folder_of command) docs → View (library docs) command files status text line
-      → IsFirm (library docs) command files status → AnswersDue library command told status
+      → IsFirm (library docs) (inputs_of command) files status → AnswersDue library command told status
   due_with docs status text line are view firm tells due u m d = inl (one (seen due u m d))
     where
       same : (other : DocMap) → docs ≡ other → View (library other) command files due u m → status ≡ due
@@ -201,7 +198,7 @@ module _ (library : Libraries) (command : Command) (files : Files) (folders : Fo
   -- ---- of a refusal, and of what was prepared
 
   pub due_refused : (docs : DocMap) (refusal : Refusal) → AreDocs folders (folder_of command) docs → IsRefused (library docs) command files refusal
-      → IsFirm (library docs) command files (status_of refusal) → AnswersDue library command told (status_of refusal)
+      → IsFirm (library docs) (inputs_of command) files (status_of refusal) → AnswersDue library command told (status_of refusal)
   due_refused docs (refusals.Static line) are (inl judged) firm = due_with docs statuses.Static [] line are (inr (inr (inl (refl, judged)))) firm
   due_refused docs (refusals.Items fault) are (inl judged) firm = due_with docs statuses.Items [] (line_of (refusals.Items fault)) are (inr (inr (inr (inl (refl, judged))))) firm
   due_refused docs (refusals.Missing name) are (inl judged) firm = due_with docs statuses.Missing [] (lost_line name.now) are (inr (inr (inr (inr (inl (refl, judged)))))) firm
@@ -221,11 +218,11 @@ module _ (library : Libraries) (command : Command) (files : Files) (folders : Fo
   due_unread (refusals.Static line) unread = absurd (none_unread library command told (folder_of command) (refusals.Static line) (λ x. x) unread)
   due_unread (refusals.Items fault) unread = absurd (none_unread library command told (folder_of command) (refusals.Items fault) (λ x. x) unread)
 
-  due_one : (docs : DocMap) (prepared : Prepared) → AreDocs folders (folder_of command) docs → IsPrepared (library docs) command files prepared → IsFirm (library docs) command files (status_with prepared) → AnswersDue library command told (status_with prepared)
+  due_one : (docs : DocMap) (prepared : Prepared) → AreDocs folders (folder_of command) docs → IsPrepared (library docs) command files prepared → IsFirm (library docs) (inputs_of command) files (status_with prepared) → AnswersDue library command told (status_with prepared)
   due_one docs (Text text) are prepared firm = due_with docs statuses.Done text [] are (inl (refl, prepared)) firm
   due_one docs (No text) are prepared firm = due_with docs statuses.No text [] are (inr (inl (refl, prepared))) firm
 
   pub due_prepared : (docs : DocMap) (result : Result Prepared Refusal) → AreDocs folders (folder_of command) docs → IfOk result (IsPrepared (library docs) command files) → IfErr result (IsRefused (library docs) command files)
-      → IsFirm (library docs) command files (prepared_status result) → AnswersDue library command told (prepared_status result)
+      → IsFirm (library docs) (inputs_of command) files (prepared_status result) → AnswersDue library command told (prepared_status result)
   due_prepared docs (Ok own) are prepared refused firm = due_one docs own are prepared firm
   due_prepared docs (Err refusal) are prepared refused firm = due_refused docs refusal are refused firm

@@ -1,5 +1,6 @@
 -- What the steps of a command give, after its documents, is what it and its files decide.
-use Rattle.std.proofs.Common.{◌≡◌, ◌<◌, ℕ, zero, suc, inl, inr, List, [], ◌∷◌, ◌++◌, length, Option, Some, Result, Ok, Err, IfErr, refl, sym, ap, subst, ◌∙◌, append_assoc, arith}
+use Rattle.std.proofs.Common.{◌≡◌, ◌<◌, ◌⊎◌, ℕ, zero, suc, inl, inr, List, [], ◌∷◌, ◌++◌, length, Option, Some, Result, Ok, Err, IfErr, refl, sym, ap, subst, ◌∙◌, append_assoc, arith}
+use Rattle.std.specs.Prelude.{IsSomeAnd}
 use Rattle.std.specs.List.{AllByRecursion, slice_get}
 use Rattle.std.proofs.lemmas.List.{append-nil}
 use Rattle.flux_values.specs.Identifiers.{IsIdentifier}
@@ -40,10 +41,9 @@ use Rattle.flux_items.specs.Faults.{IsFaultOf}
 use Rattle.flux_audit.specs.declared.verdicts.Verdict.{Verdict}
 use Rattle.flux_audit.specs.declared.verdicts.Verdict.TheVariants as verdicts
 use Rattle.flux_audit.specs.Verdicts.{HasVerdict}
-use Rattle.flux_load.specs.Loads.{program_text, items_text}
 use Rattle.flux_cli.specs.declared.values.Runtime.{Runtime}
-use Rattle.flux_cli.specs.Forms.{RunOptions, Simulating}
-use Rattle.flux_cli.specs.Commands.{Command, check, plan, format, run, audit, load, simulate, swarm}
+use Rattle.flux_cli.specs.Forms.{Simulating}
+use Rattle.flux_cli.specs.Commands.{Command, check, plan, format, audit, load, swarm}
 use Rattle.flux_commands.specs.declared.files.TheConstants.{PROGRAM_FILE_LIMIT, ITEMS_FILE_LIMIT, JOURNAL_FILE_LIMIT}
 use Rattle.flux_commands.specs.declared.loaded.Loaded.{Loaded}
 use Rattle.flux_commands.specs.declared.prepared.Prepared.{Prepared}
@@ -53,8 +53,8 @@ use Rattle.flux_commands.specs.declared.refusals.Refusal.TheVariants as refusals
 use Rattle.flux_commands.specs.declared.running.Wanted.{Wanted}
 use Rattle.flux_commands.specs.Told.{Files, Gives, IsLost}
 use Rattle.flux_commands.specs.Origins.{Origin, named, made, GivesText, TellsText}
-use Rattle.flux_commands.specs.Commands.{ReadsProgram}
-use Rattle.flux_commands.specs.Inputs.{HasProgram, HasItems, GivesItems}
+use Rattle.flux_commands.specs.Commands.{Inputs, inputs_of, in_files, ReadsProgram, WithItems}
+use Rattle.flux_commands.specs.Inputs.{HasProgram, HasSound, HasItems, GivesItems}
 use Rattle.flux_commands.specs.Items.{rules_of, rules_in, kinds_in}
 use Rattle.flux_runs.specs.Setups.{setup_of}
 use Rattle.flux_runs.specs.Opening.{CanRun, AreSmall}
@@ -64,12 +64,13 @@ use Rattle.flux_commands.specs.Simulated.{IsSimulated}
 use Rattle.flux_commands.specs.Audited.{IsAudited}
 use Rattle.flux_commands.specs.Swarmed.{IsSwarmOf, IsSwarmed}
 use Rattle.flux_commands.specs.Printed.{IsPrinted}
-use Rattle.flux_commands.specs.Causes.{item_fault_line, IsStaticOf, IsItemsText, IsItems, AreItemsLost}
+use Rattle.flux_commands.specs.Causes.{item_fault_line, IsStaticOf, IsItemsText, IsProgramLost, AreItemsLost, IsJournalLost}
+use Rattle.flux_commands.specs.Asked.{AreFiles}
 use Rattle.flux_commands.specs.steps.Running.{HasSources, IsRun, AreRefused}
 use Rattle.flux_commands.specs.Refusals.{status_of}
 use Rattle.flux_commands.specs.steps.Refusals.{IsUnread, CountsRefusal, Counts, SaysOrMemory, IsFaultLine, IsTextRefused, IsCheckRefused, IsRefused}
 use Rattle.flux_commands.specs.steps.Preparing.{AsksFiles, IsPrepared, AreRead, StandsOnItems}
-use Rattle.flux_commands.specs.steps.Loading.{IsLoaded, IsFaulted, IsUnchecked, AreItemsMissed, ReadsWell, IsUnloaded, AsksTwo}
+use Rattle.flux_commands.specs.steps.Loading.{IsLoaded, IsFaulted, IsUnchecked, IsProgramAway, AreItemsMissed, ReadsWell, IsUnloaded, AsksTwo}
 use Rattle.flux_commands.specs.steps.Auditing.{IsVerdictText, IsPreparedSwarm}
 use Rattle.flux_commands.proofs.Named.{sources_apart}
 use Rattle.flux_commands.proofs.RuleLists.{rules_are}
@@ -108,9 +109,16 @@ counts_from refusal before mid after same counts = subst (λ (n : ℕ). CountsRe
 -- ---- what could not be read
 
 module _ (meaning : LibraryMeaning) (told : Files) where
-  pub unread_program : (command : Command) (file : List ℕ) → ReadsProgram command (named file) → (refusal : Refusal) → IsUnread told file PROGRAM_FILE_LIMIT refusal → IsRefused meaning command told refusal
+  pub unread_program : (command : Command) (file : List ℕ) → ReadsProgram (inputs_of command) (named file) → (refusal : Refusal) → IsUnread told file PROGRAM_FILE_LIMIT refusal → IsRefused meaning command told refusal
   unread_program command file reads (refusals.Missing lost) (name, is) =
-      inl (record { name = lost.now; lost = inl (subst (λ (n : List ℕ). ReadsProgram command (named n)) (sym name) reads, subst (λ (n : List ℕ). IsLost told n PROGRAM_FILE_LIMIT) (sym name) is); said = refl })
+      inl (record {
+        name = lost.now;
+        lost = inl (record {
+          reads = subst (λ (n : List ℕ). ReadsProgram (inputs_of command) (named n)) (sym name) reads;
+          lost = subst (λ (n : List ℕ). IsLost told n PROGRAM_FILE_LIMIT) (sym name) is;
+        });
+        said = refl;
+      })
   unread_program command file reads refusals.Read u = inr (inl (record { file = file; reads = reads; is = refl }))
   unread_program command file reads refusals.Memory u = inr (inr refl)
   unread_program command file reads refusals.Usage u = absurd u
@@ -120,7 +128,7 @@ module _ (meaning : LibraryMeaning) (told : Files) where
 
   -- ---- texts that were refused
 
-  pub says_refused : (command : Command) (program : Origin) (text : List ℕ) (Stands : StaticFault → Type 0) → ReadsProgram command program → GivesText told program PROGRAM_FILE_LIMIT text
+  pub says_refused : (command : Command) (program : Origin) (text : List ℕ) (Stands : StaticFault → Type 0) → ReadsProgram (inputs_of command) program → GivesText told program PROGRAM_FILE_LIMIT text
       → ((fault : StaticFault) → Stands fault → IsStaticOf meaning command text fault) → (refusal : Refusal) → SaysOrMemory (IsFaultLine Stands text) refusal → IsRefused meaning command told refusal
   says_refused command program text Stands reads gives of (refusals.Static line) says =
       inl (record { program = program; reads = reads; text = text; gives = gives; fault = says.fault; stands = of says.fault says.stands; said = says.said })
@@ -155,7 +163,7 @@ module _ (meaning : LibraryMeaning) (told : Files) (file : List ℕ) where
   faulty_file text gives refusals.Read says = absurd says
   faulty_file text gives (refusals.Missing name) says = absurd says
 
-  pub file_refused : (command : Command) → ReadsProgram command (named file) → ((text : List ℕ) (fault : StaticFault) → IsTextFault meaning text fault → IsStaticOf meaning command text fault)
+  pub file_refused : (command : Command) → ReadsProgram (inputs_of command) (named file) → ((text : List ℕ) (fault : StaticFault) → IsTextFault meaning text fault → IsStaticOf meaning command text fault)
       → (refusal : Refusal) → IsUnchecked meaning told file refusal → IsRefused meaning command told refusal
   file_refused command reads static (refusals.Static line) u = let fault = u.fault in
       inl (record { program = named file; reads = reads; text = u.text; gives = u.gives; fault = fault.fault; stands = static u.text fault.fault fault.stands; said = fault.said })
@@ -203,43 +211,32 @@ module _ (meaning : LibraryMeaning) (told : Files) (program items : Origin) wher
 -- ---- why nothing was loaded is why a command was refused
 
 module _ (meaning : LibraryMeaning) (told : Files) where
-  unloaded : (command : Command) (program items : Origin) → ReadsProgram command program → ((text : List ℕ) (fault : StaticFault) → IsTextFault meaning text fault → IsStaticOf meaning command text fault)
-      → ((line : List ℕ) → IsItemsText meaning told program items line → IsItems meaning command told line) → ((name : List ℕ) → AreItemsMissed meaning told program items name → AreItemsLost meaning command told name)
-      → (refusal : Refusal) → IsUnloaded meaning told program items refusal → IsRefused meaning command told refusal
-  unloaded command program items reads static faulty missed (refusals.Static line) u = let fault = u.fault in
+  -- what is so of the program and the items that are read
+  with_items : (inputs : Inputs) (program items : Origin) (Says : Origin → Origin → Type 0) → ReadsProgram inputs program → inputs.items ≡ Some items → Says program items → WithItems inputs Says
+  with_items inputs program items Says reads reads_items says =
+      subst (λ (p : Option Origin). IsSomeAnd p (λ own. IsSomeAnd inputs.items (Says own))) (sym reads)
+      (subst (λ (i : Option Origin). IsSomeAnd i (Says program)) (sym reads_items) says)
+
+  pub unloaded : (command : Command) (program items : Origin) → ReadsProgram (inputs_of command) program → (let inputs = inputs_of command in inputs.items ≡ Some items)
+      → ((text : List ℕ) (fault : StaticFault) → IsTextFault meaning text fault → IsStaticOf meaning command text fault) → (refusal : Refusal) → IsUnloaded meaning told program items refusal → IsRefused meaning command told refusal
+  unloaded command program items reads reads_items static (refusals.Static line) u = let fault = u.fault in
       inl (record { program = program; reads = reads; text = u.text; gives = u.gives; fault = fault.fault; stands = static u.text fault.fault fault.stands; said = fault.said })
-  unloaded command program items reads static faulty missed (refusals.Items fault) u = inl (faulty (item_fault_line fault) u.0)
-  unloaded command program items reads static faulty missed (refusals.Missing name) (inl lost, well) =
-      inl (record { name = name.now; lost = inl (subst (ReadsProgram command) lost.is reads, lost.lost); said = refl })
-  unloaded command program items reads static faulty missed (refusals.Missing name) (inr lost, well) =
-      inl (record { name = name.now; lost = inr (inl (missed name.now lost)); said = refl })
-  unloaded command program items reads static faulty missed refusals.Read (name, is) = inr (inl (record { file = name; reads = subst (ReadsProgram command) is reads; is = refl }))
-  unloaded command program items reads static faulty missed refusals.Memory u = inr (inr refl)
-  unloaded command program items reads static faulty missed refusals.Usage u = absurd u
-  unloaded command program items reads static faulty missed refusals.NotServed u = absurd u
-
-  named_missed : (file items name : List ℕ) → AreItemsMissed meaning told (named file) (named items) name → name ≡ items
-  named_missed file items name missed = let e = missed.is in cc
-
-  pub run_unloaded : (file items : List ℕ) (options : RunOptions) (refusal : Refusal) → IsUnloaded meaning told (named file) (named items) refusal → IsRefused meaning (run file items options) told refusal
-  run_unloaded file items options refusal u = unloaded (run file items options) (named file) (named items) refl (λ text fault is. is) (λ line is. is)
-      (λ name missed. let is = named_missed file items name missed in record { is = is; lost = subst (λ (n : List ℕ). IsLost told n ITEMS_FILE_LIMIT) is missed.lost; decls = missed.decls; program_ = missed.program_ }) refusal u
-
-  pub audit_unloaded : (file items journal : List ℕ) (docs : Option (List ℕ)) (refusal : Refusal) → IsUnloaded meaning told (named file) (named items) refusal → IsRefused meaning (audit file items journal docs) told refusal
-  audit_unloaded file items journal docs refusal u = unloaded (audit file items journal docs) (named file) (named items) refl (λ text fault is. is) (λ line is. is)
-      (λ name missed. let is = named_missed file items name missed in record { is = is; lost = subst (λ (n : List ℕ). IsLost told n ITEMS_FILE_LIMIT) is missed.lost; decls = missed.decls; program_ = missed.program_ }) refusal u
-
-  pub swarm_unloaded : (file items journal hash : List ℕ) (docs : Option (List ℕ)) (refusal : Refusal) → IsUnloaded meaning told (named file) (named items) refusal → IsRefused meaning (swarm file items journal hash docs) told refusal
-  swarm_unloaded file items journal hash docs refusal u = unloaded (swarm file items journal hash docs) (named file) (named items) refl (λ text fault is. is) (λ line is. is)
-      (λ name missed. let is = named_missed file items name missed in record { is = is; lost = subst (λ (n : List ℕ). IsLost told n ITEMS_FILE_LIMIT) is missed.lost; decls = missed.decls; program_ = missed.program_ }) refusal u
-
-  pub simulate_unloaded : (file items : List ℕ) (simulating : Simulating) (refusal : Refusal) → IsUnloaded meaning told (named file) (named items) refusal → IsRefused meaning (simulate file items simulating) told refusal
-  simulate_unloaded file items simulating refusal u = unloaded (simulate file items simulating) (named file) (named items) refl (λ text fault is. is) (λ line is. is)
-      (λ name missed. let is = named_missed file items name missed in record { is = is; lost = subst (λ (n : List ℕ). IsLost told n ITEMS_FILE_LIMIT) is missed.lost; decls = missed.decls; program_ = missed.program_ }) refusal u
-
-  pub load_unloaded : (count first : ℕ) (runtime : Runtime) (refusal : Refusal) → IsUnloaded meaning told (made program_text) (made (items_text count first)) refusal → IsRefused meaning (load count first runtime) told refusal
-  load_unloaded count first runtime refusal u = unloaded (load count first runtime) (made program_text) (made (items_text count first)) refl (λ text fault is. is) (λ line is. is)
-      (λ name missed. let e = missed.is in absurd cc) refusal u
+  unloaded command program items reads reads_items static (refusals.Items fault) u =
+      inl (with_items (inputs_of command) program items (λ own its. IsItemsText meaning told own its (item_fault_line fault)) reads reads_items u.0)
+  unloaded command program items reads reads_items static (refusals.Missing name) u = inl (record { name = name.now; lost = lost u.0; said = refl })
+    where
+      lost : IsProgramAway told program name.now ⊎ AreItemsMissed meaning told program items name.now
+          → IsProgramLost (inputs_of command) told name.now ⊎ (AreItemsLost meaning (inputs_of command) told name.now ⊎ IsJournalLost meaning (inputs_of command) told name.now)
+      lost (inl l) = inl (record { reads = subst (ReadsProgram (inputs_of command)) l.is reads; lost = l.lost })
+      lost (inr l) = inr (inl (record {
+        reads = reads_items ∙ ap Some l.is;
+        lost = l.lost;
+        sound = subst (λ (p : Option Origin). IsSomeAnd p (HasSound meaning told)) (sym reads) (l.decls, l.program_);
+      }))
+  unloaded command program items reads reads_items static refusals.Read (name, is) = inr (inl (record { file = name; reads = subst (ReadsProgram (inputs_of command)) is reads; is = refl }))
+  unloaded command program items reads reads_items static refusals.Memory u = inr (inr refl)
+  unloaded command program items reads reads_items static refusals.Usage u = absurd u
+  unloaded command program items reads reads_items static refusals.NotServed u = absurd u
 
   -- where a refusal rests on items, these are read by rules
   pub unloaded_reads : (program items : Origin) (refusal : Refusal) → IsUnloaded meaning told program items refusal → TellsText told program → StandsOnItems (status_of refusal) → AreRead meaning told program
@@ -261,8 +258,8 @@ counts_made meaning told text items refusals.NotServed faults u = refl
 counts_made meaning told text items (refusals.Items fault) faults u = refl
 counts_made meaning told text items (refusals.Missing name) faults u = refl
 
-pub asks_none : (meaning : LibraryMeaning) (told : Files) (count first : ℕ) (runtime : Runtime) (before : List (List ℕ)) → AsksFiles meaning (load count first runtime) told before before
-asks_none meaning told count first runtime before = record { names = []; more = sym (append-nil before); are = refl }
+pub asks_none : (meaning : LibraryMeaning) (told : Files) (count first : ℕ) (runtime : Runtime) (before : List (List ℕ)) → AsksFiles meaning (inputs_of (load count first runtime)) told before before
+asks_none meaning told count first runtime before = record { names = []; more = sym (append-nil before); are = inl refl }
 
 -- ---- what was asked for
 
@@ -277,32 +274,24 @@ pub asks_second : (meaning : LibraryMeaning) (told : Files) (file items : List �
 asks_second meaning told file items before mid after first second decls program_ = record {
   names = file ∷ items ∷ [];
   more = asks_more before mid after file items first second;
-  are = inr (refl, decls, program_);
+  are = inr (refl, (decls, program_));
 }
 
-pub run_asks : (meaning : LibraryMeaning) (told : Files) (file items : List ℕ) (options : RunOptions) (before after : List (List ℕ)) → AsksTwo meaning told file items before after → AsksFiles meaning (run file items options) told before after
-run_asks meaning told file items options before after asks = record { names = asks.names; more = asks.more; are = asks.are }
+pub asks_two : (meaning : LibraryMeaning) (told : Files) (docs : Option (List ℕ)) (file items : List ℕ) (journal : Option (List ℕ)) (before after : List (List ℕ)) → AsksTwo meaning told file items before after
+    → AsksFiles meaning (in_files docs file (Some items) journal) told before after
+asks_two meaning told docs file items journal before after asks = record { names = asks.names; more = asks.more; are = one asks.are }
+  where
+    one : (asks.names ≡ file ∷ []) ⊎ ((asks.names ≡ file ∷ items ∷ []) × HasSound meaning told (named file)) → AreFiles meaning (in_files docs file (Some items) journal) told asks.names
+    one (inl first) = inl first
+    one (inr second) = inr (inl second)
 
-pub simulate_asks : (meaning : LibraryMeaning) (told : Files) (file items : List ℕ) (simulating : Simulating) (before after : List (List ℕ)) → AsksTwo meaning told file items before after → AsksFiles meaning (simulate file items simulating) told before after
-simulate_asks meaning told file items simulating before after asks = record { names = asks.names; more = asks.more; are = asks.are }
-
-pub audit_asks : (meaning : LibraryMeaning) (told : Files) (file items journal : List ℕ) (docs : Option (List ℕ)) (before after : List (List ℕ)) → AsksTwo meaning told file items before after → AsksFiles meaning (audit file items journal docs) told before after
-audit_asks meaning told file items journal docs before after asks = record { names = asks.names; more = asks.more; are = inl asks.are }
-
-pub audit_asks_all : (meaning : LibraryMeaning) (told : Files) (file items journal : List ℕ) (docs : Option (List ℕ)) (before mid after : List (List ℕ)) → mid ≡ before ++ file ∷ items ∷ [] → after ≡ mid ++ journal ∷ [] → GivesItems meaning told (named file) (named items) → AsksFiles meaning (audit file items journal docs) told before after
-audit_asks_all meaning told file items journal docs before mid after both behind given = record {
+pub asks_all : (meaning : LibraryMeaning) (told : Files) (docs : Option (List ℕ)) (file items journal : List ℕ) (before mid after : List (List ℕ)) → mid ≡ before ++ file ∷ items ∷ [] → after ≡ mid ++ journal ∷ [] → GivesItems meaning told (named file) (named items)
+    → AsksFiles meaning (in_files docs file (Some items) (Some journal)) told before after
+asks_all meaning told docs file items journal before mid after both behind given = record {
   names = file ∷ items ∷ journal ∷ [];
   more = behind ∙ ap (λ (l : List (List ℕ)). l ++ journal ∷ []) both ∙ append_assoc before (file ∷ items ∷ []) (journal ∷ []);
-  are = inr (refl, given);
+  are = inr (inr (refl, given));
 }
-
-pub swarm_asks : (meaning : LibraryMeaning) (told : Files) (file items journal hash : List ℕ) (docs : Option (List ℕ)) (before after : List (List ℕ)) → AsksTwo meaning told file items before after → AsksFiles meaning (swarm file items journal hash docs) told before after
-swarm_asks meaning told file items journal hash docs before after asks = record { names = asks.names; more = asks.more; are = inl asks.are }
-
-pub swarm_asks_all : (meaning : LibraryMeaning) (told : Files) (file items journal hash : List ℕ) (docs : Option (List ℕ)) (before mid after : List (List ℕ)) → mid ≡ before ++ file ∷ items ∷ [] → after ≡ mid ++ journal ∷ [] → GivesItems meaning told (named file) (named items) → AsksFiles meaning (swarm file items journal hash docs) told before after
-swarm_asks_all meaning told file items journal hash docs before mid after both behind given =
-    let asks = audit_asks_all meaning told file items journal docs before mid after both behind given in
-    record { names = asks.names; more = asks.more; are = asks.are }
 
 -- ---- the sources' names
 
@@ -502,29 +491,17 @@ module _ (meaning : LibraryMeaning) (told : Files) (file items : List ℕ) (own 
   loaded_swarmed journal hash its docs gives (prepared_.Text text) is = loaded_swarm meaning told (named file) (named items) own l journal hash its text gives is
   loaded_swarmed journal hash its docs gives (prepared_.No line) (at, rule, has, is) = (at, rule, loaded_verdict meaning told (named file) (named items) own l journal its gives (verdicts.No at rule) has, is)
 
-  -- the journal's file wasn't read
-  pub journal_unread : (journal : List ℕ) (docs : Option (List ℕ)) (refusal : Refusal) → IsUnread told journal JOURNAL_FILE_LIMIT refusal → IsRefused meaning (audit file items journal docs) told refusal
-  journal_unread journal docs (refusals.Missing lost) (same, gone) = inl (record {
-    name = lost.now;
-    lost = inr (inr (record { is = same; lost = gone; given = loaded_given meaning told (named file) (named items) own l }));
-    said = refl;
-  })
-  journal_unread journal docs refusals.Read u = inr (inl (record { file = file; reads = refl; is = refl }))
-  journal_unread journal docs refusals.Memory u = inr (inr refl)
-  journal_unread journal docs refusals.Usage u = absurd u
-  journal_unread journal docs refusals.NotServed u = absurd u
-  journal_unread journal docs (refusals.Static line) u = absurd u
-  journal_unread journal docs (refusals.Items fault) u = absurd u
-
-  pub swarm_unread : (journal hash : List ℕ) (docs : Option (List ℕ)) (refusal : Refusal) → IsUnread told journal JOURNAL_FILE_LIMIT refusal → IsRefused meaning (swarm file items journal hash docs) told refusal
-  swarm_unread journal hash docs (refusals.Missing lost) (same, gone) = inl (record {
-    name = lost.now;
-    lost = inr (inr (record { is = same; lost = gone; given = loaded_given meaning told (named file) (named items) own l }));
-    said = refl;
-  })
-  swarm_unread journal hash docs refusals.Read u = inr (inl (record { file = file; reads = refl; is = refl }))
-  swarm_unread journal hash docs refusals.Memory u = inr (inr refl)
-  swarm_unread journal hash docs refusals.Usage u = absurd u
-  swarm_unread journal hash docs refusals.NotServed u = absurd u
-  swarm_unread journal hash docs (refusals.Static line) u = absurd u
-  swarm_unread journal hash docs (refusals.Items fault) u = absurd u
+-- the journal's file wasn't read
+pub journal_unread : (meaning : LibraryMeaning) (told : Files) (command : Command) (file journal : List ℕ) → ReadsProgram (inputs_of command) (named file) → (let inputs = inputs_of command in inputs.journal ≡ Some journal)
+    → WithItems (inputs_of command) (GivesItems meaning told) → (refusal : Refusal) → IsUnread told journal JOURNAL_FILE_LIMIT refusal → IsRefused meaning command told refusal
+journal_unread meaning told command file journal reads is given (refusals.Missing lost) (same, gone) = inl (record {
+  name = lost.now;
+  lost = inr (inr (record { reads = is ∙ ap Some (sym same); lost = subst (λ (n : List ℕ). IsLost told n JOURNAL_FILE_LIMIT) (sym same) gone; given = given }));
+  said = refl;
+})
+journal_unread meaning told command file journal reads is given refusals.Read u = inr (inl (record { file = file; reads = reads; is = refl }))
+journal_unread meaning told command file journal reads is given refusals.Memory u = inr (inr refl)
+journal_unread meaning told command file journal reads is given refusals.Usage u = absurd u
+journal_unread meaning told command file journal reads is given refusals.NotServed u = absurd u
+journal_unread meaning told command file journal reads is given (refusals.Static line) u = absurd u
+journal_unread meaning told command file journal reads is given (refusals.Items fault) u = absurd u

@@ -1,5 +1,6 @@
 -- With their documents, a command and what it reads decide one status.
-use Rattle.std.proofs.Common.{◌≡◌, ℕ, inl, inr, ◌⊎◌, List, length, Some, None, IsSome, Ok, refl, sym, subst, ◌∙◌}
+use Rattle.std.proofs.Common.{◌≡◌, ℕ, inl, inr, ◌⊎◌, List, length, Option, Some, None, IsSome, Ok, refl, sym, subst, ◌∙◌}
+use Rattle.std.specs.Prelude.{IfSome, IsSomeAnd}
 use Rattle.flux_values.specs.Meanings.{LibraryMeaning}
 use Rattle.flux_outside.specs.declared.stores.File.{File}
 use Rattle.flux_outside.specs.declared.stores.File.TheVariants.{Found, Missing, Longer}
@@ -32,15 +33,15 @@ use Rattle.flux_commands.specs.declared.statuses.Status.{Status}
 use Rattle.flux_commands.specs.declared.statuses.Status.TheVariants as statuses
 use Rattle.flux_commands.specs.Told.{Files, Gives, IsLost}
 use Rattle.flux_commands.specs.Origins.{Origin, named, made, GivesText, TellsText}
-use Rattle.flux_commands.specs.Commands.{ReadsProgram, TellsFiles}
-use Rattle.flux_commands.specs.Inputs.{HasDecls, HasProgram, HasItems, GivesItems, HasServable, HasUnservable}
+use Rattle.flux_commands.specs.Commands.{Inputs, inputs_of, ReadsProgram, WithItems, TellsFiles}
+use Rattle.flux_commands.specs.Inputs.{HasDecls, HasProgram, HasSound, HasItems, GivesItems, HasServable, HasUnservable}
 use Rattle.flux_commands.specs.Items.{rules_of, rules_in, kinds_in}
 use Rattle.flux_commands.specs.Audited.{setup_given, IsAudited}
 use Rattle.flux_commands.specs.Swarmed.{IsSwarmed}
 use Rattle.flux_runs.specs.Setups.{setup_of}
 use Rattle.flux_commands.specs.Printed.{IsPrinted, IsRefuted}
-use Rattle.flux_commands.specs.Causes.{IsStaticOf, IsStatic, IsItemsText, IsItems, AreItemsLost, IsJournalLost, IsMissing, IsUnserved}
-use Rattle.flux_commands.specs.steps.Preparing.{AreRead, ReadsItems, IsFirm}
+use Rattle.flux_commands.specs.Causes.{IsStaticOf, IsStatic, IsItemsText, IsItems, IsProgramLost, AreItemsLost, IsJournalLost, IsMissing, IsUnserved}
+use Rattle.flux_commands.specs.steps.Preparing.{AreRead, StandsOnItems, ReadsItems, IsFirm}
 
 -- ---- one text, one list of declarations, one program
 
@@ -72,8 +73,8 @@ rules_same meaning decls other one two same =
 
 module _ (meaning : LibraryMeaning) (told : Files) where
   -- the text that has a fault is the one that the command reads
-  pub gives_here : (program other : Origin) (text : List ℕ) → other ≡ program → GivesText told other PROGRAM_FILE_LIMIT text → GivesText told program PROGRAM_FILE_LIMIT text
-  gives_here program other text same gives = subst (λ (from : Origin). GivesText told from PROGRAM_FILE_LIMIT text) same gives
+  pub gives_here : (program other : Origin) (text : List ℕ) → ◌≡◌ {A = Option Origin} (Some program) (Some other) → GivesText told other PROGRAM_FILE_LIMIT text → GivesText told program PROGRAM_FILE_LIMIT text
+  gives_here program other text reads gives = let same : other ≡ program = cc in subst (λ (from : Origin). GivesText told from PROGRAM_FILE_LIMIT text) same gives
 
   module _ (program : Origin) (tells : TellsText told program) where
     declared_here : (text : List ℕ) (decls : List Decl) → HasDecls told program decls → GivesText told program PROGRAM_FILE_LIMIT text → Declares decls text
@@ -141,68 +142,108 @@ abbrev pub View : LibraryMeaning → Command → Files → Status → List ℕ �
 View meaning command told status text line =
     ((status ≡ statuses.Done) × IsPrinted meaning command told text) ⊎ (((status ≡ statuses.No) × IsRefuted meaning command told text)
     ⊎ (((status ≡ statuses.Static) × IsStatic meaning command told line)
-    ⊎ (((status ≡ statuses.Items) × IsItems meaning command told line) ⊎ (((status ≡ statuses.Missing) × IsMissing meaning command told line)
+    ⊎ (((status ≡ statuses.Items) × IsItems meaning (inputs_of command) told line) ⊎ (((status ≡ statuses.Missing) × IsMissing meaning (inputs_of command) told line)
     ⊎ ((status ≡ statuses.NotServed) × IsUnserved meaning command told line)))))
 
--- what a command's program is read from, where it goes on to items, and what these are read from
-abbrev HasSound : LibraryMeaning → Files → Origin → Type 0
-HasSound meaning told program = (decls : List Decl) × HasProgram meaning told program decls
+-- ---- what is read, and what it gives
+
+-- what a program and items have that are both read
+pub record HasBoth (inputs : Inputs) (Says : Origin → Origin → Type 0) : Type 0 where
+  pub program : Origin
+  pub items : Origin
+  pub reads : ReadsProgram inputs program
+  pub reads_items : inputs.items ≡ Some items
+  pub says : Says program items
+
+pub has_both : (inputs : Inputs) (Says : Origin → Origin → Type 0) → WithItems inputs Says → HasBoth inputs Says
+has_both inputs Says with_ = one inputs.program inputs.items refl refl with_
+  where
+    one : (p i : Option Origin) → inputs.program ≡ p → inputs.items ≡ i → IsSomeAnd p (λ program. IsSomeAnd i (Says program)) → HasBoth inputs Says
+    one (Some program) (Some items) is are says = record { program = program; items = items; reads = is; reads_items = are; says = says }
+    one (Some program) None is are says = absurd says
+    one None i is are says = absurd says
+
+module _ (told : Files) (inputs : Inputs) (tells : TellsFiles told inputs) where
+  -- a text that is read is reported
+  tells_program : (program : Origin) → ReadsProgram inputs program → TellsText told program
+  tells_program program reads = subst (λ (o : Option Origin). IfSome o (TellsText told)) reads tells.program
+
+  tells_items : (items : Origin) → inputs.items ≡ Some items → TellsText told items
+  tells_items items reads = subst (λ (o : Option Origin). IfSome o (TellsText told)) reads tells.items
+
+  -- items that are there aren't lost
+  pub items_there : (meaning : LibraryMeaning) (items : Origin) (text name : List ℕ) → inputs.items ≡ Some items → GivesText told items ITEMS_FILE_LIMIT text → AreItemsLost meaning inputs told name → ⊥
+  items_there meaning items text name reads gives l =
+      let e : ◌≡◌ {A = Option Origin} (Some items) (Some (named name)) = sym reads ∙ l.reads in
+      let same : items ≡ named name = cc in
+      not_lost told name ITEMS_FILE_LIMIT text (tells_items (named name) l.reads) (subst (λ (from : Origin). GivesText told from ITEMS_FILE_LIMIT text) same gives) l.lost
+
+  -- nor is a journal
+  pub journal_there : (meaning : LibraryMeaning) (journal text name : List ℕ) → inputs.journal ≡ Some journal → Gives told journal JOURNAL_FILE_LIMIT (Found text) → IsJournalLost meaning inputs told name → ⊥
+  journal_there meaning journal text name reads gives l =
+      let e : ◌≡◌ {A = Option (List ℕ)} (Some journal) (Some name) = sym reads ∙ l.reads in
+      let same : journal ≡ name = cc in
+      let some : IsSome told = subst (λ (o : Option (List ℕ)). IfSome o (λ _. IsSome told)) reads tells.journal in
+      not_lost told name JOURNAL_FILE_LIMIT text some (subst (λ (n : List ℕ). Gives told n JOURNAL_FILE_LIMIT (Found text)) same gives) l.lost
+
+-- items that are given have no fault
+given_faultless : (meaning : LibraryMeaning) (told : Files) (line : List ℕ) (p i : Option Origin) → IfSome p (TellsText told) → IfSome i (TellsText told) → IfSome p (λ program. IfSome i (λ _. AreRead meaning told program))
+    → IsSomeAnd p (λ program. IsSomeAnd i (GivesItems meaning told program)) → IsSomeAnd p (λ program. IsSomeAnd i (λ items. IsItemsText meaning told program items line)) → ⊥
+given_faultless meaning told line (Some program) (Some items) tells tells_items read given is = no_fault meaning told program tells items tells_items read line given is
+given_faultless meaning told line (Some program) None tells tells_items read given is = is
+given_faultless meaning told line None i tells tells_items read given is = is
 
 module _ (meaning : LibraryMeaning) (told : Files) where
-  tells_program : (command : Command) (program : Origin) → TellsFiles told command → ReadsProgram command program → TellsText told program
-  tells_program (check file) program tells reads = subst (TellsText told) (sym reads) tells
-  tells_program (plan file) program tells reads = subst (TellsText told) (sym reads) tells
-  tells_program (format file) program tells reads = subst (TellsText told) (sym reads) tells
-  tells_program (run file items options) program tells reads = subst (TellsText told) (sym reads) tells
-  tells_program (audit file items journal docs) program tells reads = subst (TellsText told) (sym reads) tells
-  tells_program (load count first runtime) program tells reads = subst (TellsText told) (sym reads) tt
-  tells_program (serve file serving) program tells reads = subst (TellsText told) (sym reads) tells
-  tells_program help program tells reads = absurd reads
-  tells_program (simulate file items simulating) program tells reads = subst (TellsText told) (sym reads) tells
-  tells_program (swarm file items journal hash docs) program tells reads = subst (TellsText told) (sym reads) tells
+  -- what is printed after items: they were given, where any are read
+  printed_given : (command : Command) (text : List ℕ) → IsPrinted meaning command told text → let inputs = inputs_of command in IfSome inputs.items (λ _. WithItems inputs (GivesItems meaning told))
+  printed_given (run file items options) text p = p.given
+  printed_given (audit file items journal docs) text p = let a = p.1 in a.given
+  printed_given (load count first runtime) text p = p.given
+  printed_given (simulate file items simulating) text p = p.given
+  printed_given (swarm file items journal hash docs) text p = p.given
+  printed_given other text p = tt
 
-  -- both are the program's
-  same_program : (command : Command) (a b : Origin) → ReadsProgram command a → ReadsProgram command b → a ≡ b
-  same_program (check file) a b x y = x ∙ sym y
-  same_program (plan file) a b x y = x ∙ sym y
-  same_program (format file) a b x y = x ∙ sym y
-  same_program (run file items options) a b x y = x ∙ sym y
-  same_program (audit file items journal docs) a b x y = x ∙ sym y
-  same_program (load count first runtime) a b x y = x ∙ sym y
-  same_program (serve file serving) a b x y = x ∙ sym y
-  same_program help a b x y = absurd x
-  same_program (simulate file items simulating) a b x y = x ∙ sym y
-  same_program (swarm file items journal hash docs) a b x y = x ∙ sym y
+  -- and after a journal
+  printed_journal : (command : Command) (text : List ℕ) → IsPrinted meaning command told text → let inputs = inputs_of command in IfSome inputs.journal (λ journal. (its : List ℕ) × Gives told journal JOURNAL_FILE_LIMIT (Found its))
+  printed_journal (audit file items journal docs) text p = let a = p.1 in (a.text, a.gives)
+  printed_journal (swarm file items journal hash docs) text p = (p.journal_text, p.gives)
+  printed_journal other text p = tt
 
-  -- a file is read, so that files are reported
-  some_read : (command : Command) (name : List ℕ) → TellsFiles told command → ReadsProgram command (named name) → IsSome told
-  some_read (check file) name tells reads = tells
-  some_read (plan file) name tells reads = tells
-  some_read (format file) name tells reads = tells
-  some_read (run file items options) name tells reads = tells
-  some_read (audit file items journal docs) name tells reads = tells
-  some_read (load count first runtime) name tells reads = absurd cc
-  some_read (serve file serving) name tells reads = tells
-  some_read help name tells reads = absurd reads
-  some_read (simulate file items simulating) name tells reads = tells
-  some_read (swarm file items journal hash docs) name tells reads = tells
+  -- a verdict that says no is one on a journal of items
+  record IsNoOf (command : Command) (text : List ℕ) : Type 0 where
+    pub given : WithItems (inputs_of command) (GivesItems meaning told)
+    pub journal : List ℕ
+    pub reads : let inputs = inputs_of command in inputs.journal ≡ Some journal
+    pub its : List ℕ
+    pub gives : Gives told journal JOURNAL_FILE_LIMIT (Found its)
+
+  refuted_of : (command : Command) (text : List ℕ) → IsRefuted meaning command told text → IsNoOf command text
+  refuted_of (audit file items journal docs) text r = let a = r.2 in record { given = a.given; journal = journal; reads = refl; its = a.text; gives = a.gives }
+  refuted_of (swarm file items journal hash docs) text r = let a = r.2 in record { given = a.given; journal = journal; reads = refl; its = a.text; gives = a.gives }
+  refuted_of other text r = absurd r
 
   -- ---- what comes after a sound program
+
   pub record IsSoundOf (command : Command) : Type 0 where
     pub program : Origin
-    pub reads : ReadsProgram command program
+    pub reads : ReadsProgram (inputs_of command) program
     pub decls : List Decl
     pub has : HasDecls told program decls
     pub no_fault : (text : List ℕ) (fault : StaticFault) → TellsText told program → GivesText told program PROGRAM_FILE_LIMIT text → IsStaticOf meaning command text fault → ⊥
 
-  pub sound_of : (command : Command) (program : Origin) → ReadsProgram command program → (decls : List Decl) → HasProgram meaning told program decls
-      → ((text : List ℕ) (fault : StaticFault) → IsStaticOf meaning command text fault → IsTextFault meaning text fault) → IsSoundOf command
-  sound_of command program reads decls h is = record {
+  -- a sound program has no fault that a command looks for
+  no_static : (command : Command) (program : Origin) → TellsText told program → (text : List ℕ) (fault : StaticFault) (decls : List Decl) → HasProgram meaning told program decls → GivesText told program PROGRAM_FILE_LIMIT text
+      → IsStaticOf meaning command text fault → ⊥
+  no_static (format file) program tells text fault decls h gives stands = no_decls fault.kind fault.at text decls stands.0 (declared_here meaning told program tells text decls h.has gives)
+  no_static other program tells text fault decls h gives stands = not_faulty meaning told program tells text fault decls h gives stands
+
+  pub sound_of : (command : Command) (program : Origin) → ReadsProgram (inputs_of command) program → (decls : List Decl) → HasProgram meaning told program decls → IsSoundOf command
+  sound_of command program reads decls h = record {
     program = program;
     reads = reads;
     decls = decls;
     has = h.has;
-    no_fault = λ text fault tells gives stands. not_faulty meaning told program tells text fault decls h gives (is text fault stands);
+    no_fault = λ text fault tells gives stands. no_static command program tells text fault decls h gives stands;
   }
 
   -- what can be formatted has none of the faults that formatting looks for
@@ -215,132 +256,137 @@ module _ (meaning : LibraryMeaning) (told : Files) where
     no_fault = λ t fault tells gives stands. no_decls fault.kind fault.at t decls stands.0 (declared_here meaning told (named file) tells t decls h gives);
   }
 
-  printed_sound : (command : Command) (text : List ℕ) → IsPrinted meaning command told text → (command ≡ help) ⊎ IsSoundOf command
-  printed_sound (check file) text p = inr (sound_of (check file) (named file) refl p.decls p.has (λ t f s. s))
-  printed_sound (plan file) text p = inr (sound_of (plan file) (named file) refl p.decls p.has (λ t f s. s))
-  printed_sound (format file) text (decls, h, is) = inr (format_sound file decls h)
-  printed_sound (run file items options) text p = let g = p.given in let h = g.has in inr (sound_of (run file items options) (named file) refl h.decls h.program_ (λ t f s. s))
-  printed_sound (audit file items journal docs) text (events, a, is) = let g = a.given in let h = g.has in inr (sound_of (audit file items journal docs) (named file) refl h.decls h.program_ (λ t f s. s))
-  printed_sound (load count first runtime) text p = let g = p.given in let h = g.has in inr (sound_of (load count first runtime) _ refl h.decls h.program_ (λ t f s. s))
-  printed_sound (serve file serving) text p = let ready = p.1 in inr (sound_of (serve file serving) (named file) refl ready.decls ready.has (λ t f s. s))
-  printed_sound help text p = inl refl
-  printed_sound (simulate file items simulating) text p = let g = p.given in let h = g.has in inr (sound_of (simulate file items simulating) (named file) refl h.decls h.program_ (λ t f s. s))
-  printed_sound (swarm file items journal hash docs) text p = let g = p.given in let h = g.has in inr (sound_of (swarm file items journal hash docs) (named file) refl h.decls h.program_ (λ t f s. s))
+  given_sound : (command : Command) → WithItems (inputs_of command) (GivesItems meaning told) → IsSoundOf command
+  given_sound command given =
+      let both = has_both (inputs_of command) (GivesItems meaning told) given in
+      let own = both.says in
+      let has = own.has in
+      sound_of command both.program both.reads has.decls has.program_
 
-  refuted_sound : (command : Command) (text : List ℕ) → IsRefuted meaning command told text → IsSoundOf command
-  refuted_sound (audit file items journal docs) text (line, rule, a, is) = let g = a.given in let h = g.has in sound_of (audit file items journal docs) (named file) refl h.decls h.program_ (λ t f s. s)
-  refuted_sound (swarm file items journal hash docs) text (line, rule, a, is) = let g = a.given in let h = g.has in sound_of (swarm file items journal hash docs) (named file) refl h.decls h.program_ (λ t f s. s)
-  refuted_sound other text r = absurd r
+  printed_sound : (command : Command) (text : List ℕ) (program : Origin) → ReadsProgram (inputs_of command) program → IsPrinted meaning command told text → IsSoundOf command
+  printed_sound (check file) text program reads p = sound_of (check file) (named file) refl p.decls p.has
+  printed_sound (plan file) text program reads p = sound_of (plan file) (named file) refl p.decls p.has
+  printed_sound (format file) text program reads (decls, h, is) = format_sound file decls h
+  printed_sound (run file items options) text program reads p = given_sound (run file items options) p.given
+  printed_sound (audit file items journal docs) text program reads p = let a = p.1 in given_sound (audit file items journal docs) a.given
+  printed_sound (load count first runtime) text program reads p = given_sound (load count first runtime) p.given
+  printed_sound (serve file serving) text program reads p = let ready = p.1 in sound_of (serve file serving) (named file) refl ready.decls ready.has
+  printed_sound help text program reads p = absurd cc
+  printed_sound (simulate file items simulating) text program reads p = given_sound (simulate file items simulating) p.given
+  printed_sound (swarm file items journal hash docs) text program reads p = given_sound (swarm file items journal hash docs) p.given
 
-  items_sound : (command : Command) (line : List ℕ) → IsItems meaning command told line → IsSoundOf command
-  items_sound (run file items options) line i = let h = i.has in sound_of (run file items options) (named file) refl h.decls h.program_ (λ t f s. s)
-  items_sound (audit file items journal docs) line i = let h = i.has in sound_of (audit file items journal docs) (named file) refl h.decls h.program_ (λ t f s. s)
-  items_sound (load count first runtime) line i = let h = i.has in sound_of (load count first runtime) _ refl h.decls h.program_ (λ t f s. s)
-  items_sound (simulate file items simulating) line i = let h = i.has in sound_of (simulate file items simulating) (named file) refl h.decls h.program_ (λ t f s. s)
-  items_sound (swarm file items journal hash docs) line i = let h = i.has in sound_of (swarm file items journal hash docs) (named file) refl h.decls h.program_ (λ t f s. s)
-  items_sound other line i = absurd i
+  items_sound : (command : Command) (line : List ℕ) → IsItems meaning (inputs_of command) told line → IsSoundOf command
+  items_sound command line i =
+      let both = has_both (inputs_of command) (λ program items. IsItemsText meaning told program items line) i in
+      let own = both.says in
+      let has = own.has in
+      sound_of command both.program both.reads has.decls has.program_
 
-  missed_sound : (command : Command) (name : List ℕ) → AreItemsLost meaning command told name ⊎ IsJournalLost meaning command told name → IsSoundOf command
-  missed_sound (run file items options) name (inl l) = sound_of (run file items options) (named file) refl l.decls l.program_ (λ t f s. s)
-  missed_sound (audit file items journal docs) name (inl l) = sound_of (audit file items journal docs) (named file) refl l.decls l.program_ (λ t f s. s)
-  missed_sound (audit file items journal docs) name (inr l) = let g = l.given in let h = g.has in sound_of (audit file items journal docs) (named file) refl h.decls h.program_ (λ t f s. s)
-  missed_sound (simulate file items simulating) name (inl l) = sound_of (simulate file items simulating) (named file) refl l.decls l.program_ (λ t f s. s)
-  missed_sound (swarm file items journal hash docs) name (inl l) = sound_of (swarm file items journal hash docs) (named file) refl l.decls l.program_ (λ t f s. s)
-  missed_sound (swarm file items journal hash docs) name (inr l) = let g = l.given in let h = g.has in sound_of (swarm file items journal hash docs) (named file) refl h.decls h.program_ (λ t f s. s)
-  missed_sound other name (inl l) = absurd l
-  missed_sound other name (inr l) = absurd l
+  missed_sound : (command : Command) (name : List ℕ) → AreItemsLost meaning (inputs_of command) told name ⊎ IsJournalLost meaning (inputs_of command) told name → IsSoundOf command
+  missed_sound command name (inr l) = given_sound command l.given
+  missed_sound command name (inl l) = let inputs = inputs_of command in one inputs.program refl l.sound
+    where
+      one : (p : Option Origin) → (let inputs = inputs_of command in inputs.program ≡ p) → IsSomeAnd p (HasSound meaning told) → IsSoundOf command
+      one (Some program) is sound = sound_of command program is sound.0 sound.1
+      one None is sound = absurd sound
 
-  module _ (command : Command) (tells : TellsFiles told command) where
+  module _ (command : Command) (tells : TellsFiles told (inputs_of command)) where
+    same_program : (a b : Origin) → ReadsProgram (inputs_of command) a → ReadsProgram (inputs_of command) b → ◌≡◌ {A = Option Origin} (Some b) (Some a)
+    same_program a b x y = sym y ∙ x
+
     -- a sound program has no fault
     pub sound_static : (line : List ℕ) → IsSoundOf command → IsStatic meaning command told line → ⊥
     sound_static line sound s =
-        sound.no_fault s.text s.fault (tells_program command sound.program tells sound.reads)
-        (gives_here meaning told sound.program s.program s.text (same_program command s.program sound.program s.reads sound.reads) s.gives) s.stands
+        sound.no_fault s.text s.fault (tells_program told (inputs_of command) tells sound.program sound.reads)
+        (gives_here meaning told sound.program s.program s.text (same_program sound.program s.program sound.reads s.reads) s.gives) s.stands
 
     -- and isn't lost
-    sound_lost : (name : List ℕ) → IsSoundOf command → ReadsProgram command (named name) × IsLost told name PROGRAM_FILE_LIMIT → ⊥
-    sound_lost name sound (reads, lost) =
-        program_there meaning told sound.program (tells_program command sound.program tells sound.reads) sound.decls sound.has name
-        (same_program command sound.program (named name) sound.reads reads) (some_read command name tells reads) lost
+    sound_lost : (name : List ℕ) → IsSoundOf command → IsProgramLost (inputs_of command) told name → ⊥
+    sound_lost name sound l = let has = sound.has in
+        not_lost told name PROGRAM_FILE_LIMIT has.text (tells_program told (inputs_of command) tells (named name) l.reads)
+        (gives_here meaning told (named name) sound.program has.text (same_program (named name) sound.program l.reads sound.reads) has.gives) l.lost
 
-    static_lost : (line : List ℕ) (name : List ℕ) → IsStatic meaning command told line → ReadsProgram command (named name) × IsLost told name PROGRAM_FILE_LIMIT → ⊥
-    static_lost line name s (reads, lost) =
-        not_lost told name PROGRAM_FILE_LIMIT s.text (some_read command name tells reads)
-        (gives_here meaning told (named name) s.program s.text (same_program command s.program (named name) s.reads reads) s.gives) lost
+    static_lost : (line : List ℕ) (name : List ℕ) → IsStatic meaning command told line → IsProgramLost (inputs_of command) told name → ⊥
+    static_lost line name s l =
+        not_lost told name PROGRAM_FILE_LIMIT s.text (tells_program told (inputs_of command) tells (named name) l.reads)
+        (gives_here meaning told (named name) s.program s.text (same_program (named name) s.program l.reads s.reads) s.gives) l.lost
 
     pub printed_static : (text line : List ℕ) → IsPrinted meaning command told text → IsStatic meaning command told line → ⊥
-    printed_static text line p s = elim (printed_sound command text p) [
-      | inl e ↦ by_help command e s.reads
-      | inr sound ↦ sound_static line sound s
-    ]
-      where
-        by_help : (own : Command) → own ≡ help → ReadsProgram own s.program → ⊥
-        by_help own e reads = subst (λ (c : Command). ReadsProgram c s.program) e reads
+    printed_static text line p s = sound_static line (printed_sound command text s.program s.reads p) s
 
-    static_missing : (said line : List ℕ) → IsStatic meaning command told said → IsMissing meaning command told line → ⊥
+    static_missing : (said line : List ℕ) → IsStatic meaning command told said → IsMissing meaning (inputs_of command) told line → ⊥
     static_missing said line s m = elim m.lost [
       | inl lost ↦ static_lost said m.name s lost
       | inr late ↦ sound_static said (missed_sound command m.name late) s
     ]
 
-  -- ---- what rests on items: one thing alone
-  pub late_missing : (command : Command) (line : List ℕ) → TellsFiles told command → IsSoundOf command → IsMissing meaning command told line → (name : List ℕ) × (AreItemsLost meaning command told name ⊎ IsJournalLost meaning command told name)
-  late_missing command line tells sound m = elim m.lost [
-    | inl lost ↦ absurd (sound_lost command tells m.name sound lost)
-    | inr late ↦ (m.name, late)
-  ]
+    -- a missing file beside a sound program is that of items or of a journal
+    pub sound_missing : (line : List ℕ) → IsSoundOf command
+        → ((name : List ℕ) → AreItemsLost meaning (inputs_of command) told name → ⊥) → ((name : List ℕ) → IsJournalLost meaning (inputs_of command) told name → ⊥) → IsMissing meaning (inputs_of command) told line → ⊥
+    sound_missing line sound items journal m = elim m.lost [
+      | inl lost ↦ sound_lost m.name sound lost
+      | inr late ↦ elim late [ | inl l ↦ items m.name l | inr l ↦ journal m.name l ]
+    ]
 
-  printed_late : (command : Command) (text : List ℕ) (name : List ℕ) → TellsFiles told command → IsPrinted meaning command told text → AreItemsLost meaning command told name ⊎ IsJournalLost meaning command told name → ⊥
-  printed_late (run file items options) text name tells p (inl l) = let g = p.given in let h = g.has in not_lost told items ITEMS_FILE_LIMIT h.text tells h.gives l.lost
-  printed_late (audit file items journal docs) text name tells p (inl l) = let a = p.1 in let g = a.given in let h = g.has in not_lost told items ITEMS_FILE_LIMIT h.text tells h.gives l.lost
-  printed_late (audit file items journal docs) text name tells p (inr l) = let a = p.1 in not_lost told journal JOURNAL_FILE_LIMIT a.text tells a.gives l.lost
-  printed_late (simulate file items simulating) text name tells p (inl l) = let g = p.given in let h = g.has in not_lost told items ITEMS_FILE_LIMIT h.text tells h.gives l.lost
-  printed_late (swarm file items journal hash docs) text name tells p (inl l) = let g = p.given in let h = g.has in not_lost told items ITEMS_FILE_LIMIT h.text tells h.gives l.lost
-  printed_late (swarm file items journal hash docs) text name tells p (inr l) = not_lost told journal JOURNAL_FILE_LIMIT p.journal_text tells p.gives l.lost
-  printed_late other text name tells p (inl l) = absurd l
-  printed_late other text name tells p (inr l) = absurd l
+    -- ---- what rests on items: one thing alone
 
-  refuted_late : (command : Command) (text : List ℕ) (name : List ℕ) → TellsFiles told command → IsRefuted meaning command told text → AreItemsLost meaning command told name ⊎ IsJournalLost meaning command told name → ⊥
-  refuted_late (audit file items journal docs) text name tells r (inl l) = let a = r.2 in let g = a.given in let h = g.has in not_lost told items ITEMS_FILE_LIMIT h.text tells h.gives l.lost
-  refuted_late (audit file items journal docs) text name tells r (inr l) = let a = r.2 in not_lost told journal JOURNAL_FILE_LIMIT a.text tells a.gives l.lost
-  refuted_late (swarm file items journal hash docs) text name tells r (inl l) = let a = r.2 in let g = a.given in let h = g.has in not_lost told items ITEMS_FILE_LIMIT h.text tells h.gives l.lost
-  refuted_late (swarm file items journal hash docs) text name tells r (inr l) = let a = r.2 in not_lost told journal JOURNAL_FILE_LIMIT a.text tells a.gives l.lost
-  refuted_late other text name tells r late = absurd r
+    -- items that are given aren't lost
+    given_there : (name : List ℕ) → WithItems (inputs_of command) (GivesItems meaning told) → AreItemsLost meaning (inputs_of command) told name → ⊥
+    given_there name given l =
+        let both = has_both (inputs_of command) (GivesItems meaning told) given in
+        let own = both.says in
+        let has = own.has in
+        items_there told (inputs_of command) tells meaning both.items has.text name both.reads_items has.gives l
 
-  items_late : (command : Command) (line : List ℕ) (name : List ℕ) → TellsFiles told command → ReadsItems meaning command told → IsItems meaning command told line → AreItemsLost meaning command told name ⊎ IsJournalLost meaning command told name → ⊥
-  items_late (run file items options) line name tells read i (inl l) = let h = i.has in not_lost told items ITEMS_FILE_LIMIT h.text tells h.gives l.lost
-  items_late (audit file items journal docs) line name tells read i (inl l) = let h = i.has in not_lost told items ITEMS_FILE_LIMIT h.text tells h.gives l.lost
-  items_late (audit file items journal docs) line name tells read i (inr l) = no_fault meaning told (named file) tells (named items) tells read line l.given i
-  items_late (simulate file items simulating) line name tells read i (inl l) = let h = i.has in not_lost told items ITEMS_FILE_LIMIT h.text tells h.gives l.lost
-  items_late (swarm file items journal hash docs) line name tells read i (inl l) = let h = i.has in not_lost told items ITEMS_FILE_LIMIT h.text tells h.gives l.lost
-  items_late (swarm file items journal hash docs) line name tells read i (inr l) = no_fault meaning told (named file) tells (named items) tells read line l.given i
-  items_late other line name tells read i (inl l) = absurd l
-  items_late other line name tells read i (inr l) = absurd l
+    printed_missing : (text line : List ℕ) → IsPrinted meaning command told text → IsMissing meaning (inputs_of command) told line → ⊥
+    printed_missing text line p m = elim m.lost [
+      | inl lost ↦ sound_lost m.name (printed_sound command text (named m.name) lost.reads p) lost
+      | inr late ↦ elim late [
+        | inl l ↦ given_there m.name (subst (λ (o : Option Origin). IfSome o (λ _. WithItems (inputs_of command) (GivesItems meaning told))) l.reads (printed_given command text p)) l
+        | inr l ↦ journal_late m.name l (subst (λ (o : Option (List ℕ)). IfSome o (λ journal. (its : List ℕ) × Gives told journal JOURNAL_FILE_LIMIT (Found its))) l.reads (printed_journal command text p))
+      ]
+    ]
+      where
+        journal_late : (name : List ℕ) → IsJournalLost meaning (inputs_of command) told name → (its : List ℕ) × Gives told name JOURNAL_FILE_LIMIT (Found its) → ⊥
+        journal_late name l (its, gives) = journal_there told (inputs_of command) tells meaning name its name l.reads gives l
 
-  printed_items : (command : Command) (text line : List ℕ) → TellsFiles told command → ReadsItems meaning command told → IsPrinted meaning command told text → IsItems meaning command told line → ⊥
-  printed_items (run file items options) text line tells read p i = no_fault meaning told (named file) tells (named items) tells read line p.given i
-  printed_items (audit file items journal docs) text line tells read p i = let a = p.1 in no_fault meaning told (named file) tells (named items) tells read line a.given i
-  printed_items (load count first runtime) text line tells read p i = no_fault meaning told _ tt _ tt read line p.given i
-  printed_items (simulate file items simulating) text line tells read p i = no_fault meaning told (named file) tells (named items) tells read line p.given i
-  printed_items (swarm file items journal hash docs) text line tells read p i = no_fault meaning told (named file) tells (named items) tells read line p.given i
-  printed_items other text line tells read p i = absurd i
+    refuted_missing : (text line : List ℕ) → IsRefuted meaning command told text → IsMissing meaning (inputs_of command) told line → ⊥
+    refuted_missing text line r m = let no = refuted_of command text r in
+        sound_missing line (given_sound command no.given) (λ name l. given_there name no.given l)
+        (λ name l. journal_there told (inputs_of command) tells meaning no.journal no.its name no.reads no.gives l) m
 
-  refuted_items : (command : Command) (text line : List ℕ) → TellsFiles told command → ReadsItems meaning command told → IsRefuted meaning command told text → IsItems meaning command told line → ⊥
-  refuted_items (audit file items journal docs) text line tells read r i = let a = r.2 in no_fault meaning told (named file) tells (named items) tells read line a.given i
-  refuted_items (swarm file items journal hash docs) text line tells read r i = let a = r.2 in no_fault meaning told (named file) tells (named items) tells read line a.given i
-  refuted_items other text line tells read r i = absurd r
+    module _ (read : ReadsItems meaning (inputs_of command) told) where
+      faultless : (line : List ℕ) → WithItems (inputs_of command) (GivesItems meaning told) → IsItems meaning (inputs_of command) told line → ⊥
+      faultless line given i = let inputs = inputs_of command in given_faultless meaning told line inputs.program inputs.items tells.program tells.items read given i
+
+      items_missing : (said line : List ℕ) → IsItems meaning (inputs_of command) told said → IsMissing meaning (inputs_of command) told line → ⊥
+      items_missing said line i m = sound_missing line (items_sound command said i) lost (λ name l. faultless said l.given i) m
+        where
+          lost : (name : List ℕ) → AreItemsLost meaning (inputs_of command) told name → ⊥
+          lost name l =
+              let both = has_both (inputs_of command) (λ program items. IsItemsText meaning told program items said) i in
+              let own = both.says in
+              let has = own.has in
+              items_there told (inputs_of command) tells meaning both.items has.text name both.reads_items has.gives l
+
+      printed_items : (text line : List ℕ) → IsPrinted meaning command told text → IsItems meaning (inputs_of command) told line → ⊥
+      printed_items text line p i = let both = has_both (inputs_of command) (λ program items. IsItemsText meaning told program items line) i in
+          faultless line (subst (λ (o : Option Origin). IfSome o (λ _. WithItems (inputs_of command) (GivesItems meaning told))) both.reads_items (printed_given command text p)) i
+
+      refuted_items : (text line : List ℕ) → IsRefuted meaning command told text → IsItems meaning (inputs_of command) told line → ⊥
+      refuted_items text line r i = let no = refuted_of command text r in faultless line no.given i
 
   -- a swarm is printed after a journal that is right
   swarm_right : (program items : Origin) (journal hash text : List ℕ) → IsSwarmed meaning told program items journal hash text → (events : ℕ) × IsAudited meaning told program items journal (verdicts.Yes events)
   swarm_right program items journal hash text p = let s = p.is in let own : Journal = s.journal in
       (length own.entries, record { given = p.given; text = p.journal_text; gives = p.gives; has_verdict = (own, s.is_true, refl) })
 
-  printed_refuted : (command : Command) (text other : List ℕ) → TellsFiles told command → ReadsItems meaning command told → IsPrinted meaning command told text → IsRefuted meaning command told other → ⊥
+  printed_refuted : (command : Command) (text other : List ℕ) → TellsFiles told (inputs_of command) → ReadsItems meaning (inputs_of command) told → IsPrinted meaning command told text → IsRefuted meaning command told other → ⊥
   printed_refuted (audit file items journal docs) text other tells read p r =
-      let e = one_verdict_here meaning told (named file) tells (named items) tells read journal (verdicts.Yes p.0) (verdicts.No r.0 r.1) tells p.1 r.2 in absurd cc
+      let e = one_verdict_here meaning told (named file) tells.program (named items) tells.items read journal (verdicts.Yes p.0) (verdicts.No r.0 r.1) tells.journal p.1 r.2 in absurd cc
   printed_refuted (swarm file items journal hash docs) text other tells read p r =
       let a = swarm_right (named file) (named items) journal hash text p in
-      let e = one_verdict_here meaning told (named file) tells (named items) tells read journal (verdicts.Yes a.0) (verdicts.No r.0 r.1) tells a.1 r.2 in absurd cc
+      let e = one_verdict_here meaning told (named file) tells.program (named items) tells.items read journal (verdicts.Yes a.0) (verdicts.No r.0 r.1) tells.journal a.1 r.2 in absurd cc
   printed_refuted own text other tells read p r = absurd r
 
 -- ---- programs that can't be served
@@ -354,104 +400,86 @@ module _ (meaning : LibraryMeaning) (told : Files) where
       let same = decls_is told program s.decls u.decls tells can.has no.has in
       u.none s.framing (subst (λ (ds : List Decl). IsServed meaning (program_of ds) s.framing) same s.source)
 
-  printed_unserved : (command : Command) (text line : List ℕ) → TellsFiles told command → IsPrinted meaning command told text → IsUnserved meaning command told line → ⊥
-  printed_unserved (serve file serving) text line tells p u = served_unserved (named file) tells p.1 u.0
+  printed_unserved : (command : Command) (text line : List ℕ) → TellsFiles told (inputs_of command) → IsPrinted meaning command told text → IsUnserved meaning command told line → ⊥
+  printed_unserved (serve file serving) text line tells p u = served_unserved (named file) tells.program p.1 u.0
   printed_unserved other text line tells p u = absurd u
 
   refuted_unserved : (command : Command) (text line : List ℕ) → IsRefuted meaning command told text → IsUnserved meaning command told line → ⊥
   refuted_unserved (serve file serving) text line r u = r
   refuted_unserved other text line r u = absurd u
 
-  static_unserved : (command : Command) (said line : List ℕ) → TellsFiles told command → IsStatic meaning command told said → IsUnserved meaning command told line → ⊥
-  static_unserved (serve file serving) said line tells s u = let no = u.0 in
-      not_faulty meaning told (named file) tells s.text s.fault no.decls no.has (gives_here meaning told (named file) s.program s.text s.reads s.gives) s.stands
-  static_unserved other said line tells s u = absurd u
+  unserved_sound : (command : Command) (line : List ℕ) → IsUnserved meaning command told line → IsSoundOf meaning told command
+  unserved_sound (serve file serving) line u = let no = u.0 in sound_of meaning told (serve file serving) (named file) refl no.decls no.has
+  unserved_sound other line u = absurd u
 
-  items_unserved : (command : Command) (said line : List ℕ) → IsItems meaning command told said → IsUnserved meaning command told line → ⊥
+  items_unserved : (command : Command) (said line : List ℕ) → IsItems meaning (inputs_of command) told said → IsUnserved meaning command told line → ⊥
   items_unserved (serve file serving) said line i u = i
   items_unserved other said line i u = absurd u
 
-  missing_unserved : (command : Command) (said line : List ℕ) → TellsFiles told command → IsMissing meaning command told said → IsUnserved meaning command told line → ⊥
-  missing_unserved (serve file serving) said line tells m u = one m.lost
-    where
-      one : ((named m.name ≡ named file) × IsLost told m.name PROGRAM_FILE_LIMIT) ⊎ (⊥ ⊎ ⊥) → ⊥
-      one (inl (same, lost)) = let no = u.0 in let has = no.has in program_there meaning told (named file) tells no.decls has.has m.name (sym same) tells lost
-      one (inr (inl never)) = never
-      one (inr (inr never)) = never
-  missing_unserved other said line tells m u = absurd u
+  -- it reads no items and no journal
+  unserved_items : (command : Command) (line name : List ℕ) → IsUnserved meaning command told line → AreItemsLost meaning (inputs_of command) told name → ⊥
+  unserved_items (serve file serving) line name u l = let e = l.reads in absurd cc
+  unserved_items other line name u l = absurd u
 
-module _ (meaning : LibraryMeaning) (told : Files) (command : Command) (tells : TellsFiles told command) where
+  unserved_journal : (command : Command) (line name : List ℕ) → IsUnserved meaning command told line → IsJournalLost meaning (inputs_of command) told name → ⊥
+  unserved_journal (serve file serving) line name u l = let e = l.reads in absurd cc
+  unserved_journal other line name u l = absurd u
+
+module _ (meaning : LibraryMeaning) (told : Files) (command : Command) (tells : TellsFiles told (inputs_of command)) where
   abbrev Views : Status → List ℕ → List ℕ → Type 0
   Views = View meaning command told
 
-  -- a missing file beside a sound program is that of items or of a journal
-  sound_missing : (line : List ℕ) → IsSoundOf meaning told command → ((name : List ℕ) → AreItemsLost meaning command told name ⊎ IsJournalLost meaning command told name → ⊥) → IsMissing meaning command told line → ⊥
-  sound_missing line sound never m = let late = late_missing meaning told command line tells sound m in never late.0 late.1
-
-  printed_missing : (text line : List ℕ) → IsPrinted meaning command told text → IsMissing meaning command told line → ⊥
-  printed_missing text line p m = elim (printed_sound meaning told command text p) [
-    | inl e ↦ by_help command e m.lost
-    | inr sound ↦ sound_missing line sound (λ name late. printed_late meaning told command text name tells p late) m
-  ]
-    where
-      by_help : (own : Command) → own ≡ help → (ReadsProgram own (named m.name) × IsLost told m.name PROGRAM_FILE_LIMIT) ⊎ (AreItemsLost meaning own told m.name ⊎ IsJournalLost meaning own told m.name) → ⊥
-      by_help own e lost = none (subst (λ (c : Command). (ReadsProgram c (named m.name) × IsLost told m.name PROGRAM_FILE_LIMIT) ⊎ (AreItemsLost meaning c told m.name ⊎ IsJournalLost meaning c told m.name)) e lost)
-        where
-          none : (⊥ × IsLost told m.name PROGRAM_FILE_LIMIT) ⊎ (⊥ ⊎ ⊥) → ⊥
-          none (inl (read, lost)) = read
-          none (inr (inl late)) = late
-          none (inr (inr late)) = late
-
-  refuted_missing : (text line : List ℕ) → IsRefuted meaning command told text → IsMissing meaning command told line → ⊥
-  refuted_missing text line r m = sound_missing line (refuted_sound meaning told command text r) (λ name late. refuted_late meaning told command text name tells r late) m
-
-  items_missing : (said line : List ℕ) → ReadsItems meaning command told → IsItems meaning command told said → IsMissing meaning command told line → ⊥
-  items_missing said line read i m = sound_missing line (items_sound meaning told command said i) (λ name late. items_late meaning told command said name tells read i late) m
-
   refuted_static : (text line : List ℕ) → IsRefuted meaning command told text → IsStatic meaning command told line → ⊥
-  refuted_static text line r s = sound_static meaning told command tells line (refuted_sound meaning told command text r) s
+  refuted_static text line r s = let no = refuted_of meaning told command text r in sound_static meaning told command tells line (given_sound meaning told command no.given) s
 
-  items_static : (said line : List ℕ) → IsItems meaning command told said → IsStatic meaning command told line → ⊥
+  items_static : (said line : List ℕ) → IsItems meaning (inputs_of command) told said → IsStatic meaning command told line → ⊥
   items_static said line i s = sound_static meaning told command tells line (items_sound meaning told command said i) s
 
-  -- the status that rests on items has its rules
-  reads : (s own : Status) → s ≡ own → IsFirm meaning command told s → IsFirm meaning command told own
-  reads s own e firm = subst (IsFirm meaning command told) e firm
+  static_unserved : (said line : List ℕ) → IsStatic meaning command told said → IsUnserved meaning command told line → ⊥
+  static_unserved said line s u = sound_static meaning told command tells said (unserved_sound meaning told command line u) s
 
-  pub same_view : (s r : Status) (t l u m : List ℕ) → IsFirm meaning command told s → Views s t l → Views r u m → s ≡ r
+  missing_unserved : (said line : List ℕ) → IsMissing meaning (inputs_of command) told said → IsUnserved meaning command told line → ⊥
+  missing_unserved said line m u = sound_missing meaning told command tells said (unserved_sound meaning told command line u)
+      (λ name l. unserved_items meaning told command line name u l) (λ name l. unserved_journal meaning told command line name u l) m
+
+  -- the status that rests on items has its rules
+  reads : (s own : Status) → s ≡ own → IsFirm meaning (inputs_of command) told s → StandsOnItems own → ReadsItems meaning (inputs_of command) told
+  reads s own e firm stands = firm tells (subst StandsOnItems (sym e) stands)
+
+  pub same_view : (s r : Status) (t l u m : List ℕ) → IsFirm meaning (inputs_of command) told s → Views s t l → Views r u m → s ≡ r
   same_view s r t l u m firm (inl (a, p)) (inl (b, q)) = a ∙ sym b
-  same_view s r t l u m firm (inl (a, p)) (inr (inl (b, q))) = absurd (printed_refuted meaning told command t u tells (reads s statuses.Done a firm tells tt) p q)
+  same_view s r t l u m firm (inl (a, p)) (inr (inl (b, q))) = absurd (printed_refuted meaning told command t u tells (reads s statuses.Done a firm tt) p q)
   same_view s r t l u m firm (inl (a, p)) (inr (inr (inl (b, q)))) = absurd (printed_static meaning told command tells t m p q)
-  same_view s r t l u m firm (inl (a, p)) (inr (inr (inr (inl (b, q))))) = absurd (printed_items meaning told command t m tells (reads s statuses.Done a firm tells tt) p q)
-  same_view s r t l u m firm (inl (a, p)) (inr (inr (inr (inr (inl (b, q)))))) = absurd (printed_missing t m p q)
-  same_view s r t l u m firm (inr (inl (a, p))) (inl (b, q)) = absurd (printed_refuted meaning told command u t tells (reads s statuses.No a firm tells tt) q p)
+  same_view s r t l u m firm (inl (a, p)) (inr (inr (inr (inl (b, q))))) = absurd (printed_items meaning told command tells (reads s statuses.Done a firm tt) t m p q)
+  same_view s r t l u m firm (inl (a, p)) (inr (inr (inr (inr (inl (b, q)))))) = absurd (printed_missing meaning told command tells t m p q)
+  same_view s r t l u m firm (inr (inl (a, p))) (inl (b, q)) = absurd (printed_refuted meaning told command u t tells (reads s statuses.No a firm tt) q p)
   same_view s r t l u m firm (inr (inl (a, p))) (inr (inl (b, q))) = a ∙ sym b
   same_view s r t l u m firm (inr (inl (a, p))) (inr (inr (inl (b, q)))) = absurd (refuted_static t m p q)
-  same_view s r t l u m firm (inr (inl (a, p))) (inr (inr (inr (inl (b, q))))) = absurd (refuted_items meaning told command t m tells (reads s statuses.No a firm tells tt) p q)
-  same_view s r t l u m firm (inr (inl (a, p))) (inr (inr (inr (inr (inl (b, q)))))) = absurd (refuted_missing t m p q)
+  same_view s r t l u m firm (inr (inl (a, p))) (inr (inr (inr (inl (b, q))))) = absurd (refuted_items meaning told command tells (reads s statuses.No a firm tt) t m p q)
+  same_view s r t l u m firm (inr (inl (a, p))) (inr (inr (inr (inr (inl (b, q)))))) = absurd (refuted_missing meaning told command tells t m p q)
   same_view s r t l u m firm (inr (inr (inl (a, p)))) (inl (b, q)) = absurd (printed_static meaning told command tells u l q p)
   same_view s r t l u m firm (inr (inr (inl (a, p)))) (inr (inl (b, q))) = absurd (refuted_static u l q p)
   same_view s r t l u m firm (inr (inr (inl (a, p)))) (inr (inr (inl (b, q)))) = a ∙ sym b
   same_view s r t l u m firm (inr (inr (inl (a, p)))) (inr (inr (inr (inl (b, q))))) = absurd (items_static m l q p)
   same_view s r t l u m firm (inr (inr (inl (a, p)))) (inr (inr (inr (inr (inl (b, q)))))) = absurd (static_missing meaning told command tells l m p q)
-  same_view s r t l u m firm (inr (inr (inr (inl (a, p))))) (inl (b, q)) = absurd (printed_items meaning told command u l tells (reads s statuses.Items a firm tells tt) q p)
-  same_view s r t l u m firm (inr (inr (inr (inl (a, p))))) (inr (inl (b, q))) = absurd (refuted_items meaning told command u l tells (reads s statuses.Items a firm tells tt) q p)
+  same_view s r t l u m firm (inr (inr (inr (inl (a, p))))) (inl (b, q)) = absurd (printed_items meaning told command tells (reads s statuses.Items a firm tt) u l q p)
+  same_view s r t l u m firm (inr (inr (inr (inl (a, p))))) (inr (inl (b, q))) = absurd (refuted_items meaning told command tells (reads s statuses.Items a firm tt) u l q p)
   same_view s r t l u m firm (inr (inr (inr (inl (a, p))))) (inr (inr (inl (b, q)))) = absurd (items_static l m p q)
   same_view s r t l u m firm (inr (inr (inr (inl (a, p))))) (inr (inr (inr (inl (b, q))))) = a ∙ sym b
-  same_view s r t l u m firm (inr (inr (inr (inl (a, p))))) (inr (inr (inr (inr (inl (b, q)))))) = absurd (items_missing l m (reads s statuses.Items a firm tells tt) p q)
-  same_view s r t l u m firm (inr (inr (inr (inr (inl (a, p)))))) (inl (b, q)) = absurd (printed_missing u l q p)
-  same_view s r t l u m firm (inr (inr (inr (inr (inl (a, p)))))) (inr (inl (b, q))) = absurd (refuted_missing u l q p)
+  same_view s r t l u m firm (inr (inr (inr (inl (a, p))))) (inr (inr (inr (inr (inl (b, q)))))) = absurd (items_missing meaning told command tells (reads s statuses.Items a firm tt) l m p q)
+  same_view s r t l u m firm (inr (inr (inr (inr (inl (a, p)))))) (inl (b, q)) = absurd (printed_missing meaning told command tells u l q p)
+  same_view s r t l u m firm (inr (inr (inr (inr (inl (a, p)))))) (inr (inl (b, q))) = absurd (refuted_missing meaning told command tells u l q p)
   same_view s r t l u m firm (inr (inr (inr (inr (inl (a, p)))))) (inr (inr (inl (b, q)))) = absurd (static_missing meaning told command tells m l q p)
-  same_view s r t l u m firm (inr (inr (inr (inr (inl (a, p)))))) (inr (inr (inr (inl (b, q))))) = absurd (items_missing m l (reads s statuses.Missing a firm tells tt) q p)
+  same_view s r t l u m firm (inr (inr (inr (inr (inl (a, p)))))) (inr (inr (inr (inl (b, q))))) = absurd (items_missing meaning told command tells (reads s statuses.Missing a firm tt) m l q p)
   same_view s r t l u m firm (inr (inr (inr (inr (inl (a, p)))))) (inr (inr (inr (inr (inl (b, q)))))) = a ∙ sym b
   same_view s r t l u m firm (inl (a, p)) (inr (inr (inr (inr (inr (b, q)))))) = absurd (printed_unserved meaning told command t m tells p q)
   same_view s r t l u m firm (inr (inl (a, p))) (inr (inr (inr (inr (inr (b, q)))))) = absurd (refuted_unserved meaning told command t m p q)
-  same_view s r t l u m firm (inr (inr (inl (a, p)))) (inr (inr (inr (inr (inr (b, q)))))) = absurd (static_unserved meaning told command l m tells p q)
+  same_view s r t l u m firm (inr (inr (inl (a, p)))) (inr (inr (inr (inr (inr (b, q)))))) = absurd (static_unserved l m p q)
   same_view s r t l u m firm (inr (inr (inr (inl (a, p))))) (inr (inr (inr (inr (inr (b, q)))))) = absurd (items_unserved meaning told command l m p q)
-  same_view s r t l u m firm (inr (inr (inr (inr (inl (a, p)))))) (inr (inr (inr (inr (inr (b, q)))))) = absurd (missing_unserved meaning told command l m tells p q)
+  same_view s r t l u m firm (inr (inr (inr (inr (inl (a, p)))))) (inr (inr (inr (inr (inr (b, q)))))) = absurd (missing_unserved l m p q)
   same_view s r t l u m firm (inr (inr (inr (inr (inr (a, p)))))) (inl (b, q)) = absurd (printed_unserved meaning told command u l tells q p)
   same_view s r t l u m firm (inr (inr (inr (inr (inr (a, p)))))) (inr (inl (b, q))) = absurd (refuted_unserved meaning told command u l q p)
-  same_view s r t l u m firm (inr (inr (inr (inr (inr (a, p)))))) (inr (inr (inl (b, q)))) = absurd (static_unserved meaning told command m l tells q p)
+  same_view s r t l u m firm (inr (inr (inr (inr (inr (a, p)))))) (inr (inr (inl (b, q)))) = absurd (static_unserved m l q p)
   same_view s r t l u m firm (inr (inr (inr (inr (inr (a, p)))))) (inr (inr (inr (inl (b, q))))) = absurd (items_unserved meaning told command m l q p)
-  same_view s r t l u m firm (inr (inr (inr (inr (inr (a, p)))))) (inr (inr (inr (inr (inl (b, q)))))) = absurd (missing_unserved meaning told command m l tells q p)
+  same_view s r t l u m firm (inr (inr (inr (inr (inr (a, p)))))) (inr (inr (inr (inr (inl (b, q)))))) = absurd (missing_unserved m l q p)
   same_view s r t l u m firm (inr (inr (inr (inr (inr (a, p)))))) (inr (inr (inr (inr (inr (b, q)))))) = a ∙ sym b

@@ -1,42 +1,31 @@
 -- What the words ask for: the folder of documents, and the files after it.
-use Rattle.std.specs.Prelude.{◌≡◌, ℕ, ◌⊎◌, List, [], ◌∷◌, ◌++◌, Option, IsSome, option_to_list, ⊤}
+use Rattle.std.specs.Prelude.{◌≡◌, ℕ, ◌⊎◌, List, [], ◌∷◌, ◌++◌, Option, Some, IsSome, option_to_list, IsSomeAnd, ⊤}
 use Rattle.flux_values.specs.Meanings.{LibraryMeaning}
-use Rattle.flux_syntax.specs.declared.declarations.Decl.{Decl}
-use Rattle.flux_cli.specs.Commands.{Command, check, plan, format, run, audit, load, serve, help, simulate, swarm, Spells, SpellsNone}
+use Rattle.flux_cli.specs.Commands.{Command, Spells, SpellsNone}
 use Rattle.flux_commands.specs.declared.statuses.Status.{Status}
 use Rattle.flux_commands.specs.declared.statuses.Status.TheVariants as statuses
 use Rattle.flux_commands.specs.Told.{Files, Told}
 use Rattle.flux_commands.specs.Documents.{WithDocs}
-use Rattle.flux_commands.specs.Commands.{folder_of}
-use Rattle.flux_commands.specs.Origins.{named}
-use Rattle.flux_commands.specs.Inputs.{HasProgram, GivesItems}
+use Rattle.flux_commands.specs.Commands.{Inputs, inputs_of, WithItems}
+use Rattle.flux_commands.specs.Origins.{Origin, named}
+use Rattle.flux_commands.specs.Inputs.{HasSound, GivesItems}
 use Rattle.flux_commands.specs.Answers.{Libraries}
 
--- the file of a program alone, or that of items too, after a sound program
-abbrev pub AreTwoFiles : LibraryMeaning → Files → List ℕ → List ℕ → List (List ℕ) → Type 0
-AreTwoFiles meaning told file items names = (names ≡ file ∷ [])
-    ⊎ ((names ≡ file ∷ items ∷ [])
-    × (decls : List Decl) × HasProgram meaning told (named file) decls)
+-- the name of a file that a text is read from
+abbrev pub file_in : Option Origin → List (List ℕ)
+file_in (Some (named name)) = name ∷ []
+file_in other = []
 
--- these, or that of a journal too, after items
-abbrev pub AreThreeFiles : LibraryMeaning → Files → List ℕ → List ℕ → List ℕ → List (List ℕ) → Type 0
-AreThreeFiles meaning told file items journal names = AreTwoFiles meaning told file items names
-    ⊎ ((names ≡ file ∷ items ∷ journal ∷ []) × GivesItems meaning told (named file) (named items))
-
--- the names of files that a command asks for, in order
-abbrev pub AreFiles : LibraryMeaning → Command → Files → List (List ℕ) → Type 0
-AreFiles meaning (check file) told names = names ≡ file ∷ []
-AreFiles meaning (plan file) told names = names ≡ file ∷ []
-AreFiles meaning (format file) told names = names ≡ file ∷ []
-AreFiles meaning (run file items options) told names = AreTwoFiles meaning told file items names
-AreFiles meaning (audit file items journal docs) told names =
-    AreThreeFiles meaning told file items journal names
-AreFiles meaning (load count first runtime) told names = names ≡ []
-AreFiles meaning (serve file serving) told names = names ≡ file ∷ []
-AreFiles meaning help told names = names ≡ []
-AreFiles meaning (simulate file items simulating) told names = AreTwoFiles meaning told file items names
-AreFiles meaning (swarm file items journal hash docs) told names =
-    AreThreeFiles meaning told file items journal names
+-- the names of files that are asked for, in order: that of the program, that of items after a sound
+-- program, and that of a journal after items
+abbrev pub AreFiles : LibraryMeaning → Inputs → Files → List (List ℕ) → Type 0
+AreFiles meaning inputs told names =
+    let first = file_in inputs.program in
+    let second = first ++ file_in inputs.items in
+    let third = second ++ option_to_list inputs.journal in
+    (names ≡ first)
+    ⊎ (((names ≡ second) × IsSomeAnd inputs.program (HasSound meaning told))
+    ⊎ ((names ≡ third) × WithItems inputs (GivesItems meaning told)))
 
 -- the statuses that come where the documents weren't read; where no folder is named, memory was short
 abbrev pub IsStopped : Option (List ℕ) → Status → Type 0
@@ -45,13 +34,12 @@ IsStopped dir statuses.Missing = IsSome dir
 IsStopped dir statuses.Memory = ⊤
 IsStopped dir other = ⊥
 
--- a command asks first for its folder of documents, where one is named, and for files only after the
--- documents
-pub record AsksFor (library : Libraries) (command : Command) (told : Told) (status : Status)
+-- the folder of documents is asked for first, where one is named, and files only after it
+pub record AsksFor (library : Libraries) (inputs : Inputs) (told : Told) (status : Status)
     (dirs names : List (List ℕ)) : Type 0 where
-  pub folder : dirs ≡ option_to_list (folder_of command)
-  pub files : WithDocs library command told (λ meaning. AreFiles meaning command told.files names)
-      ⊎ ((names ≡ []) × IsStopped (folder_of command) status)
+  pub folder : dirs ≡ option_to_list inputs.docs
+  pub files : WithDocs library inputs told (λ meaning. AreFiles meaning inputs told.files names)
+      ⊎ ((names ≡ []) × IsStopped inputs.docs status)
 
 -- words that are no command ask for nothing, nor do those that there was no memory to read
 abbrev pub AsksNothing : List (List ℕ) → Status → List (List ℕ) → List (List ℕ) → Type 0
@@ -66,4 +54,5 @@ pub record HasAsked (library : Libraries) (words : List (List ℕ)) (told : Told
   pub folder_ : folder_after ≡ folder ++ dirs
   pub store_ : store_after ≡ store ++ names
   pub are : AsksNothing words status dirs names
-      ⊎ ((command : Command) × Spells words command × AsksFor library command told status dirs names)
+      ⊎ ((command : Command) × Spells words command
+      × AsksFor library (inputs_of command) told status dirs names)

@@ -1,22 +1,20 @@
 -- Why a command prints nothing: the cause of each status, and its line on `err`.
-use Rattle.std.specs.Prelude.{◌≡◌, ℕ, ◌⊎◌, List, [], ◌++◌, codes}
+use Rattle.std.specs.Prelude.{◌≡◌, ℕ, ◌⊎◌, List, [], ◌++◌, codes, Some, IsSomeAnd}
 use Rattle.std.specs.Fmt.{decimal}
 use Rattle.flux_values.specs.Meanings.{LibraryMeaning}
 use Rattle.flux_faults.specs.declared.faults.StaticFault.{StaticFault}
 use Rattle.flux_faults.specs.Faults.{printed_fault}
-use Rattle.flux_syntax.specs.declared.declarations.Decl.{Decl}
 use Rattle.flux_syntax.specs.Unexpected.{IsFaulty}
 use Rattle.flux_check.specs.Judgement.{IsTextFault}
 use Rattle.flux_items.specs.declared.rules.ItemFault.{ItemFault}
 use Rattle.flux_items.specs.declared.rules.ItemFault.TheVariants as items_
 use Rattle.flux_items.specs.Faults.{line_of, IsFaultOf}
-use Rattle.flux_load.specs.Loads.{program_text, items_text}
-use Rattle.flux_cli.specs.Commands.{Command, check, plan, format, run, audit, load, serve, help, simulate, swarm}
+use Rattle.flux_cli.specs.Commands.{Command, format, serve}
 use Rattle.flux_commands.specs.declared.files.TheConstants.{PROGRAM_FILE_LIMIT, ITEMS_FILE_LIMIT, JOURNAL_FILE_LIMIT}
 use Rattle.flux_commands.specs.Told.{Files, IsLost}
-use Rattle.flux_commands.specs.Origins.{Origin, named, made, GivesText}
-use Rattle.flux_commands.specs.Commands.{ReadsProgram}
-use Rattle.flux_commands.specs.Inputs.{HasProgram, HasItems, GivesItems, HasUnservable}
+use Rattle.flux_commands.specs.Origins.{Origin, named, GivesText}
+use Rattle.flux_commands.specs.Commands.{Inputs, inputs_of, ReadsProgram, WithItems}
+use Rattle.flux_commands.specs.Inputs.{HasSound, HasItems, GivesItems, HasUnservable}
 use Rattle.flux_commands.specs.Items.{rules_in}
 
 -- ---- lines
@@ -59,13 +57,12 @@ lost_line name = codes "flux: missing or too long: " ++ name ++ codes "\n"
 -- the fault of a program's text that a command looks for: `format` looks for faults 1 to 4 alone
 abbrev pub IsStaticOf : LibraryMeaning → Command → List ℕ → StaticFault → Type 0
 IsStaticOf meaning (format file) text fault = IsFaulty fault.kind fault.at text × (fault.path ≡ [])
-IsStaticOf meaning help text fault = ⊥
 IsStaticOf meaning other text fault = IsTextFault meaning text fault
 
 pub record IsStatic (meaning : LibraryMeaning) (command : Command) (told : Files) (line : List ℕ)
     : Type 0 where
   pub program : Origin
-  pub reads : ReadsProgram command program
+  pub reads : ReadsProgram (inputs_of command) program
   pub text : List ℕ
   pub gives : GivesText told program PROGRAM_FILE_LIMIT text
   pub fault : StaticFault
@@ -81,60 +78,36 @@ pub record IsItemsText (meaning : LibraryMeaning) (told : Files) (program items 
   pub stands : let own = has.program_ in IsFaultOf (rules_in meaning has.decls own.sound) fault has.text
   pub said : line ≡ item_fault_line fault
 
-abbrev pub IsItems : LibraryMeaning → Command → Files → List ℕ → Type 0
-IsItems meaning (run file items options) told line =
-    IsItemsText meaning told (named file) (named items) line
-IsItems meaning (audit file items journal docs) told line =
-    IsItemsText meaning told (named file) (named items) line
-IsItems meaning (load count first runtime) told line =
-    IsItemsText meaning told (made program_text) (made (items_text count first)) line
-IsItems meaning (simulate file items simulating) told line =
-    IsItemsText meaning told (named file) (named items) line
-IsItems meaning (swarm file items journal hash docs) told line =
-    IsItemsText meaning told (named file) (named items) line
-IsItems meaning other told line = ⊥
+abbrev pub IsItems : LibraryMeaning → Inputs → Files → List ℕ → Type 0
+IsItems meaning inputs told line =
+    WithItems inputs (λ program items. IsItemsText meaning told program items line)
 
 -- ---- a file isn't there, or is past its limit
 
--- the items file of a sound program
-pub record IsItemsFileLost (meaning : LibraryMeaning) (told : Files) (file items name : List ℕ)
+-- the program's file
+pub record IsProgramLost (inputs : Inputs) (told : Files) (name : List ℕ) : Type 0 where
+  pub reads : ReadsProgram inputs (named name)
+  pub lost : IsLost told name PROGRAM_FILE_LIMIT
+
+-- that of items, of a sound program
+pub record AreItemsLost (meaning : LibraryMeaning) (inputs : Inputs) (told : Files) (name : List ℕ)
     : Type 0 where
-  pub is : name ≡ items
-  pub lost : IsLost told items ITEMS_FILE_LIMIT
-  pub decls : List Decl
-  pub program_ : HasProgram meaning told (named file) decls
+  pub reads : inputs.items ≡ Some (named name)
+  pub lost : IsLost told name ITEMS_FILE_LIMIT
+  pub sound : IsSomeAnd inputs.program (HasSound meaning told)
 
-abbrev pub AreItemsLost : LibraryMeaning → Command → Files → List ℕ → Type 0
-AreItemsLost meaning (run file items options) told name =
-    IsItemsFileLost meaning told file items name
-AreItemsLost meaning (audit file items journal docs) told name =
-    IsItemsFileLost meaning told file items name
-AreItemsLost meaning (simulate file items simulating) told name =
-    IsItemsFileLost meaning told file items name
-AreItemsLost meaning (swarm file items journal hash docs) told name =
-    IsItemsFileLost meaning told file items name
-AreItemsLost meaning other told name = ⊥
+-- that of a journal, after items
+pub record IsJournalLost (meaning : LibraryMeaning) (inputs : Inputs) (told : Files) (name : List ℕ)
+    : Type 0 where
+  pub reads : inputs.journal ≡ Some name
+  pub lost : IsLost told name JOURNAL_FILE_LIMIT
+  pub given : WithItems inputs (GivesItems meaning told)
 
--- the journal's file, after the items
-pub record IsJournalFileLost (meaning : LibraryMeaning) (told : Files)
-    (file items journal name : List ℕ) : Type 0 where
-  pub is : name ≡ journal
-  pub lost : IsLost told journal JOURNAL_FILE_LIMIT
-  pub given : GivesItems meaning told (named file) (named items)
-
-abbrev pub IsJournalLost : LibraryMeaning → Command → Files → List ℕ → Type 0
-IsJournalLost meaning (audit file items journal docs) told name =
-    IsJournalFileLost meaning told file items journal name
-IsJournalLost meaning (swarm file items journal hash docs) told name =
-    IsJournalFileLost meaning told file items journal name
-IsJournalLost meaning other told name = ⊥
-
--- the program's file, or that of the items, or that of the journal
-pub record IsMissing (meaning : LibraryMeaning) (command : Command) (told : Files) (line : List ℕ)
+pub record IsMissing (meaning : LibraryMeaning) (inputs : Inputs) (told : Files) (line : List ℕ)
     : Type 0 where
   pub name : List ℕ
-  pub lost : (ReadsProgram command (named name) × IsLost told name PROGRAM_FILE_LIMIT)
-      ⊎ (AreItemsLost meaning command told name ⊎ IsJournalLost meaning command told name)
+  pub lost : IsProgramLost inputs told name
+      ⊎ (AreItemsLost meaning inputs told name ⊎ IsJournalLost meaning inputs told name)
   pub said : line ≡ lost_line name
 
 -- ---- a sound program can't be served

@@ -6,18 +6,18 @@ use Rattle.flux_library.specs.Documents.{DocMap}
 use Rattle.flux_docs.specs.Folders.{GivesDocs, IsFolderLost}
 use Rattle.flux_cli.specs.Commands.{Command}
 use Rattle.flux_commands.specs.Told.{Folders, Told}
-use Rattle.flux_commands.specs.Commands.{folder_of, TellsFiles}
+use Rattle.flux_commands.specs.Commands.{Inputs, inputs_of, TellsFiles}
 
 -- none where no folder is named, else what the folder gives, where it is reported
 abbrev pub AreDocs : Folders → Option (List ℕ) → DocMap → Type 0
 AreDocs told None docs = docs.named ≡ empty
 AreDocs told (Some dir) docs = GivesDocs told dir docs
 
--- a library means this by documents that the command can have
-pub record WithDocs (library : DocMap → LibraryMeaning) (command : Command) (told : Told)
+-- a library means this by documents that can have been read
+pub record WithDocs (library : DocMap → LibraryMeaning) (inputs : Inputs) (told : Told)
     (Says : LibraryMeaning → Type 0) : Type 0 where
   pub docs : DocMap
-  pub are : AreDocs told.folders (folder_of command) docs
+  pub are : AreDocs told.folders inputs.docs docs
   pub says : Says (library docs)
 
 -- the folder that is named isn't there, or is past a limit
@@ -32,5 +32,5 @@ TellsDocs told (Some dir) = IsSome told
 
 -- all that a command reads is reported
 pub record TellsAll (told : Told) (command : Command) : Type 0 where
-  pub files : TellsFiles told.files command
-  pub docs : TellsDocs told.folders (folder_of command)
+  pub files : TellsFiles told.files (inputs_of command)
+  pub docs : let inputs = inputs_of command in TellsDocs told.folders inputs.docs

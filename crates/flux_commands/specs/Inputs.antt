@@ -26,6 +26,9 @@ pub record HasProgram (meaning : LibraryMeaning) (told : Files) (program : Origi
   pub has : HasDecls told program decls
   pub sound : AreSound meaning decls
 
+abbrev pub HasSound : LibraryMeaning → Files → Origin → Type 0
+HasSound meaning told program = (decls : List Decl) × HasProgram meaning told program decls
+
 -- and the items' text is there too
 pub record HasItems (meaning : LibraryMeaning) (told : Files) (program items : Origin) : Type 0 where
   pub decls : List Decl

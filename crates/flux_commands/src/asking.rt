@@ -4,7 +4,7 @@ ghost use Rattle.std.specs.Prelude.{◌≡◌, ◌≤◌, [], IfOk, IfErr, optio
 ghost use Rattle.flux_cli.specs.Commands.{Command, Spells, IsServe};
 ghost use Rattle.flux_cli.specs.Asking.{asked};
 ghost use Rattle.flux_commands.specs.BuiltIn.{built_in};
-ghost use Rattle.flux_commands.specs.Commands.{folder_of};
+ghost use Rattle.flux_commands.specs.Commands.{inputs_of};
 ghost use Rattle.flux_commands.specs.Answers.{IsAnswer};
 ghost use Rattle.flux_commands.specs.Asked.{HasAsked};
 ghost use Rattle.flux_commands.specs.Refusals.{status_of, line_of};
@@ -28,7 +28,7 @@ use std::alloc::Global;
 
 /// The folder of documents, where one is named.
 fn dir_of<'a>(wanted: &Asked<'a>) -> Option<&'a [u8]>
-    ensures { option_copied result ≡ folder_of (asked wanted.now) }
+    ensures { let inputs = inputs_of (asked wanted.now) in option_copied result ≡ inputs.docs }
 {
     match wanted {
         Asked::Run { docs, .. } => *docs,
@@ -61,7 +61,7 @@ fn prepare_asked<
     ensures kept_folders { F.folders folder.new ≡ F.folders folder.old }
     ensures later { S.faults store.old ≤ S.faults store.new }
     ensures later_folder { F.faults folder.old ≤ F.faults folder.new }
-    ensures asked { AsksAll built_in (asked wanted.entry)
+    ensures asked { AsksAll built_in (inputs_of (asked wanted.entry))
         (record { files = S.files store.old; folders = F.folders folder.old })
         (prepared_status result) (F.asked folder.old) (F.asked folder.new)
         (S.asked store.old) (S.asked store.new) }

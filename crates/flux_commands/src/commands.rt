@@ -6,6 +6,7 @@ ghost use Rattle.flux_values.specs.Meanings.{LibraryMeaning};
 ghost use Rattle.flux_cli.specs.Commands.{IsServe, check, plan, format, audit, load, swarm};
 ghost use Rattle.flux_cli.specs.Asking.{asked};
 ghost use Rattle.flux_commands.specs.BuiltIn.{meaning_in};
+ghost use Rattle.flux_commands.specs.Commands.{inputs_of};
 ghost use Rattle.flux_commands.specs.Told.{Files};
 ghost use Rattle.flux_commands.specs.Printed.{help_text};
 ghost use Rattle.flux_commands.specs.steps.Refusals.{Counts, IsRefused};
@@ -47,14 +48,14 @@ fn prepare_check<'a, L: Library, S: Store>(
 ) -> Result<Prepared, Refusal<'a>>
     ensures kept { S.files store.new ≡ S.files store.old }
     ensures later { S.faults store.old ≤ S.faults store.new }
-    ensures asked { AsksFiles (L.meaning library.now) (check file.now) (S.files store.old)
+    ensures asked { AsksFiles (L.meaning library.now) (inputs_of (check file.now)) (S.files store.old)
         (S.asked store.old) (S.asked store.new) }
     ensures done { IfOk result (IsPrepared (L.meaning library.now) (check file.now)
         (S.files store.old)) }
     ensures refused { IfErr result (IsRefused (L.meaning library.now) (check file.now)
         (S.files store.old)) }
     ensures counts { Counts result (S.faults store.old) (S.faults store.new) }
-    ensures firm { IsFirm (L.meaning library.now) (check file.now) (S.files store.old)
+    ensures firm { IsFirm (L.meaning library.now) (inputs_of (check file.now)) (S.files store.old)
         (prepared_status result) }
 {
     let checked = load_program(alloc, library, store, file)?;
@@ -71,14 +72,14 @@ fn prepare_plan<'a, L: Library, S: Store>(
 ) -> Result<Prepared, Refusal<'a>>
     ensures kept { S.files store.new ≡ S.files store.old }
     ensures later { S.faults store.old ≤ S.faults store.new }
-    ensures asked { AsksFiles (L.meaning library.now) (plan file.now) (S.files store.old)
+    ensures asked { AsksFiles (L.meaning library.now) (inputs_of (plan file.now)) (S.files store.old)
         (S.asked store.old) (S.asked store.new) }
     ensures done { IfOk result (IsPrepared (L.meaning library.now) (plan file.now)
         (S.files store.old)) }
     ensures refused { IfErr result (IsRefused (L.meaning library.now) (plan file.now)
         (S.files store.old)) }
     ensures counts { Counts result (S.faults store.old) (S.faults store.new) }
-    ensures firm { IsFirm (L.meaning library.now) (plan file.now) (S.files store.old)
+    ensures firm { IsFirm (L.meaning library.now) (inputs_of (plan file.now)) (S.files store.old)
         (prepared_status result) }
 {
     let checked = load_program(alloc, library, store, file)?;
@@ -93,14 +94,14 @@ fn prepare_format<'a, S: Store>(
 ) -> Result<Prepared, Refusal<'a>>
     ensures kept { S.files store.new ≡ S.files store.old }
     ensures later { S.faults store.old ≤ S.faults store.new }
-    ensures asked { (meaning : LibraryMeaning) → AsksFiles meaning (format file.now)
+    ensures asked { (meaning : LibraryMeaning) → AsksFiles meaning (inputs_of (format file.now))
         (S.files store.old) (S.asked store.old) (S.asked store.new) }
     ensures done { (meaning : LibraryMeaning) → IfOk result (IsPrepared meaning (format file.now)
         (S.files store.old)) }
     ensures refused { (meaning : LibraryMeaning) → IfErr result (IsRefused meaning (format file.now)
         (S.files store.old)) }
     ensures counts { Counts result (S.faults store.old) (S.faults store.new) }
-    ensures firm { (meaning : LibraryMeaning) → IsFirm meaning (format file.now) (S.files store.old)
+    ensures firm { (meaning : LibraryMeaning) → IsFirm meaning (inputs_of (format file.now)) (S.files store.old)
         (prepared_status result) }
 {
     let text = load(alloc, store, file, PROGRAM_FILE_LIMIT)?;
@@ -123,7 +124,7 @@ fn prepare_run<'a, S: Store, D: Fn(Core<BuiltIn>, Runtime) -> Result<Core<BuiltI
     ensures kept { S.files store.new ≡ S.files store.old }
     ensures later { S.faults store.old ≤ S.faults store.new }
     ensures asked { (docs : Option (List ℕ)) → AsksFiles (meaning_in (arc_value library))
-        (run_of file.now items.now runtime docs journal) (S.files store.old)
+        (inputs_of (run_of file.now items.now runtime docs journal)) (S.files store.old)
         (S.asked store.old) (S.asked store.new) }
     ensures done { (docs : Option (List ℕ)) → IfOk result (IsPrepared (meaning_in (arc_value library))
         (run_of file.now items.now runtime docs journal) (S.files store.old)) }
@@ -131,7 +132,7 @@ fn prepare_run<'a, S: Store, D: Fn(Core<BuiltIn>, Runtime) -> Result<Core<BuiltI
         (run_of file.now items.now runtime docs journal) (S.files store.old)) }
     ensures counts { Counts result (S.faults store.old) (S.faults store.new) }
     ensures firm { (docs : Option (List ℕ)) → IsFirm (meaning_in (arc_value library))
-        (run_of file.now items.now runtime docs journal) (S.files store.old)
+        (inputs_of (run_of file.now items.now runtime docs journal)) (S.files store.old)
         (prepared_status result) }
 {
     let loaded = load_files(alloc, &*library, store, file, items)?;
@@ -153,7 +154,7 @@ fn prepare_audit<'a, L: Library, S: Store>(
     ensures kept { S.files store.new ≡ S.files store.old }
     ensures later { S.faults store.old ≤ S.faults store.new }
     ensures asked { (docs : Option (List ℕ)) → AsksFiles (L.meaning (arc_value library))
-        (audit file.now items.now journal.now docs) (S.files store.old)
+        (inputs_of (audit file.now items.now journal.now docs)) (S.files store.old)
         (S.asked store.old) (S.asked store.new) }
     ensures done { (docs : Option (List ℕ)) → IfOk result (IsPrepared (L.meaning (arc_value library))
         (audit file.now items.now journal.now docs) (S.files store.old)) }
@@ -161,7 +162,7 @@ fn prepare_audit<'a, L: Library, S: Store>(
         (audit file.now items.now journal.now docs) (S.files store.old)) }
     ensures counts { Counts result (S.faults store.old) (S.faults store.new) }
     ensures firm { (docs : Option (List ℕ)) → IsFirm (L.meaning (arc_value library))
-        (audit file.now items.now journal.now docs) (S.files store.old)
+        (inputs_of (audit file.now items.now journal.now docs)) (S.files store.old)
         (prepared_status result) }
 {
     let loaded = load_files(alloc, &*library, store, file, items)?;
@@ -186,7 +187,7 @@ fn prepare_load<'a, D: Fn(Core<BuiltIn>, Runtime) -> Result<Core<BuiltIn>, Memor
         (load count first runtime) told) }
     ensures counts { (faults : ℕ) → Counts result faults faults }
     ensures firm { (told : Files) → IsFirm (meaning_in (arc_value library))
-        (load count first runtime) told (prepared_status result) }
+        (inputs_of (load count first runtime)) told (prepared_status result) }
 {
     let (program, items) = make(alloc, count, first)?;
     let loaded = load_texts(alloc, &*library, program.as_bytes(), items.as_bytes())?;
@@ -210,7 +211,7 @@ fn prepare_simulation<'a, L: Library, S: Store, M: Simulator>(
     ensures kept { S.files store.new ≡ S.files store.old }
     ensures later { S.faults store.old ≤ S.faults store.new }
     ensures asked { (docs : Option (List ℕ)) → AsksFiles (L.meaning (arc_value library))
-        (simulate_of file.now items.now processors.count costs.list docs) (S.files store.old)
+        (inputs_of (simulate_of file.now items.now processors.count costs.list docs)) (S.files store.old)
         (S.asked store.old) (S.asked store.new) }
     ensures done { (docs : Option (List ℕ)) → IfOk result (IsPrepared (L.meaning (arc_value library))
         (simulate_of file.now items.now processors.count costs.list docs) (S.files store.old)) }
@@ -218,7 +219,7 @@ fn prepare_simulation<'a, L: Library, S: Store, M: Simulator>(
         (simulate_of file.now items.now processors.count costs.list docs) (S.files store.old)) }
     ensures counts { Counts result (S.faults store.old) (S.faults store.new) }
     ensures firm { (docs : Option (List ℕ)) → IsFirm (L.meaning (arc_value library))
-        (simulate_of file.now items.now processors.count costs.list docs) (S.files store.old)
+        (inputs_of (simulate_of file.now items.now processors.count costs.list docs)) (S.files store.old)
         (prepared_status result) }
 {
     let loaded = load_files(alloc, &*library, store, file, items)?;
@@ -246,7 +247,7 @@ fn prepare_swarm<'a, L: Library, S: Store>(
     ensures kept { S.files store.new ≡ S.files store.old }
     ensures later { S.faults store.old ≤ S.faults store.new }
     ensures asked { (docs : Option (List ℕ)) → AsksFiles (L.meaning (arc_value library))
-        (swarm file.now items.now journal.now hash.now docs) (S.files store.old)
+        (inputs_of (swarm file.now items.now journal.now hash.now docs)) (S.files store.old)
         (S.asked store.old) (S.asked store.new) }
     ensures done { (docs : Option (List ℕ)) → IfOk result (IsPrepared (L.meaning (arc_value library))
         (swarm file.now items.now journal.now hash.now docs) (S.files store.old)) }
@@ -254,7 +255,7 @@ fn prepare_swarm<'a, L: Library, S: Store>(
         (swarm file.now items.now journal.now hash.now docs) (S.files store.old)) }
     ensures counts { Counts result (S.faults store.old) (S.faults store.new) }
     ensures firm { (docs : Option (List ℕ)) → IsFirm (L.meaning (arc_value library))
-        (swarm file.now items.now journal.now hash.now docs) (S.files store.old)
+        (inputs_of (swarm file.now items.now journal.now hash.now docs)) (S.files store.old)
         (prepared_status result) }
 {
     let loaded = load_files(alloc, &*library, store, file, items)?;
@@ -288,14 +289,14 @@ pub fn prepare<
     requires printed { IsServe (asked wanted) → ⊥ }
     ensures kept { S.files store.new ≡ S.files store.old }
     ensures later { S.faults store.old ≤ S.faults store.new }
-    ensures asked { AsksFiles (meaning_in (arc_value library)) (asked wanted.entry)
+    ensures asked { AsksFiles (meaning_in (arc_value library)) (inputs_of (asked wanted.entry))
         (S.files store.old) (S.asked store.old) (S.asked store.new) }
     ensures done { IfOk result (IsPrepared (meaning_in (arc_value library)) (asked wanted.entry)
         (S.files store.old)) }
     ensures refused { IfErr result (IsRefused (meaning_in (arc_value library)) (asked wanted.entry)
         (S.files store.old)) }
     ensures counts { Counts result (S.faults store.old) (S.faults store.new) }
-    ensures firm { IsFirm (meaning_in (arc_value library)) (asked wanted.entry)
+    ensures firm { IsFirm (meaning_in (arc_value library)) (inputs_of (asked wanted.entry))
         (S.files store.old) (prepared_status result) }
 {
     match wanted {

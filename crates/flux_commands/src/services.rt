@@ -1,12 +1,12 @@
 //! What the words want to be served, and a program that is ready for it.
 
-ghost use Rattle.std.specs.Prelude.{◌≡◌, ◌≤◌, IfOk, IfErr, IfSome, IfNone, []};
+ghost use Rattle.std.specs.Prelude.{◌≡◌, ◌≤◌, IfOk, IfErr, IfSome, IfNone, [], option_copied};
 ghost use Rattle.std.specs.Arc.{arc_value};
 ghost use Rattle.flux_cli.specs.Commands.{Command, Spells, IsServe};
 ghost use Rattle.flux_cli.specs.Asking.{asked};
 ghost use Rattle.flux_commands.specs.declared.refusals.Refusal.TheVariants as refusals;
 ghost use Rattle.flux_commands.specs.BuiltIn.{built_in, docs_in};
-ghost use Rattle.flux_commands.specs.Commands.{folder_of};
+ghost use Rattle.flux_commands.specs.Commands.{inputs_of};
 ghost use Rattle.flux_commands.specs.Origins.{named};
 ghost use Rattle.flux_commands.specs.Documents.{AreDocs};
 ghost use Rattle.flux_commands.specs.Answers.{IsAnswer};
@@ -99,7 +99,7 @@ fn prepare<'a, L: Library, S: Store>(
 ) -> Result<Ready<L>, Refusal<'a>>
     ensures kept { S.files store.new ≡ S.files store.old }
     ensures later { S.faults store.old ≤ S.faults store.new }
-    ensures asked { AsksFiles (L.meaning (arc_value library)) (command_of service.now)
+    ensures asked { AsksFiles (L.meaning (arc_value library)) (inputs_of (command_of service.now))
         (S.files store.old) (S.asked store.old) (S.asked store.new) }
     ensures library { IfOk result (λ ready. arc_value ready.library ≡ arc_value library) }
     ensures ready { IfOk result (λ ready. IsReady (L.meaning (arc_value library))
@@ -131,12 +131,12 @@ fn make_ready<'a, S: Store, F: Folder>(
     ensures kept_folders { F.folders folder.new ≡ F.folders folder.old }
     ensures later { S.faults store.old ≤ S.faults store.new }
     ensures later_folder { F.faults folder.old ≤ F.faults folder.new }
-    ensures asked { AsksAll built_in (command_of service.now)
+    ensures asked { AsksAll built_in (inputs_of (command_of service.now))
         (record { files = S.files store.old; folders = F.folders folder.old })
         (prepared_status (as_text result)) (F.asked folder.old) (F.asked folder.new)
         (S.asked store.old) (S.asked store.new) }
     ensures docs { IfOk result (λ ready. AreDocs (F.folders folder.old)
-        (folder_of (command_of service.now)) (docs_in (arc_value ready.library))) }
+        (option_copied service.now.docs) (docs_in (arc_value ready.library))) }
     ensures ready { IfOk result (λ ready. IsReady (built_in (docs_in (arc_value ready.library)))
         (S.files store.old) (named service.now.file.now) ready.checked ready.framing) }
     ensures refused { IfErr result (IsRefusedAll built_in (command_of service.now)
@@ -170,7 +170,7 @@ pub fn ready_words<'a, S: Store, F: Folder>(
         (S.asked store.old) (S.asked store.new) }
     ensures spelled { IfOk result (λ found. Spells words.now (command_of found.0)) }
     ensures docs { IfOk result (λ found. AreDocs (F.folders folder.old)
-        (folder_of (command_of found.0)) (docs_in (arc_value found.1.library))) }
+        (option_copied found.0.docs) (docs_in (arc_value found.1.library))) }
     ensures ready { IfOk result (λ found. IsReady (built_in (docs_in (arc_value found.1.library)))
         (S.files store.old) (named found.0.file.now) found.1.checked found.1.framing) }
     ensures refused { IfErr result (λ refusal. IsAnswer built_in words.now

@@ -13,7 +13,7 @@ use Rattle.flux_driver.specs.Seen.{Doorway}
 use Rattle.flux_commands.specs.Causes.{write_line}
 use Rattle.flux_commands.specs.Answers.{Libraries, IsAnswer, OrMemory}
 use Rattle.flux_commands.specs.Documents.{WithDocs}
-use Rattle.flux_commands.specs.Commands.{folder_of}
+use Rattle.flux_commands.specs.Commands.{Inputs, inputs_of}
 use Rattle.flux_driver.specs.Top.{SpellNoServe, MayBreak, HasAnswered, RoseForReading, Decides, IsComplete, HasDone}
 use Rattle.flux_commands.specs.Asked.{AreFiles, IsStopped, AsksFor, HasAsked}
 use Rattle.flux_commands.specs.Refusals.{status_of, line_of}
@@ -85,15 +85,15 @@ asked_then library words told status final folder folder_after store store_after
     why (inl none) = inl none
     why (inr e) = inr (short e)
 
-    two : (command : Command) → WithDocs library command told (λ meaning. AreFiles meaning command told.files asked.names) ⊎ ((asked.names ≡ []) × IsStopped (folder_of command) status)
-        → WithDocs library command told (λ meaning. AreFiles meaning command told.files asked.names) ⊎ ((asked.names ≡ []) × IsStopped (folder_of command) final)
-    two command (inl with_) = inl with_
-    two command (inr (none, stopped)) = inr (none, stops (folder_of command) stopped)
+    two : (inputs : Inputs) → WithDocs library inputs told (λ meaning. AreFiles meaning inputs told.files asked.names) ⊎ ((asked.names ≡ []) × IsStopped inputs.docs status)
+        → WithDocs library inputs told (λ meaning. AreFiles meaning inputs told.files asked.names) ⊎ ((asked.names ≡ []) × IsStopped inputs.docs final)
+    two inputs (inl with_) = inl with_
+    two inputs (inr (none, stopped)) = inr (none, stops inputs.docs stopped)
 
-    one : ((asked.dirs ≡ []) × (asked.names ≡ []) × (SpellsNone words ⊎ (status ≡ statuses.Memory))) ⊎ ((command : Command) × Spells words command × AsksFor library command told status asked.dirs asked.names)
-        → ((asked.dirs ≡ []) × (asked.names ≡ []) × (SpellsNone words ⊎ (final ≡ statuses.Memory))) ⊎ ((command : Command) × Spells words command × AsksFor library command told final asked.dirs asked.names)
+    one : ((asked.dirs ≡ []) × (asked.names ≡ []) × (SpellsNone words ⊎ (status ≡ statuses.Memory))) ⊎ ((command : Command) × Spells words command × AsksFor library (inputs_of command) told status asked.dirs asked.names)
+        → ((asked.dirs ≡ []) × (asked.names ≡ []) × (SpellsNone words ⊎ (final ≡ statuses.Memory))) ⊎ ((command : Command) × Spells words command × AsksFor library (inputs_of command) told final asked.dirs asked.names)
     one (inl (dirs, names, w)) = inl (dirs, names, why w)
-    one (inr (command, spelled, asks)) = inr (command, spelled, record { folder = asks.folder; files = two command asks.files })
+    one (inr (command, spelled, asks)) = inr (command, spelled, record { folder = asks.folder; files = two (inputs_of command) asks.files })
 
 -- ---- the whole
 

@@ -12,12 +12,13 @@ use Rattle.flux_commands.specs.declared.statuses.Status.TheVariants as statuses
 use Rattle.flux_commands.specs.Told.{Told}
 use Rattle.flux_driver.specs.Seen.{Seen}
 use Rattle.flux_commands.specs.Documents.{AreDocs, WithDocs, TellsAll}
-use Rattle.flux_commands.specs.Commands.{folder_of}
+use Rattle.flux_commands.specs.Commands.{inputs_of}
 use Rattle.flux_commands.specs.Causes.{IsStatic, IsItems, IsMissing, IsUnserved}
 use Rattle.flux_driver.specs.Serving.{HasServedWords}
 use Rattle.flux_commands.specs.Answers.{Libraries, Decided, Happened, IsAnswer, OrMemory}
 use Rattle.flux_driver.specs.Top.{HasAnswered, HasDone}
 use Rattle.flux_headline.specs.Headline.{NoneRose}
+use Rattle.flux_commands.proofs.Steps.{folder_of}
 use Rattle.flux_commands.proofs.Documented.{docs_once, not_both}
 
 -- an empty line is all that was said
@@ -72,11 +73,11 @@ answered_of library words before after status command spelled other (inr served)
 
 module _ (library : Libraries) (told : Told) (command : Command) (tells : TellsAll told command) (docs : DocMap) (are : AreDocs told.folders (folder_of command) docs) where
   -- what holds with a command's documents holds with these
-  pub with_these : (Says : LibraryMeaning → Type 0) → WithDocs library command told Says → Says (library docs)
+  pub with_these : (Says : LibraryMeaning → Type 0) → WithDocs library (inputs_of command) told Says → Says (library docs)
   with_these Says with_ = subst (λ (own : DocMap). Says (library own))
       (docs_once told.folders (folder_of command) with_.docs docs tells.docs with_.are are) with_.says
 
-  module _ (not_static : (line : List ℕ) → IsStatic (library docs) command told.files line → ⊥) (not_items : (line : List ℕ) → IsItems (library docs) command told.files line → ⊥) (not_missing : (line : List ℕ) → IsMissing (library docs) command told.files line → ⊥) (not_unserved : (line : List ℕ) → IsUnserved (library docs) command told.files line → ⊥) where
+  module _ (not_static : (line : List ℕ) → IsStatic (library docs) command told.files line → ⊥) (not_items : (line : List ℕ) → IsItems (library docs) (inputs_of command) told.files line → ⊥) (not_missing : (line : List ℕ) → IsMissing (library docs) (inputs_of command) told.files line → ⊥) (not_unserved : (line : List ℕ) → IsUnserved (library docs) command told.files line → ⊥) where
     -- the status is 0 or 8, unless a count rose or memory was short
     pub done_or_no : (status : Status) (text line : List ℕ) → (status ≡ statuses.Read → ⊥) → (status ≡ statuses.Write → ⊥)
         → Decided library command told status text line ⊎ Happened library command told status text line
@@ -85,10 +86,10 @@ module _ (library : Libraries) (told : Told) (command : Command) (tells : TellsA
     done_or_no statuses.No text line r w cause = inl (inr refl)
     done_or_no statuses.Static text line r w (inl (static, empty)) = absurd (not_static line (with_these (λ m. IsStatic m command told.files line) static))
     done_or_no statuses.Static text line r w (inr happened) = absurd happened
-    done_or_no statuses.Items text line r w (inl (faulty, empty)) = absurd (not_items line (with_these (λ m. IsItems m command told.files line) faulty))
+    done_or_no statuses.Items text line r w (inl (faulty, empty)) = absurd (not_items line (with_these (λ m. IsItems m (inputs_of command) told.files line) faulty))
     done_or_no statuses.Items text line r w (inr happened) = absurd happened
     done_or_no statuses.Missing text line r w (inl (inl lost, empty)) = absurd (not_both told.folders (folder_of command) docs lost.name tells.docs are lost.lost)
-    done_or_no statuses.Missing text line r w (inl (inr missing, empty)) = absurd (not_missing line (with_these (λ m. IsMissing m command told.files line) missing))
+    done_or_no statuses.Missing text line r w (inl (inr missing, empty)) = absurd (not_missing line (with_these (λ m. IsMissing m (inputs_of command) told.files line) missing))
     done_or_no statuses.Missing text line r w (inr happened) = absurd happened
     done_or_no statuses.Read text line r w cause = absurd (r refl)
     done_or_no statuses.Write text line r w cause = absurd (w refl)

@@ -4,17 +4,17 @@ use Rattle.flux_values.specs.Meanings.{LibraryMeaning}
 use Rattle.flux_cli.specs.Forms.{RunOptions}
 use Rattle.flux_cli.specs.Commands.{run}
 use Rattle.flux_outside.specs.Streams.{Gains, WroteOrBroke}
-use Rattle.flux_commands.specs.declared.files.TheConstants.{PROGRAM_FILE_LIMIT, ITEMS_FILE_LIMIT}
 use Rattle.flux_commands.specs.declared.statuses.Status.{Status}
 use Rattle.flux_commands.specs.declared.statuses.Status.TheVariants as statuses
-use Rattle.flux_commands.specs.Told.{IsLost, Told}
+use Rattle.flux_commands.specs.Told.{Told}
 use Rattle.flux_driver.specs.Seen.{Seen}
 use Rattle.flux_commands.specs.Origins.{named}
 use Rattle.flux_commands.specs.Documents.{TellsAll}
 use Rattle.flux_commands.specs.Inputs.{HasProgram, HasItems}
-use Rattle.flux_commands.specs.Causes.{IsStatic, IsItemsText, AreItemsLost, IsMissing}
+use Rattle.flux_commands.specs.Commands.{inputs_of}
+use Rattle.flux_commands.specs.Causes.{IsStatic, IsItemsText, IsMissing}
 use Rattle.flux_commands.specs.Answers.{Libraries, Decided, Happened, OrMemory}
-use Rattle.flux_commands.proofs.Once.{not_lost, gives_here, not_faulty, fault_here}
+use Rattle.flux_commands.proofs.Once.{gives_here, not_faulty, fault_here, sound_of, sound_missing, items_there}
 use Rattle.flux_headline.proofs.Answering.{silent, gained, answered_of, of_done, done_or_no, not_read, not_write, answered_by}
 use Rattle.flux_headline.specs.Headline.{IsThere, HasRun, AreFaultless, RunsAreTrue, NoneRose, RunsAreAnswered}
 
@@ -72,19 +72,18 @@ module _ (library : Libraries) (told : Told) (file items : List ℕ) (options : 
 
   not_static : (line : List ℕ) → IsStatic meaning (run file items options) told.files line → ⊥
   not_static line s =
-      not_faulty meaning told.files (named file) tells.files s.text s.fault there.decls program_there
+      not_faulty meaning told.files (named file) tells.files.program s.text s.fault there.decls program_there
       (gives_here meaning told.files (named file) s.program s.text s.reads s.gives) s.stands
 
-  not_missing : (line : List ℕ) → IsMissing meaning (run file items options) told.files line → ⊥
-  not_missing line m = one m.lost
-    where
-      one : ((named m.name ≡ named file) × IsLost told.files m.name PROGRAM_FILE_LIMIT) ⊎ (AreItemsLost meaning (run file items options) told.files m.name ⊎ ⊥) → ⊥
-      one (inl (same, lost)) = let own : m.name ≡ file = cc in not_lost told.files file PROGRAM_FILE_LIMIT there.text tells.files there.in_file (subst (λ (n : List ℕ). IsLost told.files n PROGRAM_FILE_LIMIT) own lost)
-      one (inr (inl late)) = not_lost told.files items ITEMS_FILE_LIMIT there.items_text tells.files there.in_items late.lost
-      one (inr (inr none)) = none
+  not_missing : (line : List ℕ) → IsMissing meaning (inputs_of (run file items options)) told.files line → ⊥
+  not_missing line m =
+      sound_missing meaning told.files (run file items options) tells.files line
+      (sound_of meaning told.files (run file items options) (named file) refl there.decls program_there)
+      (λ name l. items_there told.files (inputs_of (run file items options)) tells.files meaning (named items) there.items_text name refl there.in_items l)
+      (λ name l. let e = l.reads in absurd cc) m
 
   not_items : AreFaultless library told file items options there → (line : List ℕ) → IsItemsText meaning told.files (named file) (named items) line → ⊥
-  not_items none line is = none is.fault (fault_here meaning told.files (named file) tells.files (named items) tells.files items_here line is)
+  not_items none line is = none is.fault (fault_here meaning told.files (named file) tells.files.program (named items) tells.files.items items_here line is)
 
 -- a run has no verdict
 no_verdict : (library : Libraries) (told : Told) (file items : List ℕ) (options : RunOptions) (status : Status) (text line : List ℕ) → Decided library (run file items options) told status text line ⊎ Happened library (run file items options) told status text line

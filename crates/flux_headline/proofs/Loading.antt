@@ -5,17 +5,17 @@ use Rattle.flux_load.specs.Loads.{program_text, items_text}
 use Rattle.flux_cli.specs.declared.values.Runtime.{Runtime}
 use Rattle.flux_cli.specs.Commands.{load}
 use Rattle.flux_outside.specs.Streams.{Gains, WroteOrBroke}
-use Rattle.flux_commands.specs.declared.files.TheConstants.{PROGRAM_FILE_LIMIT}
 use Rattle.flux_commands.specs.declared.statuses.Status.{Status}
 use Rattle.flux_commands.specs.declared.statuses.Status.TheVariants as statuses
-use Rattle.flux_commands.specs.Told.{IsLost, Told}
+use Rattle.flux_commands.specs.Told.{Told}
 use Rattle.flux_driver.specs.Seen.{Seen}
-use Rattle.flux_commands.specs.Origins.{named, made}
+use Rattle.flux_commands.specs.Origins.{made}
 use Rattle.flux_commands.specs.Documents.{TellsAll}
+use Rattle.flux_commands.specs.Commands.{inputs_of}
 use Rattle.flux_commands.specs.Causes.{IsStatic, IsItemsText, IsMissing}
 use Rattle.flux_commands.specs.Answers.{Libraries, Decided, Happened, OrMemory}
 use Rattle.flux_headline.specs.Loads.{HasLoaded, LoadsAreTrue, IsLoadable, LoadsAreAnswered}
-use Rattle.flux_commands.proofs.Once.{gives_here, not_faulty, fault_here}
+use Rattle.flux_commands.proofs.Once.{gives_here, not_faulty, fault_here, sound_of, sound_missing}
 use Rattle.flux_headline.proofs.Answering.{silent, gained, answered_of, of_done, done_or_no, not_read, not_write, answered_by}
 
 has_loaded : (library : Libraries) (before after : Seen) (count first : ℕ) (runtime : Runtime) (text line : List ℕ) → Decided library (load count first runtime) before.told statuses.Done text line → Gains before.out after.out text → WroteOrBroke before.err after.err line → HasLoaded library before after count first runtime
@@ -43,20 +43,19 @@ module _ (library : Libraries) (told : Told) (count first : ℕ) (runtime : Runt
 
   -- it reads nothing that has to be reported
   tells : TellsAll told (load count first runtime)
-  tells = record { files = tt; docs = tt }
+  tells = record { files = record { program = tt; items = tt; journal = tt }; docs = tt }
 
   not_static : (line : List ℕ) → IsStatic meaning (load count first runtime) told.files line → ⊥
   not_static line s = let has = there.has in
       not_faulty meaning told.files (made program_text) tt s.text s.fault has.decls has.program_
       (gives_here meaning told.files (made program_text) s.program s.text s.reads s.gives) s.stands
 
-  not_missing : (line : List ℕ) → IsMissing meaning (load count first runtime) told.files line → ⊥
-  not_missing line m = one m.lost
-    where
-      one : ((named m.name ≡ made program_text) × IsLost told.files m.name PROGRAM_FILE_LIMIT) ⊎ (⊥ ⊎ ⊥) → ⊥
-      one (inl (same, lost)) = absurd cc
-      one (inr (inl none)) = none
-      one (inr (inr none)) = none
+  not_missing : (line : List ℕ) → IsMissing meaning (inputs_of (load count first runtime)) told.files line → ⊥
+  not_missing line m = let has = there.has in
+      sound_missing meaning told.files (load count first runtime) tells.files line
+      (sound_of meaning told.files (load count first runtime) (made program_text) refl has.decls has.program_)
+      (λ name l. let e = l.reads in absurd cc)
+      (λ name l. let e = l.reads in absurd cc) m
 
   not_items : (line : List ℕ) → IsItemsText meaning told.files (made program_text) (made (items_text count first)) line → ⊥
   not_items line is = there.faultless is.fault (fault_here meaning told.files (made program_text) tt (made (items_text count first)) tt there.has line is)

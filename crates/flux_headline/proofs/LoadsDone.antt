@@ -15,21 +15,21 @@ use Rattle.flux_load.specs.Loads.{program_text, items_text}
 use Rattle.flux_cli.specs.declared.loads.TheConstants.{LOAD_LIMIT}
 use Rattle.flux_cli.specs.declared.values.Runtime.{Runtime}
 use Rattle.flux_cli.specs.Commands.{load, Spells}
-use Rattle.flux_commands.specs.declared.files.TheConstants.{PROGRAM_FILE_LIMIT}
 use Rattle.flux_commands.specs.declared.statuses.Status.{Status}
 use Rattle.flux_commands.specs.declared.statuses.Status.TheVariants as statuses
-use Rattle.flux_commands.specs.Told.{IsLost, Told}
+use Rattle.flux_commands.specs.Told.{Told}
 use Rattle.flux_driver.specs.Seen.{Seen}
 use Rattle.flux_commands.specs.Origins.{named, made}
 use Rattle.flux_commands.specs.Inputs.{HasItems}
 use Rattle.flux_commands.specs.Items.{rules_in}
+use Rattle.flux_commands.specs.Commands.{inputs_of, ReadsProgram}
 use Rattle.flux_commands.specs.Causes.{IsStatic, IsItemsText, IsMissing}
 use Rattle.flux_commands.specs.BuiltIn.{built_in}
 use Rattle.flux_commands.specs.Answers.{Decided, Happened, OrMemory}
 use Rattle.flux_driver.specs.Top.{HasDone}
 use Rattle.flux_headline.specs.Headline.{NoneRose}
 use Rattle.flux_headline.specs.Loads.{IsLoadable}
-use Rattle.flux_commands.proofs.Once.{gives_here, not_faulty, fault_here}
+use Rattle.flux_commands.proofs.Once.{gives_here, not_faulty, fault_here, sound_of, sound_missing}
 use Rattle.flux_headline.proofs.Answering.{answered_of, of_command}
 use Rattle.flux_headline.specs.LoadDeclarations.{program_decls}
 use Rattle.flux_headline.specs.LoadsDone.{LoadsAreLoadable, IsDoneOrUnwritten, LoadsEndSo, LoadsAreDone, NoLoadHasFault}
@@ -87,13 +87,13 @@ module _ (told : Told) (count first : ℕ) (runtime : Runtime) (le : count ≤ L
       no_fault told count first docs le is.fault stands
 
   not_missing : (docs : DocMap) (line : List ℕ)
-      → IsMissing (built_in docs) (load count first runtime) told.files line → ⊥
-  not_missing docs line m = one m.lost
-    where
-      one : ((named m.name ≡ made program_text) × IsLost told.files m.name PROGRAM_FILE_LIMIT) ⊎ (⊥ ⊎ ⊥) → ⊥
-      one (inl (same, lost)) = absurd cc
-      one (inr (inl none)) = none
-      one (inr (inr none)) = none
+      → IsMissing (built_in docs) (inputs_of (load count first runtime)) told.files line → ⊥
+  not_missing docs line m = let has = texts told count first docs in
+      sound_missing (built_in docs) told.files (load count first runtime)
+      (record { program = tt; items = tt; journal = tt }) line
+      (sound_of (built_in docs) told.files (load count first runtime) (made program_text) refl program_decls has.program_)
+      (λ name l. let e = l.reads in absurd cc)
+      (λ name l. let e = l.reads in absurd cc) m
 
   -- ---- the statuses
 
@@ -118,7 +118,7 @@ module _ (told : Told) (count first : ℕ) (runtime : Runtime) (le : count ≤ L
   came_to statuses.Read text line (inl never) = absurd never
   came_to statuses.Read text line (inr ((file, reads), none, said)) = absurd (not_named file reads)
     where
-      not_named : (name : List ℕ) → named name ≡ made program_text → ⊥
+      not_named : (name : List ℕ) → ReadsProgram (inputs_of (load count first runtime)) (named name) → ⊥
       not_named name same = absurd cc
   came_to statuses.Usage text line (inl never) = absurd never
   came_to statuses.Usage text line (inr never) = absurd never

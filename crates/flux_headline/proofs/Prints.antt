@@ -4,18 +4,18 @@ use Rattle.flux_values.specs.Meanings.{LibraryMeaning}
 use Rattle.flux_cli.specs.Forms.{Serving}
 use Rattle.flux_cli.specs.Commands.{Command, check, plan, format, help, serve}
 use Rattle.flux_outside.specs.Streams.{Gains, WroteOrBroke}
-use Rattle.flux_commands.specs.declared.files.TheConstants.{PROGRAM_FILE_LIMIT}
 use Rattle.flux_commands.specs.declared.statuses.Status.{Status}
 use Rattle.flux_commands.specs.declared.statuses.Status.TheVariants as statuses
-use Rattle.flux_commands.specs.Told.{Files, IsLost, Told}
+use Rattle.flux_commands.specs.Told.{Files, Told}
 use Rattle.flux_driver.specs.Seen.{Seen}
 use Rattle.flux_commands.specs.Origins.{named}
 use Rattle.flux_commands.specs.Documents.{AreDocs, TellsAll}
-use Rattle.flux_commands.specs.Commands.{folder_of, TellsFiles}
-use Rattle.flux_commands.specs.Causes.{IsStatic, IsItems, AreItemsLost, IsJournalLost, IsMissing, IsUnserved}
+use Rattle.flux_commands.specs.Commands.{inputs_of, TellsFiles}
+use Rattle.flux_commands.specs.Causes.{IsStatic, IsItems, IsProgramLost, AreItemsLost, IsJournalLost, IsMissing, IsUnserved}
 use Rattle.flux_commands.specs.Answers.{Libraries, Decided, Happened, OrMemory}
 use Rattle.flux_headline.specs.Prints.{IsLook, HasPrinted, PrintsAreTrue, LooksAt, CanLook, LooksAreAnswered}
-use Rattle.flux_commands.proofs.Once.{IsSoundOf, sound_of, format_sound, sound_static, late_missing}
+use Rattle.flux_commands.proofs.Steps.{folder_of}
+use Rattle.flux_commands.proofs.Once.{IsSoundOf, sound_of, format_sound, sound_static, sound_missing}
 use Rattle.flux_headline.proofs.Answering.{silent, gained, answered_of, of_done, done_or_no, not_read, not_write, answered_by}
 
 no_folder : (command : Command) → IsLook command → folder_of command ≡ None
@@ -61,18 +61,23 @@ is_look meaning told other there = absurd there
 module _ (meaning : LibraryMeaning) (told : Files) where
   -- they read no items and no journal
   none_late : (command : Command) → LooksAt meaning told command → (name : List ℕ)
-      → AreItemsLost meaning command told name ⊎ IsJournalLost meaning command told name → ⊥
-  none_late (check file) there name (inl late) = late
-  none_late (check file) there name (inr late) = late
-  none_late (plan file) there name (inl late) = late
-  none_late (plan file) there name (inr late) = late
-  none_late (format file) there name (inl late) = late
-  none_late (format file) there name (inr late) = late
-  none_late help there name (inl late) = late
-  none_late help there name (inr late) = late
-  none_late other there name late = absurd there
+      → AreItemsLost meaning (inputs_of command) told name → ⊥
+  none_late (check file) there name l = let e = l.reads in absurd cc
+  none_late (plan file) there name l = let e = l.reads in absurd cc
+  none_late (format file) there name l = let e = l.reads in absurd cc
+  none_late help there name l = let e = l.reads in absurd cc
+  none_late other there name l = absurd there
 
-  not_items : (command : Command) → LooksAt meaning told command → (line : List ℕ) → IsItems meaning command told line → ⊥
+  no_journal : (command : Command) → LooksAt meaning told command → (name : List ℕ)
+      → IsJournalLost meaning (inputs_of command) told name → ⊥
+  no_journal (check file) there name l = let e = l.reads in absurd cc
+  no_journal (plan file) there name l = let e = l.reads in absurd cc
+  no_journal (format file) there name l = let e = l.reads in absurd cc
+  no_journal help there name l = let e = l.reads in absurd cc
+  no_journal other there name l = absurd there
+
+  not_items : (command : Command) → LooksAt meaning told command → (line : List ℕ)
+      → IsItems meaning (inputs_of command) told line → ⊥
   not_items (check file) there line is = is
   not_items (plan file) there line is = is
   not_items (format file) there line is = is
@@ -87,37 +92,38 @@ module _ (meaning : LibraryMeaning) (told : Files) where
   not_unserved help there line is = is
   not_unserved other there line is = absurd there
 
-  not_static : (command : Command) → TellsFiles told command → LooksAt meaning told command → (line : List ℕ)
+  not_static : (command : Command) → TellsFiles told (inputs_of command) → LooksAt meaning told command → (line : List ℕ)
       → IsStatic meaning command told line → ⊥
   not_static (check file) tells (decls, has) line s = sound_static meaning told (check file) tells line
-      (sound_of meaning told (check file) (named file) refl decls has (λ t f stands. stands)) s
+      (sound_of meaning told (check file) (named file) refl decls has) s
   not_static (plan file) tells (decls, has) line s = sound_static meaning told (plan file) tells line
-      (sound_of meaning told (plan file) (named file) refl decls has (λ t f stands. stands)) s
+      (sound_of meaning told (plan file) (named file) refl decls has) s
   not_static (format file) tells (decls, has) line s = sound_static meaning told (format file) tells line
       (format_sound meaning told file decls has) s
-  not_static help tells there line s = s.reads
+  not_static help tells there line s = let e = s.reads in absurd cc
   not_static other tells there line s = absurd there
 
   -- after a text that is there nothing is lost
-  sound_missing : (command : Command) → TellsFiles told command → LooksAt meaning told command
-      → IsSoundOf meaning told command → (line : List ℕ) → IsMissing meaning command told line → ⊥
-  sound_missing command tells there sound line m =
-      let late = late_missing meaning told command line tells sound m in none_late command there late.0 late.1
+  none_missing : (command : Command) → TellsFiles told (inputs_of command) → LooksAt meaning told command
+      → IsSoundOf meaning told command → (line : List ℕ) → IsMissing meaning (inputs_of command) told line → ⊥
+  none_missing command tells there sound line m =
+      sound_missing meaning told command tells line sound (none_late command there) (no_journal command there) m
 
-  not_missing : (command : Command) → TellsFiles told command → LooksAt meaning told command → (line : List ℕ)
-      → IsMissing meaning command told line → ⊥
-  not_missing (check file) tells (decls, has) line m = sound_missing (check file) tells (decls, has)
-      (sound_of meaning told (check file) (named file) refl decls has (λ t f stands. stands)) line m
-  not_missing (plan file) tells (decls, has) line m = sound_missing (plan file) tells (decls, has)
-      (sound_of meaning told (plan file) (named file) refl decls has (λ t f stands. stands)) line m
+  not_missing : (command : Command) → TellsFiles told (inputs_of command) → LooksAt meaning told command → (line : List ℕ)
+      → IsMissing meaning (inputs_of command) told line → ⊥
+  not_missing (check file) tells (decls, has) line m = none_missing (check file) tells (decls, has)
+      (sound_of meaning told (check file) (named file) refl decls has) line m
+  not_missing (plan file) tells (decls, has) line m = none_missing (plan file) tells (decls, has)
+      (sound_of meaning told (plan file) (named file) refl decls has) line m
   not_missing (format file) tells (decls, has) line m =
-      sound_missing (format file) tells (decls, has) (format_sound meaning told file decls has) line m
+      none_missing (format file) tells (decls, has) (format_sound meaning told file decls has) line m
   not_missing help tells there line m = none m.lost
     where
-      none : (⊥ × IsLost told m.name PROGRAM_FILE_LIMIT) ⊎ (⊥ ⊎ ⊥) → ⊥
-      none (inl (reads, lost)) = reads
-      none (inr (inl late)) = late
-      none (inr (inr late)) = late
+      none : IsProgramLost (inputs_of help) told m.name
+          ⊎ (AreItemsLost meaning (inputs_of help) told m.name ⊎ IsJournalLost meaning (inputs_of help) told m.name) → ⊥
+      none (inl l) = let e = l.reads in absurd cc
+      none (inr (inl l)) = let e = l.reads in absurd cc
+      none (inr (inr l)) = let e = l.reads in absurd cc
   not_missing other tells there line m = absurd there
 
 -- they have no verdict

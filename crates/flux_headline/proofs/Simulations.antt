@@ -4,17 +4,17 @@ use Rattle.flux_values.specs.Meanings.{LibraryMeaning}
 use Rattle.flux_cli.specs.Forms.{Simulating}
 use Rattle.flux_cli.specs.Commands.{simulate}
 use Rattle.flux_outside.specs.Streams.{Gains, WroteOrBroke}
-use Rattle.flux_commands.specs.declared.files.TheConstants.{PROGRAM_FILE_LIMIT, ITEMS_FILE_LIMIT}
 use Rattle.flux_commands.specs.declared.statuses.Status.{Status}
 use Rattle.flux_commands.specs.declared.statuses.Status.TheVariants as statuses
-use Rattle.flux_commands.specs.Told.{IsLost, Told}
+use Rattle.flux_commands.specs.Told.{Told}
 use Rattle.flux_driver.specs.Seen.{Seen}
 use Rattle.flux_commands.specs.Origins.{named}
 use Rattle.flux_commands.specs.Documents.{TellsAll}
-use Rattle.flux_commands.specs.Causes.{IsStatic, IsItemsText, AreItemsLost, IsMissing}
+use Rattle.flux_commands.specs.Commands.{inputs_of}
+use Rattle.flux_commands.specs.Causes.{IsStatic, IsItemsText, IsMissing}
 use Rattle.flux_commands.specs.Answers.{Libraries, Decided, Happened, OrMemory}
 use Rattle.flux_headline.specs.Simulations.{HasSimulated, SimulationsAreTrue, CanBeSimulated, SimulationsAreAnswered}
-use Rattle.flux_commands.proofs.Once.{not_lost, gives_here, not_faulty, fault_here}
+use Rattle.flux_commands.proofs.Once.{gives_here, not_faulty, fault_here, sound_of, sound_missing, items_there}
 use Rattle.flux_headline.proofs.Answering.{silent, gained, answered_of, of_done, done_or_no, not_read, not_write, answered_by}
 
 has_simulated : (library : Libraries) (before after : Seen) (file items : List ℕ) (simulating : Simulating)
@@ -49,28 +49,19 @@ module _ (library : Libraries) (told : Told) (file items : List ℕ) (simulating
 
   not_static : (line : List ℕ) → IsStatic meaning (simulate file items simulating) told.files line → ⊥
   not_static line s = let has = there.has in
-      not_faulty meaning told.files (named file) tells.files s.text s.fault has.decls has.program_
+      not_faulty meaning told.files (named file) tells.files.program s.text s.fault has.decls has.program_
       (gives_here meaning told.files (named file) s.program s.text s.reads s.gives) s.stands
 
-  not_missing : (line : List ℕ) → IsMissing meaning (simulate file items simulating) told.files line → ⊥
-  not_missing line m = one m.lost
-    where
-      one : ((named m.name ≡ named file) × IsLost told.files m.name PROGRAM_FILE_LIMIT)
-          ⊎ (AreItemsLost meaning (simulate file items simulating) told.files m.name ⊎ ⊥) → ⊥
-      one (inl (same, lost)) =
-          let own : m.name ≡ file = cc in
-          let has = there.has in
-          let program = has.program_ in
-          let source = program.has in
-          not_lost told.files file PROGRAM_FILE_LIMIT source.text tells.files source.gives
-          (subst (λ (n : List ℕ). IsLost told.files n PROGRAM_FILE_LIMIT) own lost)
-      one (inr (inl late)) = let has = there.has in
-          not_lost told.files items ITEMS_FILE_LIMIT has.text tells.files has.gives late.lost
-      one (inr (inr none)) = none
+  not_missing : (line : List ℕ) → IsMissing meaning (inputs_of (simulate file items simulating)) told.files line → ⊥
+  not_missing line m = let has = there.has in
+      sound_missing meaning told.files (simulate file items simulating) tells.files line
+      (sound_of meaning told.files (simulate file items simulating) (named file) refl has.decls has.program_)
+      (λ name l. items_there told.files (inputs_of (simulate file items simulating)) tells.files meaning (named items) has.text name refl has.gives l)
+      (λ name l. let e = l.reads in absurd cc) m
 
   not_items : (line : List ℕ) → IsItemsText meaning told.files (named file) (named items) line → ⊥
   not_items line is = there.faultless is.fault
-      (fault_here meaning told.files (named file) tells.files (named items) tells.files there.has line is)
+      (fault_here meaning told.files (named file) tells.files.program (named items) tells.files.items there.has line is)
 
 -- a simulation has no verdict
 no_verdict : (library : Libraries) (told : Told) (file items : List ℕ) (simulating : Simulating) (status : Status)

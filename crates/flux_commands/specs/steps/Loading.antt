@@ -1,5 +1,5 @@
 -- Steps of a command: its program and its items.
-use Rattle.std.specs.Prelude.{◌≡◌, ◌⊎◌, ℕ, List, ◌++◌, ⊤}
+use Rattle.std.specs.Prelude.{◌≡◌, ◌⊎◌, ℕ, List, [], ◌∷◌, ◌++◌, ⊤}
 use Rattle.flux_values.specs.Meanings.{LibraryMeaning}
 use Rattle.flux_model.specs.Kinds.{kinds_at}
 use Rattle.flux_hoist.specs.declared.checked.Checked.{Checked}
@@ -16,9 +16,8 @@ use Rattle.flux_commands.specs.declared.refusals.Refusal.TheVariants.{Usage, Sta
 use Rattle.flux_commands.specs.Told.{Files, Gives, IsLost}
 use Rattle.flux_commands.specs.Origins.{Origin, named, GivesText, TellsText}
 use Rattle.flux_commands.specs.Items.{rules_of}
-use Rattle.flux_commands.specs.Inputs.{HasProgram}
+use Rattle.flux_commands.specs.Inputs.{HasProgram, HasSound}
 use Rattle.flux_commands.specs.Causes.{item_fault_line, IsItemsText}
-use Rattle.flux_commands.specs.Asked.{AreTwoFiles}
 use Rattle.flux_commands.specs.steps.Refusals.{IsFaultLine}
 use Rattle.flux_commands.specs.steps.Preparing.{AreRead}
 
@@ -60,7 +59,7 @@ IsUnchecked meaning told file (Items fault) = ⊥
 IsUnchecked meaning told file NotServed = ⊥
 
 -- a file is lost: the program's, or that of the items after a sound program
-pub record IsProgramLost (told : Files) (program : Origin) (name : List ℕ) : Type 0 where
+pub record IsProgramAway (told : Files) (program : Origin) (name : List ℕ) : Type 0 where
   pub is : program ≡ named name
   pub lost : IsLost told name PROGRAM_FILE_LIMIT
 
@@ -81,7 +80,7 @@ IsUnloaded meaning told program items (Static line) = IsFaulted meaning told pro
 IsUnloaded meaning told program items (Items fault) =
     IsItemsText meaning told program items (item_fault_line fault) × ReadsWell meaning told program
 IsUnloaded meaning told program items (Missing name) =
-    (IsProgramLost told program name.now ⊎ AreItemsMissed meaning told program items name.now)
+    (IsProgramAway told program name.now ⊎ AreItemsMissed meaning told program items name.now)
     × ReadsWell meaning told program
 IsUnloaded meaning told program items Read =
     (name : List ℕ) × (program ≡ named name)
@@ -94,4 +93,5 @@ pub record AsksTwo (meaning : LibraryMeaning) (told : Files) (file items : List 
     (before after : List (List ℕ)) : Type 0 where
   pub names : List (List ℕ)
   pub more : after ≡ before ++ names
-  pub are : AreTwoFiles meaning told file items names
+  pub are : (names ≡ file ∷ [])
+      ⊎ ((names ≡ file ∷ items ∷ []) × HasSound meaning told (named file))

@@ -1,14 +1,13 @@
 -- Steps of a command: what is prepared before anything is written.
-use Rattle.std.specs.Prelude.{◌≡◌, ℕ, ◌⊎◌, List, [], ◌++◌, ⊤, Option}
+use Rattle.std.specs.Prelude.{◌≡◌, ℕ, ◌⊎◌, List, [], ◌++◌, ⊤, Option, IfSome}
 use Rattle.flux_values.specs.Meanings.{LibraryMeaning}
 use Rattle.flux_model.specs.Names.{IsNamed}
 use Rattle.flux_items.specs.Rules.{AreRules}
 use Rattle.flux_syntax.specs.declared.declarations.Decl.{Decl}
 use Rattle.flux_syntax.specs.ProgramOfText.{program_of}
-use Rattle.flux_load.specs.Loads.{program_text}
 use Rattle.flux_cli.specs.declared.values.Runtime.{Runtime}
 use Rattle.flux_cli.specs.declared.values.JournalFormat.{JournalFormat}
-use Rattle.flux_cli.specs.Commands.{Command, run, audit, load, simulate, swarm}
+use Rattle.flux_cli.specs.Commands.{Command, run, simulate}
 use Rattle.flux_commands.specs.declared.refusals.Refusal.{Refusal}
 use Rattle.flux_commands.specs.declared.refusals.Refusal.TheVariants.{Memory}
 use Rattle.flux_commands.specs.declared.statuses.Status.{Status}
@@ -16,8 +15,8 @@ use Rattle.flux_commands.specs.declared.statuses.Status.TheVariants as statuses
 use Rattle.flux_commands.specs.declared.prepared.Prepared.{Prepared}
 use Rattle.flux_commands.specs.declared.prepared.Prepared.TheVariants as prepared_
 use Rattle.flux_commands.specs.Told.{Files, Told}
-use Rattle.flux_commands.specs.Origins.{Origin, named, made}
-use Rattle.flux_commands.specs.Commands.{TellsFiles}
+use Rattle.flux_commands.specs.Origins.{Origin}
+use Rattle.flux_commands.specs.Commands.{Inputs, TellsFiles}
 use Rattle.flux_commands.specs.Inputs.{HasProgram}
 use Rattle.flux_commands.specs.Items.{rules_in}
 use Rattle.flux_commands.specs.Printed.{IsPrinted, IsRefuted}
@@ -48,12 +47,12 @@ IsPrepared meaning command told (prepared_.No text) = IsRefuted meaning command 
 
 -- ---- after the documents
 
--- the store was asked for the files of a command
-pub record AsksFiles (meaning : LibraryMeaning) (command : Command) (told : Files)
+-- the store was asked for files
+pub record AsksFiles (meaning : LibraryMeaning) (inputs : Inputs) (told : Files)
     (before after : List (List ℕ)) : Type 0 where
   pub names : List (List ℕ)
   pub more : after ≡ before ++ names
-  pub are : AreFiles meaning command told names
+  pub are : AreFiles meaning inputs told names
 
 -- the program's names are names, and its items are read by rules
 pub record AreRead (meaning : LibraryMeaning) (told : Files) (program : Origin) : Type 0 where
@@ -70,28 +69,24 @@ StandsOnItems statuses.Items = ⊤
 StandsOnItems statuses.Missing = ⊤
 StandsOnItems other = ⊥
 
-abbrev pub ReadsItems : LibraryMeaning → Command → Files → Type 0
-ReadsItems meaning (run file items options) told = AreRead meaning told (named file)
-ReadsItems meaning (audit file items journal docs) told = AreRead meaning told (named file)
-ReadsItems meaning (load count first runtime) told = AreRead meaning told (made program_text)
-ReadsItems meaning (simulate file items simulating) told = AreRead meaning told (named file)
-ReadsItems meaning (swarm file items journal hash docs) told = AreRead meaning told (named file)
-ReadsItems meaning other told = ⊤
+abbrev pub ReadsItems : LibraryMeaning → Inputs → Files → Type 0
+ReadsItems meaning inputs told =
+    IfSome inputs.program (λ program. IfSome inputs.items (λ _. AreRead meaning told program))
 
-abbrev pub IsFirm : LibraryMeaning → Command → Files → Status → Type 0
-IsFirm meaning command told status =
-    TellsFiles told command → StandsOnItems status → ReadsItems meaning command told
+abbrev pub IsFirm : LibraryMeaning → Inputs → Files → Status → Type 0
+IsFirm meaning inputs told status =
+    TellsFiles told inputs → StandsOnItems status → ReadsItems meaning inputs told
 
 -- ---- with the documents
 
--- folder and store were asked for what a command reads
-pub record AsksAll (library : Libraries) (command : Command) (told : Told) (status : Status)
+-- folder and store were asked for what is read
+pub record AsksAll (library : Libraries) (inputs : Inputs) (told : Told) (status : Status)
     (folder folder_after store store_after : List (List ℕ)) : Type 0 where
   pub dirs : List (List ℕ)
   pub names : List (List ℕ)
   pub folder_ : folder_after ≡ folder ++ dirs
   pub store_ : store_after ≡ store ++ names
-  pub are : AsksFor library command told status dirs names
+  pub are : AsksFor library inputs told status dirs names
 
 -- a command was refused: that is decided, or reading failed, or there was no memory
 abbrev pub IsRefusedAll : Libraries → Command → Told → Refusal → Type 0

@@ -12,7 +12,7 @@ use Rattle.flux_commands.specs.declared.refusals.Refusal.{Refusal}
 use Rattle.flux_commands.specs.declared.refusals.Refusal.TheVariants.{Usage, Static, Items, Read, Missing, NotServed, Memory}
 use Rattle.flux_commands.specs.Told.{Files, IsLost}
 use Rattle.flux_commands.specs.Origins.{named}
-use Rattle.flux_commands.specs.Commands.{ReadsProgram}
+use Rattle.flux_commands.specs.Commands.{Inputs, inputs_of, ReadsProgram}
 use Rattle.flux_commands.specs.Causes.{fault_text, IsStatic, IsItems, IsMissing, IsUnserved}
 use Rattle.flux_commands.specs.Refusals.{status_of, line_of}
 
@@ -74,19 +74,19 @@ IsCheckRefused meaning text = SaysOrMemory (IsFaultLine (IsTextFault meaning tex
 -- a command was refused for this: a fault of a text, or a file that isn't there
 abbrev pub IsJudged : LibraryMeaning → Command → Files → Status → List ℕ → Type 0
 IsJudged meaning command told statuses.Static line = IsStatic meaning command told line
-IsJudged meaning command told statuses.Items line = IsItems meaning command told line
-IsJudged meaning command told statuses.Missing line = IsMissing meaning command told line
+IsJudged meaning command told statuses.Items line = IsItems meaning (inputs_of command) told line
+IsJudged meaning command told statuses.Missing line = IsMissing meaning (inputs_of command) told line
 IsJudged meaning command told statuses.NotServed line = IsUnserved meaning command told line
 IsJudged meaning command told other line = ⊥
 
 -- reading failed
-pub record FailsToRead (command : Command) (refusal : Refusal) : Type 0 where
+pub record FailsToRead (inputs : Inputs) (refusal : Refusal) : Type 0 where
   pub file : List ℕ
-  pub reads : ReadsProgram command (named file)
+  pub reads : ReadsProgram inputs (named file)
   pub is : refusal ≡ Read
 
 -- a command was refused: that is decided, or reading failed, or there was no memory
 abbrev pub IsRefused : LibraryMeaning → Command → Files → Refusal → Type 0
 IsRefused meaning command told refusal =
     IsJudged meaning command told (status_of refusal) (line_of refusal)
-    ⊎ (FailsToRead command refusal ⊎ (refusal ≡ Memory))
+    ⊎ (FailsToRead (inputs_of command) refusal ⊎ (refusal ≡ Memory))

@@ -4,13 +4,13 @@ use Rattle.flux_cli.specs.Asking.{asked}
 use Rattle.flux_commands.specs.declared.refusals.Refusal.TheVariants as refusals
 use Rattle.flux_commands.specs.BuiltIn.{built_in, docs_in}
 use Rattle.flux_commands.specs.Told.{Told}
-use Rattle.flux_commands.specs.Commands.{folder_of}
 use Rattle.flux_commands.specs.Documents.{AreDocs}
 use Rattle.flux_commands.specs.Asked.{IsStopped}
 use Rattle.flux_commands.specs.steps.Preparing.{IsRefusedAll}
 use Rattle.flux_commands.specs.Due.{AnswersDue}
 use Rattle.flux_commands.specs.Prepared.{prepared_status}
 use Rattle.flux_commands.proofs.Passed.{passed, passed_status}
+use Rattle.flux_commands.proofs.Steps.{folder_of}
 use Rattle.flux_commands.proofs.Documented.{asks_with, asks_stopped, unread_stops, refused_unread, prepares_with, result_refused, due_unread, due_prepared}
 use Rattle.flux_commands.proofs.asking.prepare_asked.Goals as goal
 

@@ -3,15 +3,14 @@ use Rattle.std.proofs.Common.{sym, subst}
 use Rattle.flux_commands.specs.declared.refusals.Refusal.TheVariants as refusals
 use Rattle.flux_commands.specs.BuiltIn.{BuiltInLibrary, built_in, docs_in}
 use Rattle.flux_commands.specs.Told.{Told}
-use Rattle.flux_commands.specs.Commands.{folder_of}
 use Rattle.flux_commands.specs.Documents.{AreDocs}
 use Rattle.flux_commands.specs.Asked.{IsStopped}
 use Rattle.flux_commands.specs.steps.Preparing.{IsRefusedAll}
 use Rattle.flux_commands.specs.Due.{AnswersDue}
 use Rattle.flux_commands.specs.Prepared.{prepared_status}
 use Rattle.flux_commands.specs.Ready.{command_of, as_text, IsReady}
-use Rattle.flux_commands.proofs.Steps.{if_ok, if_err}
 use Rattle.flux_commands.proofs.Passed.{passed}
+use Rattle.flux_commands.proofs.Steps.{folder_of, if_ok, if_err}
 use Rattle.flux_commands.proofs.Documented.{asks_with, asks_stopped, unread_stops, refused_unread, refused_with, due_unread}
 use Rattle.flux_commands.specs.Origins.{named}
 use Rattle.flux_commands.proofs.Readied.{passed_text, if_ok_both, has_servable, due_ready}
