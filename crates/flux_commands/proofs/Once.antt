@@ -325,7 +325,7 @@ module _ (meaning : LibraryMeaning) (told : Files) where
         → ((name : List ℕ) → AreItemsLost meaning (inputs_of command) told name → ⊥) → ((name : List ℕ) → IsJournalLost meaning (inputs_of command) told name → ⊥) → IsMissing meaning (inputs_of command) told line → ⊥
     sound_missing line sound items journal m = elim m.lost [
       | inl lost ↦ sound_lost m.name sound lost
-      | inr late ↦ elim late [ | inl l ↦ items m.name l | inr l ↦ journal m.name l ]
+      | inr late ↦ elim late [ inl l ↦ items m.name l | inr l ↦ journal m.name l ]
     ]
 
     -- ---- what rests on items: one thing alone
