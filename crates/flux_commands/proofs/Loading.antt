@@ -1,5 +1,5 @@
 -- What the steps of a command give, after its documents, is what it and its files decide.
-use Rattle.std.proofs.Common.{◌≡◌, ◌<◌, ◌⊎◌, ℕ, zero, suc, inl, inr, List, [], ◌∷◌, ◌++◌, length, Option, Some, Result, Ok, Err, IfErr, refl, sym, ap, subst, ◌∙◌, append_assoc, arith}
+use Rattle.std.proofs.Common.{◌≡◌, ◌<◌, ◌⊎◌, ℕ, zero, suc, inl, inr, List, [], ◌∷◌, ◌++◌, length, Option, Some, None, Result, Ok, Err, IfErr, refl, sym, ap, subst, ◌∙◌, append_assoc, arith}
 use Rattle.std.specs.Prelude.{IsSomeAnd}
 use Rattle.std.specs.List.{AllByRecursion, slice_get}
 use Rattle.std.proofs.lemmas.List.{append-nil}
@@ -276,6 +276,9 @@ asks_second meaning told file items before mid after first second decls program_
   more = asks_more before mid after file items first second;
   are = inr (refl, (decls, program_));
 }
+
+pub asks_program : (meaning : LibraryMeaning) (told : Files) (docs : Option (List ℕ)) (file : List ℕ) (before after : List (List ℕ)) → after ≡ before ++ file ∷ [] → AsksFiles meaning (in_files docs file None None) told before after
+asks_program meaning told docs file before after first = record { names = file ∷ []; more = first; are = inl refl }
 
 pub asks_two : (meaning : LibraryMeaning) (told : Files) (docs : Option (List ℕ)) (file items : List ℕ) (journal : Option (List ℕ)) (before after : List (List ℕ)) → AsksTwo meaning told file items before after
     → AsksFiles meaning (in_files docs file (Some items) journal) told before after

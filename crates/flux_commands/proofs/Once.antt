@@ -291,8 +291,8 @@ module _ (meaning : LibraryMeaning) (told : Files) where
       one None is sound = absurd sound
 
   module _ (command : Command) (tells : TellsFiles told (inputs_of command)) where
-    same_program : (a b : Origin) → ReadsProgram (inputs_of command) a → ReadsProgram (inputs_of command) b → ◌≡◌ {A = Option Origin} (Some b) (Some a)
-    same_program a b x y = sym y ∙ x
+    same_program : (a b : Origin) → ReadsProgram (inputs_of command) a → ReadsProgram (inputs_of command) b → ◌≡◌ {A = Option Origin} (Some a) (Some b)
+    same_program a b x y = sym x ∙ y
 
     -- a sound program has no fault
     pub sound_static : (line : List ℕ) → IsSoundOf command → IsStatic meaning command told line → ⊥

@@ -7,6 +7,7 @@ use Rattle.flux_commands.specs.declared.statuses.Status.TheVariants as statuses
 use Rattle.flux_commands.specs.declared.prepared.Prepared.{Prepared}
 use Rattle.flux_commands.specs.declared.refusals.Refusal.{Refusal}
 use Rattle.flux_commands.specs.Told.{Told}
+use Rattle.flux_commands.specs.Commands.{inputs_of}
 use Rattle.flux_commands.specs.Answers.{Libraries, IsAnswer}
 use Rattle.flux_commands.specs.Asked.{HasAsked}
 use Rattle.flux_commands.specs.Refusals.{status_of, line_of}
@@ -15,7 +16,7 @@ use Rattle.flux_commands.specs.Due.{AnswersDue, AnswersWords}
 
 module _ (library : Libraries) (words : List (List ℕ)) (told : Told) where
   pub words_asked : (command : Command) (status : Status) (folder folder_after store store_after : List (List ℕ)) → Spells words command
-      → AsksAll library command told status folder folder_after store store_after → HasAsked library words told status folder folder_after store store_after
+      → AsksAll library (inputs_of command) told status folder folder_after store store_after → HasAsked library words told status folder folder_after store store_after
   words_asked command status folder folder_after store store_after spelled asks = record {
     dirs = asks.dirs;
     names = asks.names;

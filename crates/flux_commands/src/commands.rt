@@ -40,6 +40,7 @@ const HELP: &[u8] =
     b"flux check FILE\nflux plan FILE\nflux format FILE\nflux run FILE ITEMS [--runtime R] [--docs DIR] [--journal J]\nflux audit FILE ITEMS JOURNAL [--docs DIR]\nflux load N K [--runtime R]\nflux serve FILE --port P [--docs DIR] [--batches B] [--runtime R] [--at-once W]\nflux help or --help\nflux simulate FILE ITEMS --processors N [--costs LIST] [--docs DIR]\nflux swarm FILE ITEMS JOURNAL HASH [--docs DIR]\n";
 
 /// The report that `check` prints.
+#[tactic(auto, using(crate::proofs::Loading::asks_program))]
 fn prepare_check<'a, L: Library, S: Store>(
     alloc: Global,
     library: &L,
@@ -64,6 +65,7 @@ fn prepare_check<'a, L: Library, S: Store>(
 }
 
 /// The plan that `plan` prints.
+#[tactic(auto, using(crate::proofs::Loading::asks_program))]
 fn prepare_plan<'a, L: Library, S: Store>(
     alloc: Global,
     library: &L,
@@ -87,6 +89,7 @@ fn prepare_plan<'a, L: Library, S: Store>(
 }
 
 /// The text that `format` prints.
+#[tactic(auto, using(crate::proofs::Loading::asks_program))]
 fn prepare_format<'a, S: Store>(
     alloc: Global,
     store: &mut S,

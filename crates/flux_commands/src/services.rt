@@ -91,6 +91,7 @@ fn read_service<'a>(alloc: Global, words: &'a [Bytes]) -> Result<Service<'a>, Re
 }
 
 /// The program of the file, ready to be served with a library.
+#[tactic(auto, using(crate::proofs::Loading::asks_program))]
 fn prepare<'a, L: Library, S: Store>(
     alloc: Global,
     library: Arc<L>,

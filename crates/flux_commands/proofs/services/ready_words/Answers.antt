@@ -4,6 +4,7 @@ use Rattle.flux_commands.specs.declared.statuses.Status.TheVariants as statuses
 use Rattle.flux_commands.specs.declared.refusals.Refusal.{Refusal}
 use Rattle.flux_commands.specs.BuiltIn.{built_in}
 use Rattle.flux_commands.specs.Told.{Told}
+use Rattle.flux_commands.specs.Commands.{inputs_of}
 use Rattle.flux_commands.specs.Answers.{IsAnswer}
 use Rattle.flux_commands.specs.Refusals.{status_of, line_of}
 use Rattle.flux_commands.specs.steps.Preparing.{AsksAll}
@@ -49,7 +50,7 @@ returns-in_err-ready-clause-asked g c =
     let names = g.S.Store.asked c.args.store.now in
     let names_after = g.S.Store.asked c.make_ready.new.store in
     words_asked built_in c.args.words.now told command (prepared_status (as_text c.from_residual-in_err-ready.result)) dirs dirs_after names names_after c.in_ok-service.ensures.found
-    (passed_text (λ (s : Status). AsksAll built_in command told s dirs dirs_after names names_after) c.in_err-ready.field-0.0 c.from_residual-in_err-ready.result c.from_residual-in_err-ready.ensures.1 c.in_err-ready.ensures.asked)
+    (passed_text (λ (s : Status). AsksAll built_in (inputs_of command) told s dirs dirs_after names names_after) c.in_err-ready.field-0.0 c.from_residual-in_err-ready.result c.from_residual-in_err-ready.ensures.1 c.in_err-ready.ensures.asked)
 
 pub returns-in_err-ready-clause-refused : goal.returns-in_err-ready-clause-refused
 returns-in_err-ready-clause-refused g c =
