@@ -69,22 +69,17 @@ unread_stops folders None refusal unread = absurd unread
 unread_stops folders (Some dir) (refusals.Missing name) unread = refl
 unread_stops folders (Some dir) refusals.Read unread = refl
 unread_stops folders (Some dir) refusals.Memory unread = tt
-unread_stops folders (Some dir) refusals.Usage unread = absurd unread
-unread_stops folders (Some dir) refusals.NotServed unread = absurd unread
-unread_stops folders (Some dir) (refusals.Static line) unread = absurd unread
-unread_stops folders (Some dir) (refusals.Items fault) unread = absurd unread
+unread_stops folders (Some dir) other unread = absurd unread
 
 -- ---- refusals
 
 module _ (library : Libraries) (command : Command) (told : Told) where
   pub refused_with : (docs : DocMap) (refusal : Refusal) → AreDocs told.folders (folder_of command) docs → IsRefused (library docs) command told.files refusal → IsRefusedAll library command told refusal
-  refused_with docs (refusals.Static line) are (inl judged) = inl (record { docs = docs; are = are; says = judged }, refl)
-  refused_with docs (refusals.Items fault) are (inl judged) = inl (record { docs = docs; are = are; says = judged }, refl)
   refused_with docs (refusals.Missing name) are (inl judged) = inl (inr (record { docs = docs; are = are; says = judged }), refl)
   refused_with docs refusals.Usage are (inl judged) = absurd judged
-  refused_with docs refusals.NotServed are (inl judged) = inl (record { docs = docs; are = are; says = judged }, refl)
   refused_with docs refusals.Read are (inl judged) = absurd judged
   refused_with docs refusals.Memory are (inl judged) = absurd judged
+  refused_with docs other are (inl judged) = inl (record { docs = docs; are = are; says = judged }, refl)
   refused_with docs refusal are (inr (inl fails)) = subst (IsRefusedAll library command told) (sym fails.is) (inr (inl ((fails.file, fails.reads), refl, refl)))
   refused_with docs refusal are (inr (inr short)) = inr (inr short)
 
@@ -107,14 +102,10 @@ module _ (library : Libraries) (command : Command) (told : Told) where
   refused_unread (refusals.Missing name) unread = inl (inl (record { name = name.now; lost = lost_missing (folder_of command) name unread; said = refl }), refl)
   refused_unread refusals.Read unread = inr (inl (reads_program command unread, refl, refl))
   refused_unread refusals.Memory unread = inr (inr refl)
-  refused_unread refusals.Usage unread = absurd (none_unread (folder_of command) refusals.Usage (λ x. x) unread)
-  refused_unread refusals.NotServed unread = absurd (none_unread (folder_of command) refusals.NotServed (λ x. x) unread)
-  refused_unread (refusals.Static line) unread = absurd (none_unread (folder_of command) (refusals.Static line) (λ x. x) unread)
-  refused_unread (refusals.Items fault) unread = absurd (none_unread (folder_of command) (refusals.Items fault) (λ x. x) unread)
+  refused_unread other unread = absurd (none_unread (folder_of command) other (λ x. x) unread)
 
   one_with : (docs : DocMap) (prepared : Prepared) → AreDocs told.folders (folder_of command) docs → IsPrepared (library docs) command told.files prepared → PreparesAll library command told prepared
-  one_with docs (Text text) are prepared = record { docs = docs; are = are; says = prepared }
-  one_with docs (No text) are prepared = record { docs = docs; are = are; says = prepared }
+  one_with docs other are prepared = record { docs = docs; are = are; says = prepared }
 
   pub prepares_with : (docs : DocMap) (result : Result Prepared Refusal) → AreDocs told.folders (folder_of command) docs → IfOk result (IsPrepared (library docs) command told.files) → IfOk result (PreparesAll library command told)
   prepares_with docs (Ok own) are prepared = one_with docs own are prepared
@@ -128,12 +119,7 @@ module _ (library : Libraries) (command : Command) (told : Told) where
 
 both_store : (refusal : Refusal) (s t f g : ℕ) → g ≡ f → CountsRefusal refusal s t → CountsBothRefusal refusal s t f g
 both_store refusals.Read s t f g same counts = inl counts
-both_store refusals.Usage s t f g same counts = record { store_ = counts; folder_ = same }
-both_store refusals.NotServed s t f g same counts = record { store_ = counts; folder_ = same }
-both_store (refusals.Static line) s t f g same counts = record { store_ = counts; folder_ = same }
-both_store (refusals.Items fault) s t f g same counts = record { store_ = counts; folder_ = same }
-both_store (refusals.Missing name) s t f g same counts = record { store_ = counts; folder_ = same }
-both_store refusals.Memory s t f g same counts = record { store_ = counts; folder_ = same }
+both_store other s t f g same counts = record { store_ = counts; folder_ = same }
 
 pub counts_store : (result : Result Prepared Refusal) (s t f g : ℕ) → g ≡ f → Counts result s t → CountsBoth result s t f g
 counts_store (Ok prepared) s t f g same counts = record { store_ = counts; folder_ = same }
@@ -141,12 +127,7 @@ counts_store (Err refusal) s t f g same counts = both_store refusal s t f g same
 
 pub counts_folder : (refusal : Refusal) (s f g : ℕ) → CountsRefusal refusal f g → CountsBothRefusal refusal s s f g
 counts_folder refusals.Read s f g counts = inr counts
-counts_folder refusals.Usage s f g counts = record { store_ = refl; folder_ = counts }
-counts_folder refusals.NotServed s f g counts = record { store_ = refl; folder_ = counts }
-counts_folder (refusals.Static line) s f g counts = record { store_ = refl; folder_ = counts }
-counts_folder (refusals.Items fault) s f g counts = record { store_ = refl; folder_ = counts }
-counts_folder (refusals.Missing name) s f g counts = record { store_ = refl; folder_ = counts }
-counts_folder refusals.Memory s f g counts = record { store_ = refl; folder_ = counts }
+counts_folder other s f g counts = record { store_ = refl; folder_ = counts }
 
 -- ---- what is due
 
@@ -168,12 +149,8 @@ module _ (library : Libraries) (command : Command) (files : Files) (folders : Fo
   seen statuses.Items text line d = let w = d.0 in inl (w.docs, w.are, inr (inr (inr (inl (refl, w.says)))))
   seen statuses.Missing text line (inl lost, none) = inr (refl, lost)
   seen statuses.Missing text line (inr w, none) = inl (w.docs, w.are, inr (inr (inr (inr (inl (refl, w.says))))))
-  seen statuses.Usage text line d = absurd d
-  seen statuses.Read text line d = absurd d
-  seen statuses.Write text line d = absurd d
-  seen statuses.Door text line d = absurd d
   seen statuses.NotServed text line d = let w = d.0 in inl (w.docs, w.are, inr (inr (inr (inr (inr (refl, w.says))))))
-  seen statuses.Memory text line d = absurd d
+  seen other text line d = absurd d
 
   pub due_with : (docs : DocMap) (status : Status) (text line : List ℕ) → AreDocs folders (folder_of command) docs → View (library docs) command files status text line
       → IsFirm (library docs) (inputs_of command) files status → AnswersDue library command told status
@@ -202,10 +179,8 @@ module _ (library : Libraries) (command : Command) (files : Files) (folders : Fo
   due_refused docs (refusals.Static line) are (inl judged) firm = due_with docs statuses.Static [] line are (inr (inr (inl (refl, judged)))) firm
   due_refused docs (refusals.Items fault) are (inl judged) firm = due_with docs statuses.Items [] (line_of (refusals.Items fault)) are (inr (inr (inr (inl (refl, judged))))) firm
   due_refused docs (refusals.Missing name) are (inl judged) firm = due_with docs statuses.Missing [] (lost_line name.now) are (inr (inr (inr (inr (inl (refl, judged)))))) firm
-  due_refused docs refusals.Usage are (inl judged) firm = absurd judged
   due_refused docs refusals.NotServed are (inl judged) firm = due_with docs statuses.NotServed [] not_served_line are (inr (inr (inr (inr (inr (refl, judged)))))) firm
-  due_refused docs refusals.Read are (inl judged) firm = absurd judged
-  due_refused docs refusals.Memory are (inl judged) firm = absurd judged
+  due_refused docs other are (inl judged) firm = absurd judged
   due_refused docs refusal are (inr (inl fails)) firm = λ tells due u m d. inr (inl (ap status_of fails.is))
   due_refused docs refusal are (inr (inr short)) firm = λ tells due u m d. inr (inr (ap status_of short))
 
@@ -213,10 +188,7 @@ module _ (library : Libraries) (command : Command) (files : Files) (folders : Fo
   due_unread (refusals.Missing name) unread = due_lost name.now (lost_missing library command told (folder_of command) name unread)
   due_unread refusals.Read unread = λ tells due u m d. inr (inl refl)
   due_unread refusals.Memory unread = λ tells due u m d. inr (inr refl)
-  due_unread refusals.Usage unread = absurd (none_unread library command told (folder_of command) refusals.Usage (λ x. x) unread)
-  due_unread refusals.NotServed unread = absurd (none_unread library command told (folder_of command) refusals.NotServed (λ x. x) unread)
-  due_unread (refusals.Static line) unread = absurd (none_unread library command told (folder_of command) (refusals.Static line) (λ x. x) unread)
-  due_unread (refusals.Items fault) unread = absurd (none_unread library command told (folder_of command) (refusals.Items fault) (λ x. x) unread)
+  due_unread other unread = absurd (none_unread library command told (folder_of command) other (λ x. x) unread)
 
   due_one : (docs : DocMap) (prepared : Prepared) → AreDocs folders (folder_of command) docs → IsPrepared (library docs) command files prepared → IsFirm (library docs) (inputs_of command) files (status_with prepared) → AnswersDue library command told (status_with prepared)
   due_one docs (Text text) are prepared firm = due_with docs statuses.Done text [] are (inl (refl, prepared)) firm

@@ -83,11 +83,7 @@ use Rattle.flux_commands.proofs.Once.{decls_is, rules_same, program_there}
 pub counts_says : (Says : List ℕ → Type 0) (refusal : Refusal) (before after : ℕ) → SaysOrMemory Says refusal → after ≡ before → CountsRefusal refusal before after
 counts_says Says (refusals.Static line) before after says same = same
 counts_says Says refusals.Memory before after says same = same
-counts_says Says refusals.Usage before after says same = absurd says
-counts_says Says refusals.NotServed before after says same = absurd says
-counts_says Says (refusals.Items fault) before after says same = absurd says
-counts_says Says refusals.Read before after says same = absurd says
-counts_says Says (refusals.Missing name) before after says same = absurd says
+counts_says Says other before after says same = absurd says
 
 pub counts_text : {T : Type 0} (Says : List ℕ → Type 0) (result : Result T Refusal) (before after : ℕ) → IfErr result (SaysOrMemory Says) → after ≡ before → Counts result before after
 counts_text Says (Ok x) before after says same = same
@@ -97,11 +93,7 @@ counts_text Says (Err refusal) before after says same = counts_says Says refusal
 pub counts_items : (rules : ItemRules) (text : List ℕ) (refusal : Refusal) (before after : ℕ) → AreRefused rules text refusal → after ≡ before → CountsRefusal refusal before after
 counts_items rules text (refusals.Items fault) before after are same = same
 counts_items rules text refusals.Memory before after are same = same
-counts_items rules text refusals.Usage before after are same = absurd are
-counts_items rules text refusals.NotServed before after are same = absurd are
-counts_items rules text (refusals.Static line) before after are same = absurd are
-counts_items rules text refusals.Read before after are same = absurd are
-counts_items rules text (refusals.Missing name) before after are same = absurd are
+counts_items rules text other before after are same = absurd are
 
 pub counts_from : (refusal : Refusal) (before mid after : ℕ) → mid ≡ before → CountsRefusal refusal mid after → CountsRefusal refusal before after
 counts_from refusal before mid after same counts = subst (λ (n : ℕ). CountsRefusal refusal n after) same counts
@@ -121,10 +113,7 @@ module _ (meaning : LibraryMeaning) (told : Files) where
       })
   unread_program command file reads refusals.Read u = inr (inl (record { file = file; reads = reads; is = refl }))
   unread_program command file reads refusals.Memory u = inr (inr refl)
-  unread_program command file reads refusals.Usage u = absurd u
-  unread_program command file reads refusals.NotServed u = absurd u
-  unread_program command file reads (refusals.Static line) u = absurd u
-  unread_program command file reads (refusals.Items fault) u = absurd u
+  unread_program command file reads other u = absurd u
 
   -- ---- texts that were refused
 
@@ -133,11 +122,7 @@ module _ (meaning : LibraryMeaning) (told : Files) where
   says_refused command program text Stands reads gives of (refusals.Static line) says =
       inl (record { program = program; reads = reads; text = text; gives = gives; fault = says.fault; stands = of says.fault says.stands; said = says.said })
   says_refused command program text Stands reads gives of refusals.Memory says = inr (inr refl)
-  says_refused command program text Stands reads gives of refusals.Usage says = absurd says
-  says_refused command program text Stands reads gives of refusals.NotServed says = absurd says
-  says_refused command program text Stands reads gives of (refusals.Items fault) says = absurd says
-  says_refused command program text Stands reads gives of refusals.Read says = absurd says
-  says_refused command program text Stands reads gives of (refusals.Missing name) says = absurd says
+  says_refused command program text Stands reads gives of other says = absurd says
 
   pub format_refused : (file text : List ℕ) (refusal : Refusal) → Gives told file PROGRAM_FILE_LIMIT (Found text) → IsTextRefused text refusal → IsRefused meaning (format file) told refusal
   format_refused file text refusal gives says = says_refused (format file) (named file) text (λ fault. IsFaulty fault.kind fault.at text × (fault.path ≡ [])) refl gives (λ fault stands. stands) refusal says
@@ -146,22 +131,17 @@ module _ (meaning : LibraryMeaning) (told : Files) where
 
 module _ (meaning : LibraryMeaning) (told : Files) (file : List ℕ) where
   pub unread_file : (refusal : Refusal) → IsUnread told file PROGRAM_FILE_LIMIT refusal → IsUnchecked meaning told file refusal
-  unread_file (refusals.Missing lost) u = u
   unread_file refusals.Read u = tt
   unread_file refusals.Memory u = tt
-  unread_file refusals.Usage u = u
-  unread_file refusals.NotServed u = u
   unread_file (refusals.Static line) u = absurd u
-  unread_file (refusals.Items fault) u = u
+  unread_file other u = u
 
   pub faulty_file : (text : List ℕ) → Gives told file PROGRAM_FILE_LIMIT (Found text) → (refusal : Refusal) → IsCheckRefused meaning text refusal → IsUnchecked meaning told file refusal
   faulty_file text gives (refusals.Static line) says = record { text = text; gives = gives; fault = says }
   faulty_file text gives refusals.Memory says = tt
-  faulty_file text gives refusals.Usage says = says
-  faulty_file text gives refusals.NotServed says = says
-  faulty_file text gives (refusals.Items fault) says = says
   faulty_file text gives refusals.Read says = absurd says
   faulty_file text gives (refusals.Missing name) says = absurd says
+  faulty_file text gives other says = says
 
   pub file_refused : (command : Command) → ReadsProgram (inputs_of command) (named file) → ((text : List ℕ) (fault : StaticFault) → IsTextFault meaning text fault → IsStaticOf meaning command text fault)
       → (refusal : Refusal) → IsUnchecked meaning told file refusal → IsRefused meaning command told refusal
@@ -170,9 +150,7 @@ module _ (meaning : LibraryMeaning) (told : Files) (file : List ℕ) where
   file_refused command reads static (refusals.Missing lost) u = unread_program meaning told command file reads (refusals.Missing lost) u
   file_refused command reads static refusals.Read u = unread_program meaning told command file reads refusals.Read tt
   file_refused command reads static refusals.Memory u = inr (inr refl)
-  file_refused command reads static refusals.Usage u = absurd u
-  file_refused command reads static refusals.NotServed u = absurd u
-  file_refused command reads static (refusals.Items fault) u = absurd u
+  file_refused command reads static other u = absurd u
 
 -- ---- programs and items that weren't loaded
 
@@ -195,18 +173,13 @@ module _ (meaning : LibraryMeaning) (told : Files) (program items : Origin) wher
   program_unchecked file is (refusals.Static line) u = subst (λ (p : Origin). IsFaulted meaning told p line) (sym is) u
   program_unchecked file is refusals.Read u = (file, is)
   program_unchecked file is refusals.Memory u = tt
-  program_unchecked file is refusals.Usage u = u
-  program_unchecked file is refusals.NotServed u = u
   program_unchecked file is (refusals.Items fault) u = absurd u
+  program_unchecked file is other u = u
 
   pub program_faulty : (text : List ℕ) (refusal : Refusal) → GivesText told program PROGRAM_FILE_LIMIT text → IsCheckRefused meaning text refusal → IsUnloaded meaning told program items refusal
   program_faulty text (refusals.Static line) gives says = record { text = text; gives = gives; fault = says }
   program_faulty text refusals.Memory gives says = tt
-  program_faulty text refusals.Usage gives says = says
-  program_faulty text refusals.NotServed gives says = says
-  program_faulty text (refusals.Items fault) gives says = absurd says
-  program_faulty text refusals.Read gives says = absurd says
-  program_faulty text (refusals.Missing name) gives says = absurd says
+  program_faulty text other gives says = absurd says
 
 -- ---- why nothing was loaded is why a command was refused
 
@@ -235,28 +208,18 @@ module _ (meaning : LibraryMeaning) (told : Files) where
       }))
   unloaded command program items reads reads_items static refusals.Read (name, is) = inr (inl (record { file = name; reads = subst (ReadsProgram (inputs_of command)) is reads; is = refl }))
   unloaded command program items reads reads_items static refusals.Memory u = inr (inr refl)
-  unloaded command program items reads reads_items static refusals.Usage u = absurd u
-  unloaded command program items reads reads_items static refusals.NotServed u = absurd u
+  unloaded command program items reads reads_items static other u = absurd u
 
   -- where a refusal rests on items, these are read by rules
   pub unloaded_reads : (program items : Origin) (refusal : Refusal) → IsUnloaded meaning told program items refusal → TellsText told program → StandsOnItems (status_of refusal) → AreRead meaning told program
   unloaded_reads program items (refusals.Items fault) u tells stands = u.1 tells
   unloaded_reads program items (refusals.Missing name) u tells stands = u.1 tells
-  unloaded_reads program items (refusals.Static line) u tells stands = absurd stands
-  unloaded_reads program items refusals.Read u tells stands = absurd stands
-  unloaded_reads program items refusals.Memory u tells stands = absurd stands
-  unloaded_reads program items refusals.Usage u tells stands = absurd stands
-  unloaded_reads program items refusals.NotServed u tells stands = absurd stands
+  unloaded_reads program items other u tells stands = absurd stands
 
 -- texts that a command makes are not read
 pub counts_made : (meaning : LibraryMeaning) (told : Files) (text items : List ℕ) (refusal : Refusal) (faults : ℕ) → IsUnloaded meaning told (made text) (made items) refusal → CountsRefusal refusal faults faults
 counts_made meaning told text items refusals.Read faults (name, is) = absurd cc
-counts_made meaning told text items (refusals.Static line) faults u = refl
-counts_made meaning told text items refusals.Memory faults u = refl
-counts_made meaning told text items refusals.Usage faults u = refl
-counts_made meaning told text items refusals.NotServed faults u = refl
-counts_made meaning told text items (refusals.Items fault) faults u = refl
-counts_made meaning told text items (refusals.Missing name) faults u = refl
+counts_made meaning told text items other faults u = refl
 
 pub asks_none : (meaning : LibraryMeaning) (told : Files) (count first : ℕ) (runtime : Runtime) (before : List (List ℕ)) → AsksFiles meaning (inputs_of (load count first runtime)) told before before
 asks_none meaning told count first runtime before = record { names = []; more = sym (append-nil before); are = inl refl }
@@ -400,10 +363,9 @@ module _ (meaning : LibraryMeaning) (text : List ℕ) (program : Program) (sigs 
         (inr (record { is = is ∙ ap named (sym same); lost = subst (λ (n : List ℕ). IsLost told n ITEMS_FILE_LIMIT) (sym same) gone; decls = decls; program_ = has_program told from gives }), reads_well)
     items_unread items file name read is refusals.Read u = (file, read)
     items_unread items file name read is refusals.Memory u = tt
-    items_unread items file name read is refusals.Usage u = u
-    items_unread items file name read is refusals.NotServed u = u
     items_unread items file name read is (refusals.Static line) u = absurd u
     items_unread items file name read is (refusals.Items fault) u = absurd u
+    items_unread items file name read is other u = u
 
     module _ (items : Origin) (items_text : List ℕ) (more : GivesText told items ITEMS_FILE_LIMIT items_text) where
       abbrev own_items : HasItems meaning told from items
@@ -413,11 +375,7 @@ module _ (meaning : LibraryMeaning) (text : List ℕ) (program : Program) (sigs 
       pub items_faulty : (refusal : Refusal) → AreRefused rules items_text refusal → IsUnloaded meaning told from items refusal
       items_faulty (refusals.Items fault) r = (record { has = own_items; fault = fault; stands = subst (λ (r : ItemRules). IsFaultOf r fault items_text) own_rules r; said = refl }, reads_well)
       items_faulty refusals.Memory r = tt
-      items_faulty refusals.Usage r = r
-      items_faulty refusals.NotServed r = r
-      items_faulty (refusals.Static line) r = absurd r
-      items_faulty refusals.Read r = absurd r
-      items_faulty (refusals.Missing name) r = absurd r
+      items_faulty other r = absurd r
 
       -- they are the items of the text
       pub given_items : (its : List Item) → AreItemsOf rules its items_text → GivesItems meaning told from items
@@ -504,7 +462,4 @@ journal_unread meaning told command file journal reads is given (refusals.Missin
 })
 journal_unread meaning told command file journal reads is given refusals.Read u = inr (inl (record { file = file; reads = reads; is = refl }))
 journal_unread meaning told command file journal reads is given refusals.Memory u = inr (inr refl)
-journal_unread meaning told command file journal reads is given refusals.Usage u = absurd u
-journal_unread meaning told command file journal reads is given refusals.NotServed u = absurd u
-journal_unread meaning told command file journal reads is given (refusals.Static line) u = absurd u
-journal_unread meaning told command file journal reads is given (refusals.Items fault) u = absurd u
+journal_unread meaning told command file journal reads is given other u = absurd u

@@ -2,7 +2,7 @@
 use Rattle.std.specs.Prelude.{◌≡◌, ℕ, ◌⊎◌, Result, Ok, Err}
 use Rattle.flux_outside.specs.Causes.{Rose}
 use Rattle.flux_commands.specs.declared.refusals.Refusal.{Refusal}
-use Rattle.flux_commands.specs.declared.refusals.Refusal.TheVariants.{Usage, Static, Items, Read, Missing, NotServed, Memory}
+use Rattle.flux_commands.specs.declared.refusals.Refusal.TheVariants.{Read}
 use Rattle.flux_commands.specs.declared.prepared.Prepared.{Prepared}
 
 -- two counts are as before
@@ -13,12 +13,7 @@ pub record AreSteady (store store_after folder folder_after : ℕ) : Type 0 wher
 -- one of two counts rose where reading failed, and both are as before in every other answer
 abbrev pub CountsBothRefusal : Refusal → ℕ → ℕ → ℕ → ℕ → Type 0
 CountsBothRefusal Read s t f g = Rose s t ⊎ Rose f g
-CountsBothRefusal Usage s t f g = AreSteady s t f g
-CountsBothRefusal (Static line) s t f g = AreSteady s t f g
-CountsBothRefusal (Items fault) s t f g = AreSteady s t f g
-CountsBothRefusal (Missing name) s t f g = AreSteady s t f g
-CountsBothRefusal NotServed s t f g = AreSteady s t f g
-CountsBothRefusal Memory s t f g = AreSteady s t f g
+CountsBothRefusal other s t f g = AreSteady s t f g
 
 -- so they do after what was prepared, or refused
 abbrev pub CountsBoth : Result Prepared Refusal → ℕ → ℕ → ℕ → ℕ → Type 0

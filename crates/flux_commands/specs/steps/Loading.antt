@@ -12,7 +12,7 @@ use Rattle.flux_check.specs.Checked.{IsChecked}
 use Rattle.flux_commands.specs.declared.files.TheConstants.{PROGRAM_FILE_LIMIT, ITEMS_FILE_LIMIT}
 use Rattle.flux_commands.specs.declared.loaded.Loaded.{Loaded}
 use Rattle.flux_commands.specs.declared.refusals.Refusal.{Refusal}
-use Rattle.flux_commands.specs.declared.refusals.Refusal.TheVariants.{Usage, Static, Items, Read, Missing, NotServed, Memory}
+use Rattle.flux_commands.specs.declared.refusals.Refusal.TheVariants.{Static, Items, Read, Missing, Memory}
 use Rattle.flux_commands.specs.Told.{Files, Gives, IsLost}
 use Rattle.flux_commands.specs.Origins.{Origin, named, GivesText, TellsText}
 use Rattle.flux_commands.specs.Items.{rules_of}
@@ -54,9 +54,7 @@ IsUnchecked meaning told file (Static line) = IsFaulted meaning told (named file
 IsUnchecked meaning told file (Missing lost) = (lost.now ≡ file) × IsLost told file PROGRAM_FILE_LIMIT
 IsUnchecked meaning told file Read = ⊤
 IsUnchecked meaning told file Memory = ⊤
-IsUnchecked meaning told file Usage = ⊥
-IsUnchecked meaning told file (Items fault) = ⊥
-IsUnchecked meaning told file NotServed = ⊥
+IsUnchecked meaning told file other = ⊥
 
 -- a file is lost: the program's, or that of the items after a sound program
 pub record IsProgramAway (told : Files) (program : Origin) (name : List ℕ) : Type 0 where
@@ -85,8 +83,7 @@ IsUnloaded meaning told program items (Missing name) =
 IsUnloaded meaning told program items Read =
     (name : List ℕ) × (program ≡ named name)
 IsUnloaded meaning told program items Memory = ⊤
-IsUnloaded meaning told program items Usage = ⊥
-IsUnloaded meaning told program items NotServed = ⊥
+IsUnloaded meaning told program items other = ⊥
 
 -- the store was asked for one file, or for both
 pub record AsksTwo (meaning : LibraryMeaning) (told : Files) (file items : List ℕ)

@@ -9,7 +9,7 @@ use Rattle.flux_cli.specs.Commands.{Command}
 use Rattle.flux_commands.specs.declared.statuses.Status.{Status}
 use Rattle.flux_commands.specs.declared.statuses.Status.TheVariants as statuses
 use Rattle.flux_commands.specs.declared.refusals.Refusal.{Refusal}
-use Rattle.flux_commands.specs.declared.refusals.Refusal.TheVariants.{Usage, Static, Items, Read, Missing, NotServed, Memory}
+use Rattle.flux_commands.specs.declared.refusals.Refusal.TheVariants.{Static, Read, Missing, Memory}
 use Rattle.flux_commands.specs.Told.{Files, IsLost}
 use Rattle.flux_commands.specs.Origins.{named}
 use Rattle.flux_commands.specs.Commands.{Inputs, inputs_of, ReadsProgram}
@@ -23,20 +23,12 @@ abbrev pub IsUnread : Files → List ℕ → ℕ → Refusal → Type 0
 IsUnread told name max (Missing lost) = (lost.now ≡ name) × IsLost told name max
 IsUnread told name max Read = ⊤
 IsUnread told name max Memory = ⊤
-IsUnread told name max Usage = ⊥
-IsUnread told name max (Static line) = ⊥
-IsUnread told name max (Items fault) = ⊥
-IsUnread told name max NotServed = ⊥
+IsUnread told name max other = ⊥
 
 -- a count rose where reading failed, and is as before in every other answer
 abbrev pub CountsRefusal : Refusal → ℕ → ℕ → Type 0
 CountsRefusal Read before after = Rose before after
-CountsRefusal Usage before after = after ≡ before
-CountsRefusal (Static line) before after = after ≡ before
-CountsRefusal (Items fault) before after = after ≡ before
-CountsRefusal (Missing name) before after = after ≡ before
-CountsRefusal NotServed before after = after ≡ before
-CountsRefusal Memory before after = after ≡ before
+CountsRefusal other before after = after ≡ before
 
 abbrev pub Counts : {T : Type 0} → Result T Refusal → ℕ → ℕ → Type 0
 Counts (Ok value) before after = after ≡ before
@@ -48,11 +40,7 @@ Counts (Err refusal) before after = CountsRefusal refusal before after
 abbrev pub SaysOrMemory : (List ℕ → Type 0) → Refusal → Type 0
 SaysOrMemory Says (Static line) = Says line
 SaysOrMemory Says Memory = ⊤
-SaysOrMemory Says Usage = ⊥
-SaysOrMemory Says (Items fault) = ⊥
-SaysOrMemory Says Read = ⊥
-SaysOrMemory Says (Missing name) = ⊥
-SaysOrMemory Says NotServed = ⊥
+SaysOrMemory Says other = ⊥
 
 -- the line of a fault of a text
 pub record IsFaultLine (Stands : StaticFault → Type 0) (text line : List ℕ) : Type 0 where

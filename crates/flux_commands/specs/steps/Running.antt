@@ -19,7 +19,7 @@ use Rattle.flux_model.specs.Texts.{source_name}
 use Rattle.flux_items.specs.declared.rules.ItemRules.{ItemRules}
 use Rattle.flux_items.specs.Faults.{IsFaultOf}
 use Rattle.flux_commands.specs.declared.refusals.Refusal.{Refusal}
-use Rattle.flux_commands.specs.declared.refusals.Refusal.TheVariants.{Usage, Static, Items, Read, Missing, NotServed, Memory as NoMemory}
+use Rattle.flux_commands.specs.declared.refusals.Refusal.TheVariants.{Items, Memory as NoMemory}
 use Rattle.flux_commands.specs.declared.running.Wanted.{Wanted}
 use Rattle.flux_runs.specs.Setups.{setup_of}
 use Rattle.flux_runs.specs.Printed.{printed_by}
@@ -50,8 +50,4 @@ pub record IsRun (meaning : LibraryMeaning) (p : Program) (items : List Item) (w
 abbrev pub AreRefused : ItemRules → List ℕ → Refusal → Type 0
 AreRefused rules items_text (Items fault) = IsFaultOf rules fault items_text
 AreRefused rules items_text NoMemory = ⊤
-AreRefused rules items_text Usage = ⊥
-AreRefused rules items_text (Static line) = ⊥
-AreRefused rules items_text Read = ⊥
-AreRefused rules items_text (Missing name) = ⊥
-AreRefused rules items_text NotServed = ⊥
+AreRefused rules items_text other = ⊥
