@@ -105,7 +105,8 @@ module _ (library : Libraries) (command : Command) (told : Told) where
   refused_unread other unread = absurd (none_unread (folder_of command) other (λ x. x) unread)
 
   one_with : (docs : DocMap) (prepared : Prepared) → AreDocs told.folders (folder_of command) docs → IsPrepared (library docs) command told.files prepared → PreparesAll library command told prepared
-  one_with docs other are prepared = record { docs = docs; are = are; says = prepared }
+  one_with docs (Text text) are prepared = record { docs = docs; are = are; says = prepared }
+  one_with docs (No text) are prepared = record { docs = docs; are = are; says = prepared }
 
   pub prepares_with : (docs : DocMap) (result : Result Prepared Refusal) → AreDocs told.folders (folder_of command) docs → IfOk result (IsPrepared (library docs) command told.files) → IfOk result (PreparesAll library command told)
   prepares_with docs (Ok own) are prepared = one_with docs own are prepared
