@@ -1,5 +1,5 @@
 -- What `audit` has done, and why it answers 0 or 8.
-use Rattle.std.proofs.Common.{◌≡◌, ◌⊎◌, inl, inr, ℕ, List, Option, subst}
+use Rattle.std.proofs.Common.{◌≡◌, ◌⊎◌, inl, inr, ℕ, List, Option, refl, subst}
 use Rattle.flux_values.specs.Meanings.{LibraryMeaning}
 use Rattle.flux_cli.specs.Commands.{audit}
 use Rattle.flux_outside.specs.Streams.{Gains, Wrote, Broke, WroteOrBroke}

@@ -1,5 +1,5 @@
 -- What `run` has done, and why it answers 0, from what a call of the program has done.
-use Rattle.std.proofs.Common.{◌≡◌, ◌⊎◌, inl, inr, ℕ, List, subst}
+use Rattle.std.proofs.Common.{◌≡◌, ◌⊎◌, inl, inr, ℕ, List, refl, subst}
 use Rattle.flux_values.specs.Meanings.{LibraryMeaning}
 use Rattle.flux_cli.specs.Forms.{RunOptions}
 use Rattle.flux_cli.specs.Commands.{run}

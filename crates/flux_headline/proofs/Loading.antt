@@ -1,5 +1,5 @@
 -- What `load` has done, and why it answers 0.
-use Rattle.std.proofs.Common.{◌≡◌, ◌⊎◌, inl, inr, ℕ, List}
+use Rattle.std.proofs.Common.{◌≡◌, ◌⊎◌, inl, inr, ℕ, List, refl}
 use Rattle.flux_values.specs.Meanings.{LibraryMeaning}
 use Rattle.flux_load.specs.Loads.{program_text, items_text}
 use Rattle.flux_cli.specs.declared.values.Runtime.{Runtime}

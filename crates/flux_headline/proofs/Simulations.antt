@@ -1,5 +1,5 @@
 -- What `simulate` has done, and why it answers 0.
-use Rattle.std.proofs.Common.{◌≡◌, ◌⊎◌, inl, inr, ℕ, List, subst}
+use Rattle.std.proofs.Common.{◌≡◌, ◌⊎◌, inl, inr, ℕ, List, refl, subst}
 use Rattle.flux_values.specs.Meanings.{LibraryMeaning}
 use Rattle.flux_cli.specs.Forms.{Simulating}
 use Rattle.flux_cli.specs.Commands.{simulate}
