@@ -78,6 +78,7 @@ pub record IsItemsText (meaning : LibraryMeaning) (told : Files) (program items 
   pub stands : let own = has.program_ in IsFaultOf (rules_in meaning has.decls own.sound) fault has.text
   pub said : line ≡ item_fault_line fault
 
+-- the items that are read have one
 abbrev pub IsItems : LibraryMeaning → Inputs → Files → List ℕ → Type 0
 IsItems meaning inputs told line =
     WithItems inputs (λ program items. IsItemsText meaning told program items line)
@@ -103,6 +104,7 @@ pub record IsJournalLost (meaning : LibraryMeaning) (inputs : Inputs) (told : Fi
   pub lost : IsLost told name JOURNAL_FILE_LIMIT
   pub given : WithItems inputs (GivesItems meaning told)
 
+-- one of these
 pub record IsMissing (meaning : LibraryMeaning) (inputs : Inputs) (told : Files) (line : List ℕ)
     : Type 0 where
   pub name : List ℕ

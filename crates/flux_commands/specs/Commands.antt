@@ -17,6 +17,7 @@ abbrev pub in_files : Option (List ℕ) → List ℕ → Option (List ℕ) → O
 in_files docs file items journal = let from = option_map named items in
     record { docs = docs; program = Some (named file); items = from; journal = journal }
 
+-- what each command reads
 abbrev pub inputs_of : Command → Inputs
 inputs_of (check file) = in_files None file None None
 inputs_of (plan file) = in_files None file None None

@@ -26,6 +26,7 @@ pub record HasProgram (meaning : LibraryMeaning) (told : Files) (program : Origi
   pub has : HasDecls told program decls
   pub sound : AreSound meaning decls
 
+-- a sound program is there
 abbrev pub HasSound : LibraryMeaning → Files → Origin → Type 0
 HasSound meaning told program = (decls : List Decl) × HasProgram meaning told program decls
 
