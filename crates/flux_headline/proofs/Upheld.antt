@@ -274,7 +274,7 @@ module _ (before after : Seen) (file items : List ℕ) (options : RunOptions) (r
 
   audited : (let their = start.told in IsAudited (built_in (let there = ran.there in there.docs)) their.files (named file) (named items) journal (Yes (count_of ran)))
   audited = let own = before.told in let their = start.told in let there = ran.there in
-      run_texts_are_upheld there.docs own.files their.files file items journal (text_of ran) options.runtime options.journal run-text tells.files kept
+      run_texts_are_upheld there.docs own.files their.files file items journal (text_of ran) options.runtime options.journal run-text tells.files.program kept
 
   some-files : (told : Files) (name bytes : List ℕ) → HoldsFile told name bytes → IsSome told
   some-files None name bytes holds = absurd holds
@@ -282,7 +282,8 @@ module _ (before after : Seen) (file items : List ℕ) (options : RunOptions) (r
 
   tells-later : TellsAll start.told (audit file items journal options.docs)
   tells-later = let own = before.told in let their = start.told in record {
-    files = some-files their.files journal (text_of ran) kept.journal_;
+    files = let some = some-files their.files journal (text_of ran) kept.journal_ in
+        record { program = some; items = some; journal = some };
     docs = subst (λ (told : Folders). TellsDocs told options.docs) (sym folders) tells.docs;
   }
 
@@ -302,12 +303,12 @@ module _ (before after : Seen) (file items : List ℕ) (options : RunOptions) (r
         let given = found.given in
         let has_found = given.has in
         let program_found = has_found.program_ in
-        let text = text_is their.files (named journal) JOURNAL_FILE_LIMIT found.text (text_of ran) tells_.files found.gives (gives-held their.files journal (text_of ran) JOURNAL_FILE_LIMIT kept.journal_ kept.short) in
+        let text = text_is their.files (named journal) JOURNAL_FILE_LIMIT found.text (text_of ran) tells_.files.program found.gives (gives-held their.files journal (text_of ran) JOURNAL_FILE_LIMIT kept.journal_ kept.short) in
         let decls_same : has_found.decls ≡ there.decls =
-        decls_is their.files (named file) has_found.decls there.decls tells_.files program_found.has
+        decls_is their.files (named file) has_found.decls there.decls tells_.files.program program_found.has
         (record {
           text = there.text;
-          gives = gives-held their.files file there.text PROGRAM_FILE_LIMIT (kept.program_ there.text (held-given (let b = before.told in b.files) file there.text PROGRAM_FILE_LIMIT tells.files there.in_file)) (let g = there.in_file in g.fits);
+          gives = gives-held their.files file there.text PROGRAM_FILE_LIMIT (kept.program_ there.text (held-given (let b = before.told in b.files) file there.text PROGRAM_FILE_LIMIT tells.files.program there.in_file)) (let g = there.in_file in g.fits);
           declared = there.declared;
         }) in
         let (other, is_true, count) = found.has_verdict in
